@@ -1,13 +1,13 @@
 # What a user and a developer of wire_up call. `run`, `libraries`, `try`, `test`, `quick`, `edits` and
 # `parts` need the kit's `rt` on the path, and python3. `record` needs a C compiler and the headers of
-# PMIx, `record-mpi` also `mpicc`.
+# PMIx, `record-mpi` also `mpicc`; `ranks` needs what `record` needs.
 
 PREFIX ?= /usr/local
 # No program leaves compiled files in the tree.
 export PYTHONDONTWRITEBYTECODE = 1
 
 .PHONY: run libraries parts try test quick lint lint-c edits soak bench figures
-.PHONY: record record-mpi install deb picture
+.PHONY: record record-mpi ranks install deb picture
 
 MPICC ?= mpicc
 CFLAGS ?= -O2 -Wall -Wextra
@@ -116,7 +116,19 @@ record/record-mpi.so: $(RECORD_MPI) record/record.h $(wildcard record/mpi/*.h)
 	$(MPICC) $(SHARED) -Wl,--as-needed -o $@.new $(filter %.c,$^) -ldl
 	@mv $@.new $@
 
-# Puts what `make run` built in place, with manual pages, completions, documents, and the recorders that are built.
+# The process that makes the calls of a rank of a plan, which ./wire_up-run starts.
+ranks: run/wire_up-rank
+
+PMIX_LIBRARIES = $(or $(PMIX_LIBS),$(shell pkg-config --libs pmix 2> /dev/null),-lpmix)
+
+run/wire_up-rank: $(wildcard run/*.c) run/rank.h
+	@test -n "$(PMIX_CFLAGS)" || pkg-config --exists pmix || \
+		{ echo "pkg-config doesn't find PMIx: on Debian the package is libpmix-dev"; exit 1; }
+	$(CC) -std=gnu11 $(CFLAGS) -pthread $(PMIX_INCLUDES) -o $@.new $(filter %.c,$^) $(PMIX_LIBRARIES)
+	@mv $@.new $@
+
+# Puts what `make run` built in place, with manual pages, completions, documents, and the recorders
+# and the ranks that are built.
 PROGRAM ?= wire_up
 install:
 	@python3 packaging/stage.py "$(PROGRAM)" "$(DESTDIR)$(PREFIX)"

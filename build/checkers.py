@@ -24,6 +24,7 @@ PYTHON = (
     *sorted(glob.glob("record/*.py", root_dir=TOP)),
     "wire_up-record",
     "wire_up-report",
+    "wire_up-run",
 )
 # The script that checks C, and how it says what it can't check.
 LINT_C, LEFT_OUT = os.path.join(TOP, "record", "lint"), "left out:"

@@ -68,6 +68,17 @@ if (call.is_noted) {
 """ + TELL_STATUS, """\
 note_received(number, result, told, WAITED);
 """, TOLD),
+    # The request is over when both are; its status is that of the receive.
+    "nonblocking-send-receive": Shape(CALL + """\
+unsigned long number = 0;
+if (call.is_noted) {
+    number = note_receive(&call, (struct envelope){comm, from, in_tag});
+    note_send(&call, (struct envelope){comm, to, out_tag}, count_bytes(count, type));
+}
+""", """\
+if (call.is_noted && result == MPI_SUCCESS)
+    keep_receive(*request, number);
+"""),
     "probe": Shape(CALL + """\
 unsigned long number = call.is_noted ? note_probe(&call, (struct envelope){comm, from, tag}) : 0;
 """ + TELL_STATUS, """\
@@ -166,13 +177,13 @@ struct collective it = begin_collective(&call, "$kind", (uintptr_t)comm);
 SOURCES = {
     "all": '"all"',
     "all-with-data": "name_all(count, type)",
-    "all-with-own-data": "name_all_by_own(&it, counts, type)",
+    "all-with-own-data": "name_all_by_own(&it, COUNTS(counts), type)",
     "all-at-root": "name_all_at_root(&it, root, count, type)",
     "below": "name_below(count, type)",
     "root": "name_root(&room, &it, root, count, type)",
-    "counted": "name_counted(&room, &it, counts, type)",
-    "counted-at-root": "name_counted_at_root(&room, &it, root, counts, type)",
-    "counted-of-types": "name_counted_of_types(&room, &it, counts, types)",
+    "counted": "name_counted(&room, &it, COUNTS(counts), type)",
+    "counted-at-root": "name_counted_at_root(&room, &it, root, COUNTS(counts), type)",
+    "counted-of-types": "name_counted_of_types(&room, &it, COUNTS(counts), types)",
 }
 
 
@@ -210,8 +221,36 @@ COMMUNICATORS = {
     "init": Shape(after="""\
 enter_call("$function", caller);
 """),
+    "finalize": Shape(CALL + """\
+if (call.is_noted)
+    note_objects_past();
+"""),
+    "init-session": Shape(after=CALL + """\
+static void *known_taking;
+MPI_Group world;
+__typeof__(&PMPI_Group_from_session_pset) take = find_function(
+    &known_taking, "PMPI_Group_from_session_pset", &watch_$function, caller);
+if (call.is_noted && result == MPI_SUCCESS && take &&
+    take(*session, "mpi://WORLD", &world) == MPI_SUCCESS)
+    note_session(world);
+"""),
+    "finalize-session": Shape(CALL + """\
+if (call.is_noted) {
+    note_objects_past();
+    leave_session();
+}
+"""),
+    # It has no parent: its processes know it by the tag.
+    "make-from-group": Shape(CALL, """\
+if (call.is_noted)
+    note_of_session(&call, result, made, tag);
+"""),
     "make": Shape(CALL + COUNT_CHILD, """\
 note_child(&parent, result, made);
+"""),
+    "make-later": Shape(CALL + COUNT_CHILD, """\
+if (parent.number && result == MPI_SUCCESS)
+    keep_duplicate(*request, &parent, comm, made);
 """),
     # Each process gets data of every other: it is a collective too.
     "make-gathering": Shape(BEGIN + COUNT_CHILD, """\
@@ -249,6 +288,22 @@ struct collective it = begin_collective(&call, "$kind", handle);
 forget_communicator(handle);
 """, """\
 end_collective(&it, result, "all");
+"""),
+    "start-epoch": Shape(CALL, """\
+keep_epoch(&call, ORIGIN, result, group, window);
+"""),
+    "post-epoch": Shape(CALL, """\
+keep_epoch(&call, TARGET, result, group, window);
+"""),
+    "end-epoch": Shape(CALL + """\
+note_completion(&call, window);
+"""),
+    "wait-epoch": Shape(CALL, """\
+note_awaited(&call, result, window, WAITED);
+"""),
+    "test-epoch": Shape(CALL, """\
+if (result == MPI_SUCCESS && *flag)
+    note_awaited(&call, result, window, POLLED);
 """),
 }
 

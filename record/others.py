@@ -12,7 +12,7 @@ import sys
 from collections.abc import Iterator
 
 from c_header import Function, HeaderError, Parameter, read_functions
-from frame import LIBRARIES, Library, Shape, write_file, write_wrapper
+from frame import LARGE, LIBRARIES, Library, Shape, write_file, write_wrapper
 
 LOCAL = {
     "MPI": (
@@ -32,14 +32,21 @@ LOCAL = {
         r"Initialized|Finalized|Is_thread_main|Query_thread",
         r"Pcontrol|Wtick|Wtime",
         r"Register_datarep|Buffer_attach|Cancel|Test_cancelled|Grequest_\w+",
+        r"Get_hw_resource_info|Aint_(add|diff)|Remove_error_\w+|Abi_\w+",
+        r"Session_(get_\w+|\w+_errhandler|set_info)",
         # It fetches a message that MPI_Mprobe received.
         r"Mrecv",
         # The calls of PMIx that they make are noted.
-        r"Init|Init_thread|Finalize|(Open|Close)_port|(Publish|Unpublish|Lookup)_name",
+        r"(Open|Close)_port|(Publish|Unpublish|Lookup)_name",
     ),
     "PMIx": (
         r"\w+_string",
-        r"(Value|Info|Data|Topology|Cpuset)_\w+",
+        # Objects of the process alone, and what is asked of them.
+        r"(Value|Info|Data|Topology|Cpuset|Argv|Proc|Byte_object|Pdata|App|Regattr|Coord)_\w+",
+        r"(Geometry|Device|Endpoint|Envar|(Disk|Net|Node)_stats|Multicluster_nspace)_\w+",
+        r"(Node_pid|Resource_unit)_\w+|Query_(\w+_)?(construct|destruct|create|free|release)",
+        r"(Load|Check|Xfer)_(key|nspace|procid|rank|reserved_key)|(Nspace|Procid)_invalid",
+        r"Fabric_construct|Setenv|Error_code|generate_\w+|Store_internal",
         r"Get_(version|attribute_\w+|cpuset|relative_locality)",
         r"Initialized|Progress|Load_topology",
         r"Compute_distances\w*",
@@ -76,7 +83,7 @@ def find_names(text: str, prefix: str) -> set[str]:
 
 def is_local(name: str, prefix: str) -> bool:
     """Whether a function waits for nothing that another process does."""
-    short = name.removeprefix(f"{prefix}_")
+    short = name.removeprefix(f"{prefix}_").removesuffix(LARGE)
     return name not in NOT_LOCAL and any(re.fullmatch(it, short) for it in LOCAL[prefix])
 
 
@@ -100,7 +107,7 @@ def write_counted(library: Library, function: Function) -> str:
 def write_others(library: Library, noted: set[str], header: str) -> Iterator[str]:
     """The wrappers of the functions that are counted. Says which can't be passed on."""
     for name, function in read_functions(header, library.prefix).items():
-        if name in noted or is_local(name, library.prefix):
+        if {name, name.removesuffix(LARGE)} & noted or is_local(name, library.prefix):
             continue
         if function.answer != library.answer or function.is_variadic:
             text = f"others.py: {name} can't be passed on: say in LOCAL why it need not be"

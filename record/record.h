@@ -38,14 +38,17 @@ EXPORTED void wire_up_text_close(struct text *to);
 EXPORTED void wire_up_text_add(struct text *to, const char *format, ...)
     __attribute__((format(printf, 2, 3)));
 
+/* Adds a text as one word, with %XX for each byte that a word can't have. */
+EXPORTED void wire_up_text_add_word(struct text *to, const char *word);
+
 /* Whether a record would be written now: this process is a client of PMIx, and its file is open. */
 EXPORTED bool wire_up_is_recording(void);
 
 /* Makes a new number for a call. */
 EXPORTED unsigned long wire_up_number(void);
 
-/* Whose code calls. */
-enum owner { OF_PROGRAM, OF_BINDINGS, OF_MPI, OF_PMIX, OF_SYSTEM, OF_RECORDER };
+/* Whose code calls. Bindings are those of another language to MPI. */
+enum owner { OF_PROGRAM, OF_BINDINGS, OF_TOOL, OF_MPI, OF_PMIX, OF_SYSTEM, OF_RECORDER };
 
 /* A place in code: a return address, and the object that it is in; or a line of Python, and its
  * function. Its number is written once with what it stands for. */
@@ -62,6 +65,9 @@ struct place {
 /* Finds or makes the place of an address; null where memory is refused. */
 EXPORTED struct place *wire_up_place(const void *address);
 
+/* Answers where the object that has an address begins; null where none has it. */
+EXPORTED const void *wire_up_base(const void *address);
+
 /* Finds the line of Python that called, where the place is in mpi4py; else answers the place. */
 EXPORTED struct place *wire_up_in_python(struct place *place);
 
@@ -70,8 +76,20 @@ EXPORTED struct place *wire_up_in_python(struct place *place);
 EXPORTED void wire_up_write(char sign, unsigned long number, struct place *place,
                             const struct text *what);
 
+/* Finds the line in the program that this call comes from, through however many calls of libraries.
+ * Null on a thread that isn't the program's. */
+EXPORTED struct place *wire_up_place_behind(void);
+
+/* Says that the object which has a function is a tool between the program and MPI. */
+EXPORTED void wire_up_add_tool(const void *function);
+
 /* Finds the function of this name after the library that has `not_this`, as the code at `caller`
  * would find it; null where there is none. */
 EXPORTED void *wire_up_find(const char *name, void *caller, const void *not_this);
+
+/* Answers the system's own dlsym: the recorder has one that stands before it. With RTLD_NEXT it
+ * searches behind the code that calls it. */
+typedef void *wire_up_find_symbol(void *object, const char *name);
+EXPORTED wire_up_find_symbol *wire_up_dlsym(void);
 
 #endif

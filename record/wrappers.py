@@ -4,7 +4,8 @@ the library's header.
 Usage: cc -E HEADER.. | python3 record/wrappers.py MPI|PMIx TABLE > WRAPPERS.c
 
 A line of the table has the name of a function, the word for what it is, and the names of its
-arguments. A function that the header doesn't have is left out, and said so.
+arguments. A function of MPI whose counts have more bits, such as MPI_Send_c, has the same line. A
+function that the header doesn't have is left out, and said so, unless its name ends with `?`.
 """
 import sys
 from collections.abc import Iterator, Mapping
@@ -13,9 +14,13 @@ from dataclasses import dataclass
 import mpi_shapes
 import pmix_shapes
 from c_header import Function, HeaderError, read_functions
-from frame import LIBRARIES, Library, Shape, write_file, write_wrapper
+from frame import LARGE, LIBRARIES, Library, Shape, write_file, write_wrapper
 
 SHAPES: Mapping[str, Mapping[str, Shape]] = {"MPI": mpi_shapes.SHAPES, "PMIx": pmix_shapes.SHAPES}
+
+
+# Ends the name of a function that an older header may not have.
+NEW = "?"
 
 
 class TableError(Exception):
@@ -24,10 +29,12 @@ class TableError(Exception):
 
 @dataclass(frozen=True)
 class Row:
-    """A line of the table: its number, from 1, and its words."""
+    """A line of the table: its number, from 1, and its words. An older header may not have a
+    function that `is_new`."""
 
     line: int
     function: str
+    is_new: bool
     shape: str
     arguments: tuple[str, ...]
 
@@ -41,10 +48,11 @@ def read_rows(table: str) -> Iterator[Row]:
             continue
         if len(words) == 1:
             raise TableError(f"line {line}: {words[0]} has no shape")
-        if words[0] in seen:
-            raise TableError(f"line {line}: {words[0]} was there before")
-        seen.add(words[0])
-        yield Row(line, words[0], words[1], tuple(words[2:]))
+        name = words[0].removesuffix(NEW)
+        if name in seen:
+            raise TableError(f"line {line}: {name} was there before")
+        seen.add(name)
+        yield Row(line, name, words[0].endswith(NEW), words[1], tuple(words[2:]))
 
 
 def write_row(library: Library, row: Row, function: Function) -> str:
@@ -52,11 +60,11 @@ def write_row(library: Library, row: Row, function: Function) -> str:
     shape = SHAPES[library.prefix].get(row.shape)
     parameters = function.parameters()
     if not shape:
-        raise TableError(f"line {row.line}: {row.function}: there is no shape '{row.shape}'")
+        raise TableError(f"line {row.line}: {function.name}: there is no shape '{row.shape}'")
     if function.answer != library.answer:
-        raise TableError(f"line {row.line}: {row.function} answers {function.answer}")
+        raise TableError(f"line {row.line}: {function.name} answers {function.answer}")
     if len(parameters) != len(row.arguments):
-        raise TableError(f"line {row.line}: {row.function} has {len(parameters)} arguments")
+        raise TableError(f"line {row.line}: {function.name} has {len(parameters)} arguments")
     named = tuple(it.renamed(name) for it, name in zip(parameters, row.arguments))
     return write_wrapper(library, function, named, shape)
 
@@ -66,9 +74,10 @@ def write_wrappers(library: Library, table: str, header: str) -> str:
     functions = read_functions(header, library.prefix)
     wrappers = []
     for row in read_rows(table):
-        if row.function in functions:
-            wrappers.append(write_row(library, row, functions[row.function]))
-        else:
+        names = (row.function, row.function + LARGE)
+        found = [functions[it] for it in names if it in functions]
+        wrappers += [write_row(library, row, it) for it in found]
+        if not found and not row.is_new:
             print(f"wrappers.py: the header has no {row.function}", file=sys.stderr)
     return write_file(library, "wrappers.py", wrappers)
 

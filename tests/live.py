@@ -13,6 +13,21 @@ from tapes import PATIENCE, PROGRAMS, run_recorder
 
 # Open MPI as root must be told that this is meant.
 ENVIRONMENT = {**os.environ, "OMPI_ALLOW_RUN_AS_ROOT": "1", "OMPI_ALLOW_RUN_AS_ROOT_CONFIRM": "1"}
+# How programs are compiled that aren't one source in C alone. A folder stands for that in which
+# they are put, where a program finds the libraries.
+COMPILED = {
+    "calls": ("cc", "-pthread", "calls.c"),
+    "direct": ("mpicc", "-pthread", "direct.c"),
+    "sessions": ("mpicc", "-pthread", "sessions.c"),
+    "plugin.so": ("mpicc", "-shared", "-fPIC", "plugin.c"),
+    "libprofiler.so": ("mpicc", "-shared", "-fPIC", "profiler.c"),
+    "profiled": ("mpicc", "told.c", "-L{folder}", "-Wl,-rpath,{folder}", "-lprofiler"),
+    "mixed": ("mpifort", "-J{folder}", "mixed.c", "mixed_parts.f90"),
+    "fortran": ("mpifort", "-J{folder}", "fortran.f90"),
+}
+SOURCES = (".c", ".f90")
+# The programs that call PMIx themselves.
+WITH_PMIX = ("calls", "direct", "sessions")
 NEEDED = ("mpicc", "mpirun", "make", "cc", "pkg-config")
 # `mpirun` may mix the lines of two processes where one is long, in about one run of six.
 TRIES = 10
@@ -89,17 +104,16 @@ class LiveTest(unittest.TestCase):
         self.plan, self.answers = (os.path.join(self.room, it) for it in ("plan", "answers"))
 
     def compile(self, name: str) -> str:
-        """Compiles a program, if it isn't yet; answers its path."""
+        """Compiles a program or a library, if it isn't yet; answers its path."""
         path = os.path.join(self.folder.name, name)
-        source = os.path.join(PROGRAMS, f"{name}.c")
         if os.path.exists(path):
             return path
-        words = ["mpicc", "-g", "-o", path, source]
-        if name == "calls":
-            asked = ["pkg-config", "--cflags", "--libs", "pmix"]
-            flags = run_plainly(asked).stdout.split()
-            words = ["cc", "-o", path, source, *flags, "-pthread"]
-        subprocess.run(words, check=True, capture_output=True)
+        compiler, *words = COMPILED.get(name, ("mpicc", f"{name}.c"))
+        words = [it.format(folder=self.folder.name) for it in words]
+        words = [os.path.join(PROGRAMS, it) if it.endswith(SOURCES) else it for it in words]
+        if name in WITH_PMIX:
+            words += run_plainly(["pkg-config", "--cflags", "--libs", "pmix"]).stdout.split()
+        subprocess.run([compiler, "-g", "-o", path, *words], check=True, capture_output=True)
         return path
 
     def record(self, *words: str) -> Ran:

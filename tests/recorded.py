@@ -13,15 +13,38 @@ BOTH_VERDICTS = (
 )
 
 
+IN_PART = "a verdict over this plan holds only in part: "
+NOT_FINALIZED = (
+    "2 processes whose recordings end before PMIx_Finalize: how they went on isn't known\n"
+)
+LAST_LINES = "2 last lines of recordings, which were cut, "
+UNAWAITED = (
+    "1 calls of the program that don't block and ended before others: in the plan it waited for "
+    "them\n"
+)
+PAST_RECORDER = (
+    "2 processes in which plugin.so calls MPI past the recorder: its calls aren't seen\n"
+)
+
+
 @dataclass(frozen=True)
 class Program:
     """A program that was recorded: on how many processes, how many findings its plan has, and how
-    many where MPI's order is left out. `said` is what the recorder says where it runs."""
+    many where MPI's order is left out. `said` is what the recorder says where it runs, and
+    `in_part` why a verdict over its recording holds only in part. `words` are what runs it, if that
+    isn't its name."""
 
     processes: int
     findings: int
     without_mpi: int
     said: str = ""
+    in_part: str = ""
+    words: tuple[str, ...] = ()
+
+    @property
+    def says_in_part(self) -> str:
+        """What the recorder says of its recording, but for the verdicts."""
+        return f"wire_up-record: {self.in_part}" if self.in_part else ""
 
 
 # The small programs of `cases`, by their names.
@@ -34,10 +57,15 @@ CASES = {
     "later": Program(2, 0, 1),
     "split": Program(2, 0, 1),
     "window": Program(2, 0, 2),
+    "duplicate": Program(2, 0, 1),
+    "epoch": Program(2, 0, 1),
+    "tags": Program(2, 0, 0),
     "inter": Program(4, 0, 1),
     "merged": Program(4, 0, 1),
     "jump": Program(2, 0, 1),
-    "limit": Program(2, 0, 0, "no room"),
+    "limit": Program(
+        2, 0, 0, "no room", f"the run was cut off: {IN_PART}{LAST_LINES}{NOT_FINALIZED}"
+    ),
     "many": Program(2, 0, 0),
 }
 # Programs of their own.
@@ -49,9 +77,28 @@ OTHERS = {
     "spawn": Program(2, 0, 0),
     "told": Program(2, 0, 1),
     "mpi4py": Program(3, 0, 3),
-    "sleep": Program(2, 0, 0),
+    "sleep": Program(2, 0, 0, "", f"the run was cut off: {IN_PART}{NOT_FINALIZED}"),
 }
-SHIPPED = {**CASES, **OTHERS}
+# Programs that call MPI in another way than by its plain functions in C: each with its words.
+OTHER_WAYS = {
+    "pmpi": Program(2, 1, 1, words=("unseen", "pmpi")),
+    "barrier": Program(2, 1, 1, words=("unseen", "barrier")),
+    "looked-up": Program(2, 1, 1, words=("unseen", "looked-up")),
+    "plugin": Program(
+        2, 0, 1, IN_PART, f"{IN_PART}{PAST_RECORDER}", ("unseen", "plugin", "plugin.so")
+    ),
+    "mixed": Program(2, 1, 1, words=("mixed", "message")),
+    "mixed-barrier": Program(2, 1, 1, words=("mixed", "barrier")),
+    "fortran": Program(2, 0, 3, words=("fortran",)),
+    "profiled": Program(2, 0, 1, words=("profiled",)),
+    "sessions": Program(2, 0, 2, words=("sessions",)),
+}
+# Those of `direct`.
+DIRECT = {
+    "partial": Program(2, 0, 1),
+    "unwaited": Program(2, 0, 1, IN_PART, f"{IN_PART}{UNAWAITED}"),
+}
+SHIPPED = {**CASES, **DIRECT, **OTHERS, **OTHER_WAYS}
 
 
 def why_other_findings(program: str, plan: str, count: int) -> Optional[str]:

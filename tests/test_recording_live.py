@@ -17,7 +17,16 @@ from collections.abc import Iterator, Mapping, Sequence
 from typing import Optional, Union
 
 from live import ENVIRONMENT, LiveTest, mpirun
-from recorded import CASES, OTHERS, Program, why_other_findings, why_wrong
+from recorded import (
+    CASES,
+    DIRECT,
+    IN_PART,
+    OTHER_WAYS,
+    OTHERS,
+    Program,
+    why_other_findings,
+    why_wrong,
+)
 from tapes import COMMAND, PATIENCE, PROGRAMS, ask_program, read_file, run_recorder, read_scripts
 from wire_up_tools.limits import VERSION_1
 from wire_up_tools.record.calls import Collective, CollectiveEnd, Sources
@@ -27,6 +36,9 @@ from wire_up_tools.record.recordings import read_recordings
 CORES, MEMORY = 4, 8 << 30
 # How long a signal may take to end a program that sleeps, in seconds.
 SOON = 5.5
+
+# The status of a program that needs sessions where MPI has none.
+NO_SESSIONS = 77
 
 # Whose data each of the four processes waits for in the collectives of `messages`.
 ALL, NONE, BELOW = Sources.ALL, Sources.NONE, Sources.BELOW
@@ -167,12 +179,12 @@ class CallsTest(LiveTest):
 
 
 class CasesTest(LiveTest):
-    """The small programs of `cases`."""
+    """The small programs of `cases` and `direct`."""
 
-    def hold(self, name: str, of: Program) -> None:
+    def hold(self, name: str, of: Program, compiled: str = "cases") -> None:
         """Tests one of them."""
         words = ["--checker", self.program or "/dev/null", "--answers", self.answers]
-        ran = self.record(*words, *mpirun(of.processes, self.compile("cases"), name))
+        ran = self.record(*words, *mpirun(of.processes, self.compile(compiled), name))
         self.assertEqual((ran.returncode, ran.stdout), (0, f"{name} done\n"), ran.stderr[:300])
         said = "" if name == "poll" and not self.program else of.said
         self.assertIn(said, ran.stderr)
@@ -185,6 +197,11 @@ class CasesTest(LiveTest):
         for name, of in CASES.items():
             with self.subTest(name):
                 self.hold(name, of)
+
+    def test_direct(self) -> None:
+        for name, of in DIRECT.items():
+            with self.subTest(name):
+                self.hold(name, of, "direct")
 
     def test_where(self) -> None:
         """The calls of a race lead to their lines."""
@@ -220,6 +237,54 @@ class CasesTest(LiveTest):
         self.assertEqual(ran.returncode, 3, ran.stderr[:300])
         if self.program:
             self.assertIsNone(why_other_findings(self.program, self.plan, 0))
+
+
+class OtherWaysTest(LiveTest):
+    """Programs that call MPI in another way than by its plain functions in C."""
+
+    def hold(self, name: str) -> None:
+        """Tests one of them."""
+        of = OTHER_WAYS[name]
+        path, *words = of.words
+        words = [self.compile(it) if it.endswith(".so") else it for it in words]
+        run = mpirun(of.processes, self.compile(path), *words)
+        ran = self.record_alike(run, "--answers", self.answers)
+        self.assertEqual((ran.returncode, ran.stderr), (0, of.says_in_part))
+        if self.program:
+            self.assertIsNone(why_wrong(self.program, self.plan, self.answers, of.findings))
+
+    def test_other_names(self) -> None:
+        self.hold("pmpi")
+        self.hold("barrier")
+
+    def test_functions_that_are_looked_up(self) -> None:
+        self.hold("looked-up")
+
+    def test_a_library_that_calls_past_the_recorder(self) -> None:
+        self.hold("plugin")
+
+    def test_a_tool(self) -> None:
+        """A tool that the program is linked with still counts what the program sends."""
+        self.compile("libprofiler.so")
+        self.hold("profiled")
+
+    def test_sessions(self) -> None:
+        if subprocess.run([self.compile("sessions")], check=False).returncode == NO_SESSIONS:
+            self.skipTest("this MPI has no sessions")
+        self.hold("sessions")
+
+    def test_fortran(self) -> None:
+        """Alone and beside C, and its calls come from its lines."""
+        if not shutil.which("mpifort"):
+            self.skipTest("there is no mpifort")
+        self.hold("mixed")
+        self.hold("mixed-barrier")
+        self.hold("fortran")
+        source = read_file(os.path.join(PROGRAMS, "fortran.f90")).splitlines()
+        line = 1 + next(n for n, text in enumerate(source) if 'Publish_name("old"' in text)
+        number = read_scripts(read_file(self.plan))[0].index("publish old port") + 1
+        found = run_recorder("--where", "app:0", str(number), self.plan).stdout
+        self.assertEqual(found, f"old_way_ (fortran.f90:{line})\n")
 
 
 class MessagesTest(LiveTest):
@@ -282,6 +347,25 @@ class StatusesTest(LiveTest):
             with self.subTest(number.name):
                 self.hand_on(number)
 
+    def test_a_launcher_that_is_killed(self) -> None:
+        """What was recorded by then becomes a plan, which says that the run was cut off."""
+        run = " ".join(mpirun(2, self.compile("cases"), "sleep"))
+        number = os.path.join(self.room, "number")
+        words = ["-o", self.plan, "sh", "-c", f"echo $$ > {number}; exec {run}"]
+        with subprocess.Popen(
+            [sys.executable, COMMAND, *words],
+            stdout=subprocess.DEVNULL,
+            stderr=subprocess.PIPE,
+            text=True,
+            env=ENVIRONMENT,
+        ) as ran:
+            wait_for_recordings(self.room, 2)
+            os.kill(int(read_file(number)), signal.SIGKILL)
+            said = ran.communicate(timeout=PATIENCE)[1]
+        self.assertEqual(ran.returncode, 128 + signal.SIGKILL, said)
+        self.assertIn(f"the run was cut off: {IN_PART}", said)
+        self.assertIn("# The run was cut off", read_file(self.plan))
+
     def hand_on(self, number: signal.Signals) -> None:
         """Tests a signal."""
         run = mpirun(2, self.compile("cases"), "sleep")
@@ -302,6 +386,7 @@ class StatusesTest(LiveTest):
             self.assertNotIn(ran.returncode, (0, 125))
             self.assertEqual(os.listdir(here), ["plan"])
             self.assertIn("the command ended", said)
+            self.assertIn(f"the run was cut off: {IN_PART}", said)
 
 
 class MemoryTest(LiveTest):

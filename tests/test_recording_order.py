@@ -1,4 +1,5 @@
 """Tests the order of lines in a plan: that of fences, of calls that don't block, and of MPI."""
+import time
 import unittest
 from collections.abc import Sequence
 from typing import Optional
@@ -14,12 +15,17 @@ from tapes import (
     write_plan_of,
 )
 from wire_up_tools.record.planning import Choices
+from wire_up_tools.words import MORE_ORDERED
 
 MARK = "publish blocks m=text:x -"
 COLLECTS = "pmix.collect=number:1:1"
 BARRIER = ("collective barrier 1", "0 all")
 # Lines of the messages between ranks 0 and 1, by their number.
 SENT, WAITS = "publish mpi.0.1.{} sent", "lookup-wait mpi.0.1.{}"
+
+# How many messages have tags of their own, and how long their plan may take, in seconds of a
+# processor: some ten times what it takes.
+TAGS, MOST_SECONDS = 20_000, 30
 
 
 class OrderTest(unittest.TestCase):
@@ -54,6 +60,16 @@ class FencesTest(OrderTest):
         scripts = [["fence all collect", "publish m x"], ["fence all collect"]]
         self.become(tapes, scripts, "1 calls made while one")
 
+    def test_a_get_without_a_line_in_a_fence(self) -> None:
+        """What isn't in the plan isn't more ordered there."""
+        tapes = Tape(0), Tape(1)
+        fence = tapes[0].begin(f"fence nb all {COLLECTS}")
+        tapes[0].call("get blocks job:* :pmix.job.size -", "0 number:4:2").end(fence)
+        tapes[1].call(f"fence blocks all {COLLECTS}")
+        plan = write_plan_of(tapes)
+        self.assertIn("1 gets of a wildcard rank", plan)
+        self.assertNotIn(MORE_ORDERED, plan)
+
     def test_a_get_that_does_not_block(self) -> None:
         """It is where it ends."""
         tapes = Tape(0), Tape(1)
@@ -76,6 +92,51 @@ class FencesTest(OrderTest):
         """A fence with a rank that isn't there, which PMIx refused."""
         tapes = Tape(0).call("fence blocks job:0,job:7 -", "-27"), Tape(1)
         self.become(tapes, [[], []], "1 fences with processes that aren't recorded")
+
+
+class GroupsTest(OrderTest):
+    """The making of groups of PMIx, and their ends."""
+
+    MADE, GONE = "group construct :g job:0,job:1 -", "group destruct :g all -"
+    FENCE = "fence app:0,app:1"
+
+    def make_tapes(self, directives: str = "-") -> list[Tape]:
+        """Tapes of three processes, of which two make and end a group."""
+        tapes = [Tape(rank) for rank in range(3)]
+        for tape in tapes[:2]:
+            tape.call(f"{self.MADE[:-1]}{directives}").call(self.GONE)
+        return tapes
+
+    def test_a_group(self) -> None:
+        none: list[str] = []
+        scripts = [[self.FENCE, self.FENCE], [self.FENCE, self.FENCE], none]
+        self.become(self.make_tapes(), scripts, "# PMIx: construct g\nfence")
+        self.become(self.make_tapes("pmix.grp.actxid=number:1:1"), scripts, "# PMIx: destruct g")
+
+    def test_a_group_that_need_not_be_whole(self) -> None:
+        tapes = self.make_tapes("pmix.grp.opt=number:1:1")
+        self.become(tapes, [[], [], []], "4 calls that make or end groups")
+
+    def test_a_group_that_was_refused(self) -> None:
+        tapes = [Tape(0), Tape(1)]
+        for tape in tapes:
+            tape.call(self.MADE, "-27").call(self.GONE, "-46")
+        self.become(tapes, [[], []], "4 calls that make or end groups")
+
+    def test_groups_in_two_orders(self) -> None:
+        """The library matches them by their names."""
+        tapes = [Tape(0), Tape(1)]
+        made = [self.MADE, self.MADE.replace(":g", ":h")]
+        for tape, calls in zip(tapes, (made, made[::-1])):
+            for call in calls:
+                tape.call(call)
+            tape.call("fence blocks all -")
+        self.become(tapes, [["fence all"], ["fence all"]], "4 calls that make or end groups")
+
+    def test_a_group_that_one_did_not_make(self) -> None:
+        tapes = [Tape(0).call(self.MADE).call("fence blocks all -"), Tape(1)]
+        tapes[1].call("fence blocks all -")
+        self.become(tapes, [["fence all"], ["fence all"]], "1 calls that make or end groups")
 
 
 class EndsTest(OrderTest):
@@ -266,6 +327,75 @@ class MessagesTest(OrderTest):
                 self.assertEqual(read_scripts(plan), scripts)
 
 
+class UnseenTest(OrderTest):
+    """Signs that calls of MPI weren't seen."""
+
+    def is_said(self, tapes: Recordings, what: str) -> None:
+        """Tests that the head of a plan says something of tapes; nothing, where it is empty."""
+        titled = f"{MORE_ORDERED}\n#   {what}" if what else ""
+        plan = write_plan_of(tapes)
+        self.assertIn(titled, plan)
+        self.assertEqual(MORE_ORDERED in plan, bool(what))
+
+    def test_a_library_that_calls_past_the_recorder(self) -> None:
+        tapes = make_world(2)
+        tapes[1].say("unseen object /lib/a%20b.so")
+        self.is_said(tapes, "1 processes in which a b.so calls MPI past the recorder")
+        tapes[0].say("unseen call MPI_Send").say("unseen call MPI_Send")
+        self.is_said(tapes, "2 calls of MPI_Send that a library took elsewhere")
+
+    def test_without_mpi(self) -> None:
+        tapes = make_world(1)
+        tapes[0].say("unseen call MPI_Send")
+        self.assertNotIn(MORE_ORDERED, write_plan_of(tapes, Choices(with_mpi=False)))
+
+    def test_messages_that_nothing_got(self) -> None:
+        for tag in (3, 4):
+            tapes = make_world(2)
+            tapes[0].begin("send 1 1 3 4")
+            tapes[0].begin(f"send 1 1 {tag} 4")
+            tapes[1].call("receive 1 0 3", "0 0 3 4")
+            self.is_said(tapes, "1 inboxes in which messages and receives don't fit")
+
+    def test_messages_whose_receive_may_be_there(self) -> None:
+        """It is counted, has no end, or would have come later."""
+        for said in ("other MPI_Mrecv", "other MPI_Isendrecv", ""):
+            tapes = make_world(2)
+            tapes[0].begin("send 1 1 3 4")
+            if said:
+                tapes[1].say(said)
+            else:
+                tapes[1].begin("receive 1 0 3")
+            self.is_said(tapes, "")
+        tapes = make_world(2)
+        tapes[0].begin("send 1 1 3 4")
+        self.is_said([tapes[0].text(), tapes[1].text(is_over=False)], "")
+
+    def test_receives_of_what_was_not_sent(self) -> None:
+        for size, times in ((8, 1), (4, 2)):
+            tapes = make_world(2)
+            tapes[0].begin("send 1 1 3 4")
+            for _ in range(times):
+                tapes[1].call("receive 1 0 3", f"0 0 3 {size}")
+            self.is_said(tapes, "1 inboxes in which messages and receives don't fit")
+
+    def test_sends_that_are_only_counted(self) -> None:
+        """One may have been sent before that which is seen: nothing is matched."""
+        tapes = make_world(2)
+        tapes[0].say("other MPI_Isendrecv").begin("send 1 1 3 4")
+        tapes[1].call("receive 1 0 3", "0 0 3 4")
+        self.become(tapes, [[], []], "1 messages that can't be matched")
+
+    def test_collectives_that_do_not_fit(self) -> None:
+        for name in ("barrier", "bcast"):
+            tapes = make_world(2)
+            tapes[0].call(*BARRIER).call(*BARRIER)
+            tapes[1].call(*BARRIER)
+            if name != "barrier":
+                tapes[1].call(f"collective {name} 1", "0 none")
+            self.is_said(tapes, "1 communicators in which the collectives")
+
+
 class FreeReceivesTest(OrderTest):
     """Receives that may get one of several messages, and probes."""
 
@@ -342,6 +472,20 @@ class ShorteningTest(unittest.TestCase):
         first, second = ["publish m0 x", SENT.format(1)], [WAITS.format(1), "lookup m0"]
         self.assertEqual(read_scripts(plan), [first, second])
         self.assertIn("lines of MPI's order", plan)
+
+    def test_a_tag_for_each_message(self) -> None:
+        """Many messages of any source, each with a tag of its own, take no longer for each."""
+        tapes = make_world(3)
+        for tag in range(TAGS):
+            tapes[1 + tag % 2].begin(f"send 1 0 {tag} 4")
+            tapes[0].call(f"receive 1 any {tag}", f"0 {1 + tag % 2} {tag} 4")
+        tapes[1].call(MARK)
+        tapes[2].call("lookup blocks :m -", "-46 -")
+        texts, before = [it.text() for it in tapes], time.process_time()
+        plan = write_plan_of(texts)
+        self.assertLess(time.process_time() - before, MOST_SECONDS)
+        self.assertEqual(read_scripts(plan), [[], ["publish m x"], ["lookup m"]])
+        self.assertIn(f"{TAGS} lines of MPI's order, since they can't change a finding", plan)
 
     def test_many_gets(self) -> None:
         """Those of what is surely there go, and those alone: not one that waits for something, one

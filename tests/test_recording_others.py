@@ -1,4 +1,4 @@
-"""Tests which functions of a header the recorders count."""
+"""Tests which functions of a header the recorders note, and which they count."""
 import os
 import re
 import subprocess
@@ -15,27 +15,55 @@ extern int MPI_Odd(const int list[][3], MPI_Request *it,  void *f) __attribute__
 extern int MPI_Type_size(MPI_Datatype t, int *size); int MPI_Barrel(void);
 extern double MPI_Wtime(void);
 """
+# Functions that have a line in the table, the first three with counts of more bits.
+LARGE_HEADER = """
+extern int MPI_Send_c(const void *b, MPI_Count n, MPI_Datatype t, int to, int tag, MPI_Comm c);
+extern int MPI_Bcast_c(void *b, MPI_Count n, MPI_Datatype t, int root, MPI_Comm c);
+extern int MPI_Type_size_c(MPI_Datatype t, MPI_Count *size);
+extern int MPI_Put_c(const void *b, MPI_Count n);
+extern int MPI_Bcast(void *b, int n, MPI_Datatype t, int root, MPI_Comm c);
+"""
 
 
 class OthersTest(unittest.TestCase):
     """record/others.py writes the functions that a recorder doesn't have, and that aren't local."""
 
+    def write(self, program: str, header: str, table: str) -> str:
+        """What one of the programs writes for a header."""
+        words = [sys.executable, "-B", os.path.join(TOP, "record", program), "MPI", table]
+        ran = subprocess.run(words, input=header, capture_output=True, text=True, check=False)
+        self.assertEqual(ran.returncode, 0, ran.stderr)
+        return ran.stdout
+
     def test_a_header(self) -> None:
-        script = os.path.join(TOP, "record", "others.py")
         with tempfile.TemporaryDirectory(prefix="wire-up-") as room:
-            source = os.path.join(room, "source.c")
-            write_file(source, b"/* MPI_Odd */ int MPI_Known(int a) {}")
-            words = [sys.executable, "-B", script, "MPI", source]
-            ran = subprocess.run(words, input=HEADER, capture_output=True, text=True, check=False)
-        pattern = r"(?m)^int (\w+)\(|real\((.*)\);|(forget_\w+\(.*\));"
+            table = write_file(
+                os.path.join(room, "source.c"), b"/* MPI_Odd */ int MPI_Known(int a) {}"
+            )
+            wrote = self.write("others.py", HEADER, table)
+        pattern = r"(?m)^int (\w+)\(|result = (?:real|tool)\((.*)\);|(forget_\w+\(.*\));"
         wanted = [
-            ("MPI_Odd", "", ""),
             ("", "list, it, f", ""),
             ("", "", "forget_request(*it)"),
+            ("PMPI_Odd", "", ""),
+            ("MPI_Odd", "", ""),
+            ("", "list, it, f", ""),
+            ("", "", ""),
+            ("PMPI_Barrel", "", ""),
             ("MPI_Barrel", "", ""),
             ("", "", ""),
         ]
-        self.assertEqual(re.findall(pattern, ran.stdout), wanted, ran.stderr)
+        self.assertEqual(re.findall(pattern, wrote), wanted)
+
+    def test_functions_with_large_counts(self) -> None:
+        """They are noted as those with the usual counts."""
+        table = os.path.join(TOP, "record", "mpi.table")
+        noted = self.write("wrappers.py", LARGE_HEADER, table)
+        names = re.findall(r"(?m)^int (MPI_\w+)\(", noted)
+        self.assertEqual(names, ["MPI_Send_c", "MPI_Bcast", "MPI_Bcast_c"])
+        self.assertEqual(noted.count('begin_collective(&call, "bcast"'), 2)
+        counted = self.write("others.py", LARGE_HEADER, table)
+        self.assertEqual(re.findall(r"(?m)^int (MPI_\w+)\(", counted), ["MPI_Put_c"])
 
 
 if __name__ == "__main__":

@@ -2,11 +2,13 @@
 messages did, and as every run does."""
 import random
 import unittest
+import unittest.mock
 from collections.abc import Callable, Iterator, Mapping, Sequence
 from dataclasses import replace
-from typing import NamedTuple, Optional, Union
+from typing import ContextManager, NamedTuple, Optional, Union
 
 from tapes import Scripts, Tape, plan_tapes, read_scripts, write_plan_of, make_world
+from wire_up_tools.limits import VERSION_1
 from wire_up_tools.record.shortening import shorten
 from wire_up_tools.record.writing import write_plan
 
@@ -444,6 +446,12 @@ class Free:
             tape.call(f"{verb} 1 {source} {tag}", f"0 {step.came.source} {step.came.tag} 4")
 
 
+def with_horizon() -> ContextManager[object]:
+    """Looks for a horizon in recordings of any size."""
+    none = replace(VERSION_1, calls=-1)
+    return unittest.mock.patch("wire_up_tools.record.horizon.VERSION_1", none)
+
+
 class RandomRunsTest(unittest.TestCase):
     """Plans of random runs."""
 
@@ -464,6 +472,24 @@ class RandomRunsTest(unittest.TestCase):
                 world = World(seed)
                 plan = plan_tapes(world.tapes)
                 self.hold(world, write_plan(replace(plan, draft=shorten(plan.draft).draft)))
+
+    def test_random_runs_up_to_the_horizon(self) -> None:
+        """What can't matter isn't ordered, and orders no two marks."""
+        for seed in range(RANDOM_PROGRAMS):
+            with self.subTest(seed=seed), with_horizon():
+                world = World(seed)
+                self.hold(world, write_plan_of(world.tapes))
+
+    def test_free_programs_up_to_the_horizon(self) -> None:
+        """So it is where messages could have come otherwise."""
+        for seed in range(FREE_PROGRAMS):
+            world = Free(seed)
+            if not world.is_known or not world.complete:
+                continue
+            tapes = [it.text() for it in world.tapes()]
+            whole = find_marks_before(read_scripts(write_plan_of(tapes)))
+            with self.subTest(seed=seed), with_horizon():
+                self.assertEqual(find_marks_before(read_scripts(write_plan_of(tapes))), whole)
 
     def test_free_programs(self) -> None:
         """The plan of a random program, from whichever of its runs, orders no two marks that

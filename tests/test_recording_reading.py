@@ -4,7 +4,7 @@ import tempfile
 import unittest
 from collections.abc import Mapping, Sequence
 
-from tapes import Tape, run_recorder, make_world, write_file
+from tapes import Tape, run_recorder, make_world, write_file, write_plan_of
 
 FINE = Tape(0).call("put global k text:v").text()
 RANKS = Tape(0).text(), Tape(1).text()
@@ -75,6 +75,14 @@ class RefusedRecordingsTest(unittest.TestCase):
     def test_bytes(self) -> None:
         self.refuse_one(FINE.replace(b"text:v", b"text:\x80"), "line 5 has a byte")
         self.refuse_one(FINE + b"\0\n", "line 8 has a byte")
+
+    def test_zeros_at_the_end(self) -> None:
+        """They follow what a process wrote that was killed, and are no part of it."""
+        zeros = b"\0" * 4096
+        self.assertEqual(write_plan_of([FINE + zeros]), write_plan_of([FINE]))
+        cut = FINE[:-3] + zeros
+        self.assertIn("1 last lines of recordings, which were cut", write_plan_of([cut]))
+        self.refuse_one(zeros, "is empty")
 
     def test_records(self) -> None:
         no_record = "line 5 isn't a record"

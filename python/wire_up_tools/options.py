@@ -7,7 +7,15 @@ from typing import NoReturn, Optional, Union
 from wire_up_tools.failures import Unusable
 
 # What the words are called that options take.
-KINDS = {"FOLDER": "folder", "FILE": "file", "PLAN": "file"}
+KINDS = {
+    "FOLDER": "folder",
+    "FILE": "file",
+    "PLAN": "file",
+    "NAME": "name",
+    "WORDS": "command line",
+    "COUNT": "number",
+    "SECONDS": "number of seconds",
+}
 # What begins as an option and is none: a word, and what ends the options.
 STANDARD_STREAM, END = "-", "--"
 

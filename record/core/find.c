@@ -4,8 +4,7 @@
 
 #include <dlfcn.h>
 
-/* Answers where the object that has an address begins; null where none has it. */
-static const void *find_base(const void *address)
+const void *wire_up_base(const void *address)
 {
     Dl_info it;
     return address && dladdr(address, &it) ? it.dli_fbase : NULL;
@@ -15,7 +14,7 @@ static const void *find_base(const void *address)
 static void *find_in(const char *object, const char *name)
 {
     void *loaded = dlopen(object, RTLD_LAZY | RTLD_NOLOAD);
-    return loaded ? dlsym(loaded, name) : NULL;
+    return loaded ? wire_up_dlsym()(loaded, name) : NULL;
 }
 
 /* Finds a function in the objects that the code at `caller` is linked to. */
@@ -25,7 +24,7 @@ static void *find_for_caller(const char *name, void *caller)
     if (!dladdr(caller, &it) || !it.dli_fname)
         return NULL;
     void *object = dlopen(it.dli_fname, RTLD_LAZY | RTLD_NOLOAD);
-    void *found = object ? dlsym(object, name) : NULL;
+    void *found = object ? wire_up_dlsym()(object, name) : NULL;
     if (object)
         dlclose(object);
     return found;
@@ -33,12 +32,12 @@ static void *find_for_caller(const char *name, void *caller)
 
 void *wire_up_find(const char *name, void *caller, const void *not_this)
 {
-    void *found = dlsym(RTLD_NEXT, name);
-    if (!found) {
+    const void *own = wire_up_base(not_this);
+    void *found = wire_up_dlsym()(RTLD_NEXT, name);
+    if (!found || wire_up_base(found) == own)
         found = find_for_caller(name, caller);
-        if (found && find_base(found) == find_base(not_this))
-            found = NULL;
-    }
+    if (found && wire_up_base(found) == own)
+        found = NULL;
     if (!found)
         found = find_in("libpmix.so.2", name);
     return found ? found : find_in("libpmix.so", name);

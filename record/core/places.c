@@ -25,9 +25,10 @@ static const struct {
 } objects[] = {
     {"libpmix", OF_PMIX},        {"pmix_mca_", OF_PMIX},          {"libmpi_", OF_BINDINGS},
     {"libmpi.", OF_MPI},         {"libmpich", OF_MPI},            {"mca_", OF_MPI},
-    {"libopen-", OF_MPI},        {"libompi", OF_MPI},             {"libc.", OF_SYSTEM},
-    {"libc-", OF_SYSTEM},        {"libpthread", OF_SYSTEM},       {"libevent", OF_SYSTEM},
-    {"ld-linux", OF_SYSTEM},     {"record.so", OF_RECORDER},      {"record-mpi.so", OF_RECORDER},
+    {"libopen-", OF_MPI},        {"libopen_", OF_MPI},            {"libompi", OF_MPI},
+    {"libc.", OF_SYSTEM},        {"libc-", OF_SYSTEM},            {"libpthread", OF_SYSTEM},
+    {"libevent", OF_SYSTEM},     {"ld-linux", OF_SYSTEM},         {"record.so", OF_RECORDER},
+    {"record-mpi.so", OF_RECORDER},
 };
 
 /* Finds whose code an object has, by the path of its file. */
@@ -44,12 +45,36 @@ static enum owner find_object_owner(const char *path)
     return OF_PROGRAM;
 }
 
+/* The tools, by where their objects begin: read and written with the lock of `adding`. */
+#define MOST_TOOLS 8
+static const void *tools[MOST_TOOLS];
+
+static bool is_tool(const void *base)
+{
+    for (size_t n = 0; n < MOST_TOOLS && tools[n]; n++)
+        if (tools[n] == base)
+            return true;
+    return false;
+}
+
+void wire_up_add_tool(const void *function)
+{
+    const void *base = wire_up_base(function);
+    pthread_mutex_lock(&adding);
+    for (size_t n = 0; n < MOST_TOOLS && tools[n] != base; n++)
+        if (!tools[n]) {
+            tools[n] = base;
+            break;
+        }
+    pthread_mutex_unlock(&adding);
+}
+
 /* Says which object a place is in, and how far from its beginning. */
 static void locate(struct place *it, const Dl_info *object)
 {
     const ElfW(Ehdr) *head = object->dli_fbase;
     it->is_mpi4py = strstr(object->dli_fname, "/mpi4py/") != NULL;
-    it->owner = find_object_owner(object->dli_fname);
+    it->owner = is_tool(object->dli_fbase) ? OF_TOOL : find_object_owner(object->dli_fname);
     const char *whole = realpath(object->dli_fname, NULL);
     it->module = whole ? whole : strdup(object->dli_fname);
     if (head->e_type != ET_EXEC)
@@ -116,3 +141,5 @@ _Unwind_Reason_Code keep_frame(struct _Unwind_Context *frame, void *found)
     *(struct place **)found = it;
     return _URC_END_OF_STACK;
 }
+
+struct place *wire_up_place_behind(void) { return find_place_in_program(); }

@@ -1,5 +1,6 @@
-/* The file of a process, and the lines in it. Each line goes out by one `write`, so that nothing is
- * lost when the process dies. */
+/* The file of a process, and the lines in it. A line is put in memory that is the file's, so that
+ * nothing is lost when the process dies: then zeros may follow the last line. Where a file can't be
+ * memory, each line goes out by one `write`. */
 #define _GNU_SOURCE
 #include "core/recording.h"
 #include "core/text.h"
@@ -7,16 +8,21 @@
 #include <errno.h>
 #include <fcntl.h>
 #include <limits.h>
+#include <pthread.h>
 #include <signal.h>
 #include <stdio.h>
 #include <stdlib.h>
 #include <string.h>
+#include <sys/mman.h>
 #include <sys/stat.h>
 #include <time.h>
 #include <unistd.h>
 
 /* The program gets the same descriptors as without a recorder: the file's is this at least. */
 #define LOWEST_DESCRIPTOR 900
+/* How much of the file is memory at first and at most. */
+#define LEAST_WINDOW ((size_t)1 << 16)
+#define MOST_WINDOW ((size_t)1 << 22)
 
 static struct {
     int file;      /* where the records go; -1 before it is opened and after a failed write */
@@ -29,7 +35,20 @@ static struct {
 static unsigned long calls, threads;
 static __thread unsigned long own_thread;
 
-/* --- writing --- */
+/* What has been written, and the part of the file that is memory. A signal handler that calls PMIx
+ * or MPI finds it locked by its own thread, and is told so. */
+static struct {
+    pthread_mutex_t lock;
+    char *window; /* null where there is none */
+    off_t start;  /* of the window, in the file */
+    size_t room;  /* of the window */
+    off_t end;    /* of what is written */
+    off_t size;   /* of the file */
+    size_t wanted;
+    bool has_no_windows;
+} written = {.lock = PTHREAD_ERRORCHECK_MUTEX_INITIALIZER_NP, .wanted = LEAST_WINDOW};
+
+/* --- the file --- */
 
 /* Stops recording, and says why, once: whoever takes the descriptor away says it. */
 static void give_up(const char *why)
@@ -37,6 +56,12 @@ static void give_up(const char *why)
     if (__atomic_exchange_n(&recording.file, -1, __ATOMIC_ACQ_REL) >= 0)
         fprintf(stderr, "wire_up-record: %s: %s; what follows isn't recorded\n", recording.path,
                 why);
+}
+
+static void give_up_for(int error)
+{
+    bool is_full = error == ENOSPC || error == EFBIG || error == EDQUOT;
+    give_up(is_full ? "no room" : strerror(error));
 }
 
 /* Whether a descriptor is still the file that was opened: a program may close descriptors that it
@@ -47,39 +72,144 @@ static bool is_still_open(int file)
     return fstat(file, &it) == 0 && it.st_dev == recording.device && it.st_ino == recording.inode;
 }
 
-/* Writes without the signal that a limit of file sizes brings: the program isn't to see it. */
-static ssize_t write_quietly(int file, const char *bytes, size_t length)
+/* What is done with a file: some bytes are written at its end, or so many are made room for. */
+struct change {
+    const char *bytes;
+    size_t length;
+};
+
+/* Makes a change at an offset. Answers the error, 0 for none. */
+static int change_file(int file, struct change what, off_t at)
+{
+    if (!what.bytes)
+        return posix_fallocate(file, at, (off_t)what.length);
+    ssize_t wrote = pwrite(file, what.bytes, what.length, at);
+    if (wrote < 0)
+        return errno;
+    return (size_t)wrote < what.length ? ENOSPC : 0;
+}
+
+/* Makes a change without the signal that a limit of file sizes brings: the program isn't to see
+ * it. */
+static int change_quietly(int file, struct change what, off_t at)
 {
     sigset_t of_size, before, pending;
     sigemptyset(&of_size);
     sigaddset(&of_size, SIGXFSZ);
     pthread_sigmask(SIG_BLOCK, &of_size, &before);
     sigpending(&pending);
-    ssize_t wrote;
+    int error;
     do
-        wrote = write(file, bytes, length);
-    while (wrote < 0 && errno == EINTR);
-    int error = errno;
-    if (wrote < 0 && error == EFBIG && !sigismember(&pending, SIGXFSZ))
+        error = change_file(file, what, at);
+    while (error == EINTR);
+    if (error == EFBIG && !sigismember(&pending, SIGXFSZ))
         sigtimedwait(&of_size, NULL, &(struct timespec){0, 0});
     pthread_sigmask(SIG_SETMASK, &before, NULL);
-    errno = error;
-    return wrote;
+    return error;
+}
+
+/* --- the window: all with the lock --- */
+
+static void close_window(void)
+{
+    if (written.window)
+        munmap(written.window, written.room);
+    written.window = NULL;
+}
+
+/* Cuts the file behind what is written. */
+static void trim(int file)
+{
+    close_window();
+    if (written.size > written.end && is_still_open(file) && ftruncate(file, written.end) == 0)
+        written.size = written.end;
+}
+
+/* Makes the file as long as that, and maps it from the page of the end of what is written. Answers
+ * the error, 0 for none. */
+static int map_up_to(int file, off_t size)
+{
+    off_t page = (off_t)sysconf(_SC_PAGESIZE);
+    int error = 0;
+    if (size > written.size)
+        error = change_quietly(file, (struct change){NULL, (size_t)(size - written.size)},
+                               written.size);
+    if (error)
+        return error;
+    written.size = size > written.size ? size : written.size;
+    written.start = written.end / page * page;
+    written.room = (size_t)(written.size - written.start);
+    void *at = mmap(NULL, written.room, PROT_READ | PROT_WRITE, MAP_SHARED, file, written.start);
+    if (at == MAP_FAILED)
+        return errno;
+    written.window = at;
+    return 0;
+}
+
+/* Opens a window with room for so many bytes more: a large one, or where there is no room for that,
+ * just what they need. False where there is none; then `error` says why. */
+static bool open_window(int file, size_t length, int *error)
+{
+    close_window();
+    size_t large = length > written.wanted ? length : written.wanted;
+    *error = map_up_to(file, written.end + (off_t)large);
+    if (*error)
+        *error = map_up_to(file, written.end + (off_t)length);
+    if (!*error && written.wanted < MOST_WINDOW)
+        written.wanted *= 2;
+    return !*error;
+}
+
+static bool has_room(size_t length)
+{
+    return written.window && (size_t)(written.end - written.start) + length <= written.room;
+}
+
+/* Writes bytes at the end by a call of the system. Answers the error, 0 for none. */
+static int write_plainly(int file, const char *bytes, size_t length)
+{
+    int error = change_quietly(file, (struct change){bytes, length}, written.end);
+    if (!error)
+        written.end += (off_t)length;
+    if (written.size < written.end)
+        written.size = written.end;
+    return error;
+}
+
+/* Adds bytes at the end. Answers the error, 0 for none. */
+static int add_bytes(int file, const char *bytes, size_t length)
+{
+    int error = 0;
+    if (!has_room(length) && !is_still_open(file))
+        return EBADF;
+    if (!written.has_no_windows && !has_room(length) && !open_window(file, length, &error)) {
+        if (error == ENOSPC || error == EFBIG || error == EDQUOT)
+            return error;
+        written.has_no_windows = true;
+    }
+    if (written.has_no_windows)
+        return write_plainly(file, bytes, length);
+    memcpy(written.window + (written.end - written.start), bytes, length);
+    written.end += (off_t)length;
+    return 0;
 }
 
 /* Writes all bytes, or gives up. */
 static bool write_whole(int file, const char *bytes, size_t length)
 {
-    if (!is_still_open(file)) {
-        give_up("the program closed it");
+    if (pthread_mutex_lock(&written.lock)) {
+        give_up("a signal handler called PMIx or MPI while a record was written");
         return false;
     }
-    ssize_t wrote = write_quietly(file, bytes, length);
-    if (wrote < 0)
-        give_up(strerror(errno));
-    else if ((size_t)wrote < length)
-        give_up("no room");
-    return wrote >= 0 && (size_t)wrote == length;
+    int error = add_bytes(file, bytes, length);
+    if (error)
+        trim(file);
+    pthread_mutex_unlock(&written.lock);
+    if (error == EBADF)
+        give_up("the program closed it");
+    else if (error)
+        give_up_for(error);
+    return !error;
 }
 
 /* --- records --- */
@@ -153,6 +283,18 @@ static void write_place(int file, const struct place *place)
     wire_up_text_close(&what);
 }
 
+void trim_recording(void)
+{
+    int file = get_file();
+    if (file < 0 || pthread_mutex_lock(&written.lock))
+        return;
+    trim(file);
+    pthread_mutex_unlock(&written.lock);
+}
+
+/* What a process writes after this begins a new window. */
+__attribute__((destructor)) static void trim_at_exit(void) { trim_recording(); }
+
 void wire_up_write(char sign, unsigned long number, struct place *place, const struct text *what)
 {
     int file = get_file();
@@ -185,7 +327,7 @@ static bool make_path(const char *folder, const struct identity *me, const char 
 /* Creates the file; -1 where it can't be. */
 static int create_file(void)
 {
-    int opened = open(recording.path, O_WRONLY | O_CREAT | O_EXCL | O_APPEND | O_CLOEXEC, 0666);
+    int opened = open(recording.path, O_RDWR | O_CREAT | O_EXCL | O_CLOEXEC, 0666);
     int high = opened < 0 ? -1 : fcntl(opened, F_DUPFD_CLOEXEC, LOWEST_DESCRIPTOR);
     if (high < 0)
         return opened;

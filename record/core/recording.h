@@ -19,4 +19,7 @@ bool has_recording(void);
  * it is of. Says on standard error where this fails. */
 void open_recording(const struct identity *me);
 
+/* Cuts the file behind what is written, until more comes. */
+void trim_recording(void);
+
 #endif

@@ -90,6 +90,11 @@ void add_word(struct text *to, const char *bytes, size_t length)
     to->at[to->length] = 0;
 }
 
+void wire_up_text_add_word(struct text *to, const char *word)
+{
+    add_word(to, word, strlen(word));
+}
+
 bool begins_with(const char *text, const char *start)
 {
     return !strncmp(text, start, strlen(start));

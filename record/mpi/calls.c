@@ -3,10 +3,23 @@
 #include "mpi/communicators.h"
 #include "mpi/library.h"
 
+#include <errno.h>
+
+__thread unsigned long calls_made;
+
 /* Whether calls of this code are noted. */
 static bool is_watched(const struct place *place)
 {
     return !place || (place->owner != OF_MPI && place->owner != OF_PMIX);
+}
+
+/* Finds where in the program a call comes from that this place makes: a tool and the bindings of
+ * another language stand between. */
+static struct place *find_origin(struct place *place)
+{
+    if (place && (place->owner == OF_BINDINGS || place->owner == OF_TOOL))
+        return wire_up_place_behind();
+    return place && place->owner == OF_PROGRAM ? wire_up_in_python(place) : NULL;
 }
 
 struct call enter_call(const char *function, const void *caller)
@@ -16,10 +29,10 @@ struct call enter_call(const char *function, const void *caller)
         return call;
     struct place *place = wire_up_place(caller);
     call.is_noted = is_watched(place);
-    if (place && place->owner == OF_PROGRAM)
-        call.place = wire_up_in_python(place);
-    if (call.is_noted)
-        note_world();
+    if (!call.is_noted)
+        return call;
+    call.place = find_origin(place);
+    note_world();
     return call;
 }
 
@@ -49,4 +62,21 @@ void note_other(const char *function)
     wire_up_text_open(&what);
     wire_up_text_add(&what, "other %s", function);
     write_plain(&what);
+}
+
+void note_unseen(const char *kind, const char *which)
+{
+    struct text what;
+    wire_up_text_open(&what);
+    wire_up_text_add(&what, "unseen %s ", kind);
+    wire_up_text_add_word(&what, which);
+    write_plain(&what);
+}
+
+void note_passed(const char *function, unsigned long before)
+{
+    int error = errno;
+    if (calls_made == before)
+        note_unseen("call", function);
+    errno = error;
 }

@@ -28,4 +28,14 @@ void write_plain(struct text *what);
 /* Notes that a function was called that isn't understood: it is only counted. */
 void note_other(const char *function);
 
+/* Notes what goes past the recorder: of a kind, and which. Calls of it may lack in the recording. */
+void note_unseen(const char *kind, const char *which);
+
+/* How many calls of MPI's own functions this thread has made. */
+extern __thread unsigned long calls_made;
+
+/* Notes that a tool took a call, if the thread has made none since there were so many: then the
+ * recorder hasn't seen what the tool made of it. */
+void note_passed(const char *function, unsigned long before);
+
 #endif

@@ -38,12 +38,12 @@ void keep_begun(const struct collective *it, int result, const MPI_Request *requ
 
 /* --- whose data --- */
 
-const char *name_all(int count, MPI_Datatype type)
+const char *name_all(MPI_Count count, MPI_Datatype type)
 {
     return count_bytes(count, type) > 0 ? "all" : "none";
 }
 
-const char *name_below(int count, MPI_Datatype type)
+const char *name_below(MPI_Count count, MPI_Datatype type)
 {
     return count_bytes(count, type) > 0 ? "below" : "none";
 }
@@ -68,19 +68,24 @@ const char *name_root(struct text *room, const struct collective *it, int root, 
     return room->at;
 }
 
-const char *name_all_at_root(const struct collective *it, int root, int count, MPI_Datatype type)
+const char *name_all_at_root(const struct collective *it, int root, MPI_Count count, MPI_Datatype type)
 {
     return is_root(it, root) ? name_all(count, type) : "none";
 }
 
+static MPI_Count get_count(struct counts counts, int rank)
+{
+    return counts.large ? counts.large[rank] : counts.plain[rank];
+}
+
 /* Names the ranks from which something comes: of one type, or each of its own. */
 static const char *name_counted_in(struct text *room, const struct collective *it,
-                                   const int counts[], MPI_Datatype type,
+                                   struct counts counts, MPI_Datatype type,
                                    const MPI_Datatype types[])
 {
     bool are_all = true, is_first = true;
     for (int n = 0; n < it->comm.size; n++)
-        if (count_bytes(counts[n], types ? types[n] : type) > 0) {
+        if (count_bytes(get_count(counts, n), types ? types[n] : type) > 0) {
             wire_up_text_add(room, is_first ? "%d" : ",%d", n);
             is_first = false;
         } else if (n != it->comm.rank) {
@@ -91,25 +96,25 @@ static const char *name_counted_in(struct text *room, const struct collective *i
     return is_first || room->is_lost ? "none" : room->at;
 }
 
-const char *name_counted(struct text *room, const struct collective *it, const int counts[],
+const char *name_counted(struct text *room, const struct collective *it, struct counts counts,
                          MPI_Datatype type)
 {
     return name_counted_in(room, it, counts, type, NULL);
 }
 
 const char *name_counted_at_root(struct text *room, const struct collective *it, int root,
-                                 const int counts[], MPI_Datatype type)
+                                 struct counts counts, MPI_Datatype type)
 {
     return is_root(it, root) ? name_counted_in(room, it, counts, type, NULL) : "none";
 }
 
 const char *name_counted_of_types(struct text *room, const struct collective *it,
-                                  const int counts[], const MPI_Datatype types[])
+                                  struct counts counts, const MPI_Datatype types[])
 {
     return name_counted_in(room, it, counts, types[0], types);
 }
 
-const char *name_all_by_own(const struct collective *it, const int counts[], MPI_Datatype type)
+const char *name_all_by_own(const struct collective *it, struct counts counts, MPI_Datatype type)
 {
-    return it->comm.is_inter ? "all" : name_all(counts[it->comm.rank], type);
+    return it->comm.is_inter ? "all" : name_all(get_count(counts, it->comm.rank), type);
 }

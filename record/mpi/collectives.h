@@ -31,32 +31,51 @@ void keep_begun(const struct collective *it, int result, const MPI_Request *requ
 /* --- whose data a process waits for, as a record says it. `room` is open, and holds ranks. The
  * count and the type of what the process gets are used only where it gets something. --- */
 
+/* A count for each rank, of one or the other width. */
+struct counts {
+    const int *plain;
+    const MPI_Count *large;
+};
+
+static inline struct counts take_plain(const int *them)
+{
+    return (struct counts){.plain = them};
+}
+
+static inline struct counts take_large(const MPI_Count *them)
+{
+    return (struct counts){.large = them};
+}
+
+#define COUNTS(them) \
+    _Generic((them), const int *: take_plain, const MPI_Count *: take_large)(them)
+
 /* That of all, if there is any. */
-const char *name_all(int count, MPI_Datatype type);
+const char *name_all(MPI_Count count, MPI_Datatype type);
 
 /* That of all ranks below it. */
-const char *name_below(int count, MPI_Datatype type);
+const char *name_below(MPI_Count count, MPI_Datatype type);
 
 /* That of the root, if the process isn't the root. */
 const char *name_root(struct text *room, const struct collective *it, int root, int count,
                       MPI_Datatype type);
 
 /* That of all, if the process is the root. */
-const char *name_all_at_root(const struct collective *it, int root, int count, MPI_Datatype type);
+const char *name_all_at_root(const struct collective *it, int root, MPI_Count count, MPI_Datatype type);
 
 /* That of the ranks whose counts aren't zero, in a type that isn't empty. */
-const char *name_counted(struct text *room, const struct collective *it, const int counts[],
+const char *name_counted(struct text *room, const struct collective *it, struct counts counts,
                          MPI_Datatype type);
 
 /* The same, if the process is the root. */
 const char *name_counted_at_root(struct text *room, const struct collective *it, int root,
-                                 const int counts[], MPI_Datatype type);
+                                 struct counts counts, MPI_Datatype type);
 
 /* The same with a type for each rank. */
 const char *name_counted_of_types(struct text *room, const struct collective *it,
-                                  const int counts[], const MPI_Datatype types[]);
+                                  struct counts counts, const MPI_Datatype types[]);
 
 /* That of all, if the process' own count isn't zero. */
-const char *name_all_by_own(const struct collective *it, const int counts[], MPI_Datatype type);
+const char *name_all_by_own(const struct collective *it, struct counts counts, MPI_Datatype type);
 
 #endif

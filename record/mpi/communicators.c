@@ -9,8 +9,10 @@ static struct communicator *communicators[BUCKETS];
 static pthread_mutex_t table = PTHREAD_MUTEX_INITIALIZER;
 static unsigned numbers;
 
+/* The group of the world: of MPI_COMM_WORLD, once it is noted, or of a session. */
 static MPI_Group world_group;
-static bool has_world;
+static bool has_world, has_group;
+static int sessions;
 
 /* --- the table --- */
 
@@ -203,24 +205,37 @@ void note_child_of_group(const struct communicator *parent, int result, const MP
     note_made((struct making){.parent = parent->number, .how = "g", .nth = tag}, result, made);
 }
 
-void note_window(const struct communicator *parent, int result, MPI_Comm comm, const MPI_Win *made)
+/* Notes what has a handle, and has the processes of a communicator as its members. */
+static void note_alike(const struct communicator *parent, MPI_Comm comm, char how, uintptr_t handle)
 {
     int size = 0;
-    if (result != MPI_SUCCESS)
-        return;
-    forget_communicator((uintptr_t)*made);
+    forget_communicator(handle);
     if (!parent->number)
         return;
     struct text what;
     struct communicator it = *parent;
-    it.handle = (uintptr_t)*made;
+    it.handle = handle;
     it.number = number_communicator();
     it.made = 0;
     mpi.comm_size(comm, &size);
     wire_up_text_open(&what);
-    wire_up_text_add(&what, "comm %u %u v%u ", it.number, parent->number, parent->made);
+    wire_up_text_add(&what, "comm %u %u %c%u ", it.number, parent->number, how, parent->made);
     bool is_known = add_members(&what, comm, mpi.comm_group, size);
     note_described(&what, it, is_known);
+}
+
+void note_window(const struct communicator *parent, int result, MPI_Comm comm, const MPI_Win *made)
+{
+    if (result == MPI_SUCCESS)
+        note_alike(parent, comm, 'v', (uintptr_t)*made);
+}
+
+void note_duplicate(const struct communicator *parent, MPI_Comm comm, const MPI_Comm *made)
+{
+    if (parent->is_inter)
+        forget_communicator((uintptr_t)*made);
+    else
+        note_alike(parent, comm, 'c', (uintptr_t)*made);
 }
 
 /* --- the world --- */
@@ -230,12 +245,20 @@ static bool take_world(void)
 {
     pthread_mutex_lock(&table);
     bool is_first = !has_world;
-    if (is_first) {
-        mpi.comm_group(mpi.world, &world_group);
-        __atomic_store_n(&has_world, true, __ATOMIC_RELEASE);
-    }
+    if (is_first && !has_group)
+        has_group = mpi.comm_group(mpi.world, &world_group) == MPI_SUCCESS;
+    __atomic_store_n(&has_world, true, __ATOMIC_RELEASE);
     pthread_mutex_unlock(&table);
     return is_first;
+}
+
+/* Writes which process of the world this is. */
+static void write_world(int rank, int size)
+{
+    struct text what;
+    wire_up_text_open(&what);
+    wire_up_text_add(&what, "world %d %d", rank, size);
+    write_plain(&what);
 }
 
 void note_world(void)
@@ -245,11 +268,69 @@ void note_world(void)
         return;
     if (mpi.initialized(&is_there) != MPI_SUCCESS || !is_there || !take_world())
         return;
-    struct text what;
     mpi.comm_rank(mpi.world, &rank);
     mpi.comm_size(mpi.world, &size);
-    wire_up_text_open(&what);
-    wire_up_text_add(&what, "world %d %d", rank, size);
-    write_plain(&what);
+    write_world(rank, size);
     note_communicator(mpi.world, (struct making){.parent = 0, .how = "w", .nth = 0});
+}
+
+/* --- sessions --- */
+
+/* Keeps the group of the world, if there is none yet. */
+static bool keep_world(MPI_Group world)
+{
+    pthread_mutex_lock(&table);
+    bool is_first = !has_group;
+    if (is_first) {
+        world_group = world;
+        has_group = true;
+    }
+    sessions++;
+    pthread_mutex_unlock(&table);
+    return is_first;
+}
+
+void note_session(MPI_Group world)
+{
+    int rank = 0, size = 0;
+    if (!keep_world(world)) {
+        mpi.group_free(&world);
+        return;
+    }
+    mpi.group_rank(world, &rank);
+    mpi.group_size(world, &size);
+    write_world(rank, size);
+}
+
+void leave_session(void)
+{
+    pthread_mutex_lock(&table);
+    bool is_last = sessions > 0 && --sessions == 0 && has_group && !has_world;
+    if (is_last)
+        has_group = false;
+    pthread_mutex_unlock(&table);
+    if (is_last)
+        mpi.group_free(&world_group);
+}
+
+/* Makes a number of a tag. */
+static long number_tag(const char *tag)
+{
+    const unsigned long most = 999999999999999;
+    unsigned long number = 5381;
+    for (; *tag; tag++)
+        number = (number * 33 + (unsigned char)*tag) % most;
+    return (long)number;
+}
+
+void note_of_session(const struct call *call, int result, const MPI_Comm *made, const char *tag)
+{
+    if (result != MPI_SUCCESS)
+        return;
+    if (has_group && tag && *made != mpi.no_comm) {
+        note_communicator(*made, (struct making){.parent = 0, .how = "s", .nth = number_tag(tag)});
+    } else {
+        forget_communicator((uintptr_t)*made);
+        note_other(call->function);
+    }
 }

@@ -8,6 +8,7 @@
 #include <string.h>
 
 struct mpi_library mpi;
+char no_tool;
 
 static enum { UNKNOWN, FOUND, LACKING } state;
 static pthread_mutex_t finding = PTHREAD_MUTEX_INITIALIZER;
@@ -25,7 +26,10 @@ static const struct {
     {&mpi.comm_remote_group, "PMPI_Comm_remote_group"},
     {&mpi.group_translate_ranks, "PMPI_Group_translate_ranks"},
     {&mpi.group_free, "PMPI_Group_free"},
-    {&mpi.type_size, "PMPI_Type_size"},
+    {&mpi.group_rank, "PMPI_Group_rank"},
+    {&mpi.group_size, "PMPI_Group_size"},
+    {&mpi.win_get_group, "PMPI_Win_get_group"},
+    {&mpi.type_size, "PMPI_Type_size_x"},
     {&mpi.test_cancelled, "PMPI_Test_cancelled"},
 };
 
@@ -34,7 +38,7 @@ static bool find_functions(void *library)
 {
     bool are_there = true;
     for (size_t n = 0; n < sizeof wanted / sizeof *wanted; n++) {
-        void *found = dlsym(library, wanted[n].name);
+        void *found = wire_up_dlsym()(library, wanted[n].name);
         memcpy(wanted[n].function, &found, sizeof found);
         are_there = are_there && found;
     }
@@ -45,8 +49,8 @@ static bool find_functions(void *library)
 /* Finds an object of the library: the program may have the one copy of it that counts. */
 static void *find_object(void *library, const char *name)
 {
-    void *found = dlsym(RTLD_DEFAULT, name);
-    return found ? found : dlsym(library, name);
+    void *found = wire_up_dlsym()(RTLD_DEFAULT, name);
+    return found ? found : wire_up_dlsym()(library, name);
 }
 
 static bool find_objects(void *library)
@@ -85,10 +89,17 @@ static void find_library(const void *function)
     pthread_mutex_unlock(&finding);
 }
 
+/* Finds the function of a name that comes after the recorder's. */
+static void *find_next(const char *name, const void *wrapper, void *caller)
+{
+    void *found = wire_up_dlsym()(RTLD_NEXT, name);
+    return found ? found : wire_up_find(name, caller, wrapper);
+}
+
 void *look_up_function(void **known, const char *name, const void *wrapper, void *caller)
 {
     int error = errno;
-    void *found = wire_up_find(name, caller, wrapper);
+    void *found = find_next(name, wrapper, caller);
     if (found)
         find_library(found);
     __atomic_store_n(known, found, __ATOMIC_RELAXED);
@@ -96,9 +107,29 @@ void *look_up_function(void **known, const char *name, const void *wrapper, void
     return found;
 }
 
-long long count_bytes(int count, MPI_Datatype type)
+/* Whether the function that comes next isn't that of MPI's library, which has `own`. */
+static bool is_of_tool(const void *next, const void *own)
 {
-    int size = 0;
+    const struct place *place = wire_up_place(next);
+    return place && place->owner <= OF_TOOL && wire_up_base(next) != wire_up_base(own);
+}
+
+void *look_up_tool(void **known, const char *name, const void *wrapper, void *caller)
+{
+    int error = errno;
+    void *library = find_next(name, wrapper, caller), *next = find_next(name + 1, wrapper, caller);
+    bool is_tool = next && is_of_tool(next, library);
+    if (is_tool)
+        wire_up_add_tool(next);
+    void *found = is_tool ? next : &no_tool;
+    __atomic_store_n(known, found, __ATOMIC_RELAXED);
+    errno = error;
+    return found;
+}
+
+long long count_bytes(MPI_Count count, MPI_Datatype type)
+{
+    MPI_Count size = 0;
     if (count > 0)
         mpi.type_size(type, &size);
     return count > 0 ? (long long)count * size : 0;

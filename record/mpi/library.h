@@ -20,7 +20,10 @@ struct mpi_library {
     __typeof__(&PMPI_Comm_remote_group) comm_remote_group;
     __typeof__(&PMPI_Group_translate_ranks) group_translate_ranks;
     __typeof__(&PMPI_Group_free) group_free;
-    __typeof__(&PMPI_Type_size) type_size;
+    __typeof__(&PMPI_Group_rank) group_rank;
+    __typeof__(&PMPI_Group_size) group_size;
+    __typeof__(&PMPI_Win_get_group) win_get_group;
+    __typeof__(&PMPI_Type_size_x) type_size;
     __typeof__(&PMPI_Test_cancelled) test_cancelled;
     MPI_Comm world, no_comm;
     MPI_Request no_request;
@@ -34,7 +37,12 @@ bool is_mpi_found(void);
  * stands before it, and the code at `caller` calls it. */
 void *look_up_function(void **known, const char *name, const void *wrapper, void *caller);
 
+/* Finds the function of the program's tool that comes before MPI's own function of a name, and keeps
+ * it in `known`: the address of `no_tool` where there is none. */
+void *look_up_tool(void **known, const char *name, const void *wrapper, void *caller);
+extern char no_tool;
+
 /* Answers how many bytes so many elements of a type have. */
-long long count_bytes(int count, MPI_Datatype type);
+long long count_bytes(MPI_Count count, MPI_Datatype type);
 
 #endif

@@ -6,15 +6,17 @@
 #include <stdlib.h>
 #include <string.h>
 
-/* What a request is for: a receive that is posted, a collective that has begun, or a send or a
- * receive that each start makes. */
+/* What a request is for: a receive that is posted, a collective that has begun, a communicator that
+ * is being made, or a send or a receive that each start makes. */
 struct request {
     uintptr_t handle;
-    enum { RECEIVE, COLLECTIVE, PERSISTENT_SEND, PERSISTENT_RECEIVE } kind;
+    enum { RECEIVE, COLLECTIVE, DUPLICATE, PERSISTENT_SEND, PERSISTENT_RECEIVE } kind;
     unsigned long number; /* of the receive or the collective; 0 where none is open */
     char *sources;        /* whose data the collective waits for; null is all */
     struct envelope message;
     long long bytes;
+    struct communicator parent; /* of a duplicate, as `message.comm` */
+    const MPI_Comm *made;
     struct request *next;
 };
 
@@ -86,7 +88,11 @@ static void keep(MPI_Request request, struct request what)
     pthread_mutex_unlock(&table);
 }
 
-bool is_open(MPI_Request request) { return find_request(request).number != 0; }
+bool is_open(MPI_Request request)
+{
+    struct request it = find_request(request);
+    return it.number != 0 || (it.handle && it.kind == DUPLICATE);
+}
 
 /* --- what is kept --- */
 
@@ -102,6 +108,14 @@ void keep_collective(MPI_Request request, unsigned long number, const char *sour
 {
     struct request what = {.kind = COLLECTIVE, .number = number};
     what.sources = strcmp(sources, "all") ? strdup(sources) : NULL;
+    keep(request, what);
+}
+
+void keep_duplicate(MPI_Request request, const struct communicator *parent, MPI_Comm comm,
+                    const MPI_Comm *made)
+{
+    struct request what = {.kind = DUPLICATE, .message = {.comm = comm}, .made = made};
+    what.parent = *parent;
     keep(request, what);
 }
 
@@ -183,7 +197,9 @@ static struct request take_complete(MPI_Request request, struct request **gone)
 void note_complete(MPI_Request request, int result, const MPI_Status *status, const char *how)
 {
     struct request *gone = NULL, done = take_complete(request, &gone);
-    if (done.number && done.kind == COLLECTIVE)
+    if (done.handle && done.kind == DUPLICATE && result == MPI_SUCCESS)
+        note_duplicate(&done.parent, done.message.comm, done.made);
+    else if (done.number && done.kind == COLLECTIVE)
         note_collected(done.number, result, done.sources ? done.sources : "all", how);
     else
         note_received(done.number, result, status, how);

@@ -2,6 +2,7 @@
 #ifndef WIRE_UP_REQUESTS_H
 #define WIRE_UP_REQUESTS_H
 
+#include "mpi/communicators.h"
 #include "mpi/messages.h"
 
 /* Keeps the request of a receive that was posted under a number; forgets its handle where that
@@ -15,6 +16,10 @@ void keep_collective(MPI_Request request, unsigned long number, const char *sour
 void keep_persistent_send(MPI_Request request, struct envelope to, long long bytes);
 void keep_persistent_receive(MPI_Request request, struct envelope from);
 
+/* Keeps the request of a communicator that is made of a parent: it is there when that is over. */
+void keep_duplicate(MPI_Request request, const struct communicator *parent, MPI_Comm comm,
+                    const MPI_Comm *made);
+
 /* Forgets what had a handle that is new. */
 void forget_request(MPI_Request request);
 
@@ -25,7 +30,7 @@ void note_freed(MPI_Request request);
 void note_start(const struct call *call, MPI_Request request);
 void note_starts(const struct call *call, int count, const MPI_Request requests[]);
 
-/* Whether a request has a receive or a collective open. */
+/* Whether a request has a receive, a collective or a new communicator open. */
 bool is_open(MPI_Request request);
 
 /* Notes that a request is complete: it is its handle before. */

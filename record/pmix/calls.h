@@ -7,9 +7,11 @@
 
 #include <pmix.h>
 
-/* How a call waits for its end. */
+/* How a caller learns that a call ended: it waits in it, or gets a callback. A library of MPI waits
+ * for that; whether the program does isn't known. */
 #define BLOCKS "blocks"
-#define CALLS_BACK "nb"
+#define CALLS_LIBRARY "nb"
+#define CALLS_PROGRAM "own"
 
 /* A call that is noted: how it waits, and from where in the program it comes. */
 struct call {
@@ -23,6 +25,9 @@ unsigned long note_put(const struct call *call, pmix_scope_t scope, const char *
 unsigned long note_commit(const struct call *call);
 unsigned long note_fence(const struct call *call, const pmix_proc_t processes[], size_t count,
                          const pmix_info_t info[], size_t infos);
+unsigned long note_group(const struct call *call, const char *verb, const char *group,
+                         const pmix_proc_t processes[], size_t count, const pmix_info_t info[],
+                         size_t infos);
 unsigned long note_get(const struct call *call, const pmix_proc_t *process, const char *key,
                        const pmix_info_t info[], size_t infos);
 unsigned long note_publish(const struct call *call, const pmix_info_t info[], size_t infos);

@@ -41,5 +41,6 @@ void leave_session(void)
         wire_up_text_add(&what, "finalize");
         wire_up_write('=', 0, NULL, &what);
         wire_up_text_close(&what);
+        trim_recording();
     }
 }

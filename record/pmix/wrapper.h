@@ -16,6 +16,12 @@ static inline bool is_noted(const void *caller)
     return wire_up_is_recording() && find_owner(caller) != OF_PMIX;
 }
 
+/* How a caller learns that a call ended that doesn't block. */
+static inline const char *find_form(const void *caller)
+{
+    return find_owner(caller) == OF_PROGRAM ? CALLS_PROGRAM : CALLS_LIBRARY;
+}
+
 /* Finds PMIx' own function of a name, once: `known` keeps it. `wrapper` stands before it. */
 static inline void *find_function(void **known, const char *name, const void *wrapper, void *caller)
 {

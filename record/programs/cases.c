@@ -2,10 +2,12 @@
  *
  *   wild1, wild2      a receive from any source, of which 1 or 2 is the slower sender: a race, whoever sleeps
  *   poll              a poll that succeeds, for luck: a race that only --strict shows
- *   probe, matched, later, split, window, inter, merged, jump
+ *   probe, matched, later, split, window, duplicate, epoch, inter, merged, jump
  *                     ordered by a probe, a matched probe, a collective that doesn't block, by calls that make a communicator or a window,
- *                     by communicators of two groups, and by a message after a jump out of MPI: no race
- *   limit             the recording gets no more room than 16 KiB
+ *                     by a communicator that a call which doesn't block made, by an epoch of a window, by communicators of two groups, and
+ *                     by a message after a jump out of MPI: no race
+ *   tags              a tag for each message, received from any source
+ *   limit             the recording gets no more room than it has when the first message is sent
  *   sleep             takes six seconds; many and toomany: each process publishes 100 names, or 5000, and takes each away at once
  */
 #include <mpi.h>
@@ -122,6 +124,59 @@ static void window(void)
     MPI_Win_free(&made);
 }
 
+static void duplicate(void)
+{
+    MPI_Comm made;
+    MPI_Request request;
+    MPI_Comm_idup(MPI_COMM_WORLD, &made, &request);
+    MPI_Wait(&request, MPI_STATUS_IGNORE);
+    if (rank == 0)
+        publish("port");
+    MPI_Barrier(made);
+    if (rank == 1)
+        look_up("port");
+    MPI_Comm_free(&made);
+}
+
+static void epoch(void)
+{
+    int *there, is_over = 0;
+    MPI_Win made;
+    MPI_Group all, other;
+    int others[] = {1 - rank};
+    MPI_Comm_group(MPI_COMM_WORLD, &all);
+    MPI_Group_incl(all, 1, others, &other);
+    MPI_Win_allocate(sizeof(int), sizeof(int), MPI_INFO_NULL, MPI_COMM_WORLD, &there, &made);
+    if (rank == 0) {
+        publish("waited");
+        MPI_Win_start(other, 0, made);
+        MPI_Put(&x, 1, MPI_INT, 1, 0, 1, MPI_INT, made);
+        MPI_Win_complete(made);
+        MPI_Win_post(other, 0, made);
+        while (!is_over)
+            MPI_Win_test(made, &is_over);
+    }
+    if (rank == 1) {
+        MPI_Win_post(other, 0, made);
+        MPI_Win_wait(made);
+        look_up("waited");
+        MPI_Win_start(other, 0, made);
+        MPI_Win_complete(made);
+    }
+    MPI_Win_free(&made);
+    MPI_Group_free(&other);
+    MPI_Group_free(&all);
+}
+
+static void tags(void)
+{
+    for (int tag = 0; tag < 50; tag++)
+        if (rank)
+            MPI_Send(&x, 1, MPI_INT, 0, tag, MPI_COMM_WORLD);
+        else
+            MPI_Recv(&x, 1, MPI_INT, MPI_ANY_SOURCE, tag, MPI_COMM_WORLD, MPI_STATUS_IGNORE);
+}
+
 static void inter(int is_merged)
 {
     MPI_Comm half, both, all;
@@ -164,7 +219,7 @@ static void limit(void)
 {
     struct rlimit most = {16384, 16384};
     setrlimit(RLIMIT_FSIZE, &most);
-    for (int n = 0; n < 500; n++) {
+    for (int n = 0; n < 4000; n++) {
         if (rank == 0)
             MPI_Send(&x, 1, MPI_INT, 1, 0, MPI_COMM_WORLD);
         if (rank == 1)
@@ -202,6 +257,12 @@ int main(int count, char **words)
         window();
     else if (!strcmp(which, "inter") || !strcmp(which, "merged"))
         inter(*which == 'm');
+    else if (!strcmp(which, "duplicate"))
+        duplicate();
+    else if (!strcmp(which, "epoch"))
+        epoch();
+    else if (!strcmp(which, "tags"))
+        tags();
     else if (!strcmp(which, "jump"))
         jump();
     else if (!strcmp(which, "limit"))

@@ -101,6 +101,10 @@ fn refuse(rt: &(impl Print + Eprint + AllocGlobal), refusal: Refusal) -> Result<
             let _ = rt.eprintln("wire_up: usage --workers");
             Err(Failure::Usage)
         }
+        Refusal::Same => {
+            let _ = rt.eprintln("wire_up: usage --same");
+            Err(Failure::Usage)
+        }
         Refusal::Witness => {
             let _ = rt.eprintln("wire_up: usage witness");
             Err(Failure::Usage)

@@ -84,6 +84,16 @@ fn check_command<'a>() -> Subcommand<'a>
         about: "Finds every race of a plan, and every key that a rank puts twice",
         arguments: &[
             Argument {
+                name: "anywhere",
+                kind: Kind::Flag,
+                help: "Finds those of every placement of the ranks on nodes, not only of the one that the plan has",
+            },
+            Argument {
+                name: "same",
+                kind: Kind::Flag,
+                help: "With --anywhere: where nothing is found, names each call that replies differently elsewhere",
+            },
+            Argument {
                 name: "lines",
                 kind: Kind::Flag,
                 help: "Groups findings that are alike, and tells where the calls of each group's first finding stand",

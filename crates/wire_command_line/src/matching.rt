@@ -128,6 +128,8 @@ fn parse_command<'a>(
         command,
         workers: workers_given(found),
         most: most_given(found),
+        anywhere: is_set(found, "anywhere"),
+        same: is_set(found, "same"),
         lines: is_set(found, "lines"),
         json: is_set(found, "json"),
         anyway: is_set(found, "anyway"),

@@ -67,6 +67,13 @@ impl Process {
         self.node
     }
 
+    /// Puts it on the node of this number.
+    pub(crate) fn move_to(&mut self, node: u32)
+        ensures { self.new ≡ record self.old { node = node } }
+    {
+        self.node = node;
+    }
+
     /// Its calls, in their order.
     pub fn calls(&self) -> &[Call]
         ensures { result.now ≡ self.now.calls }

@@ -149,23 +149,23 @@ module _ (plan : Plan) (settled : IsSettled plan) (x : Event) (key : ℕ) (first
         is_some (brought plan s x.proc key (node_of plan y.proc)) ≡ true
     came_some (ByFence members j) delivers before =
         let d = delivers.brings_it in
-        let complete_now = complete_if_arrived plan s.done members j d.full (λ z a. (cut z).1 (before z a)) in
-        let b : Bringer plan s.done x.proc (node_of plan y.proc) key (event_count plan x.proc) d.put = record {
-          at = d.at;
+        let complete_now = complete_if_arrived plan s.done members j d.away.full (λ z a. (cut z).1 (before z a)) in
+        let b : Bringer plan s.done x.proc (node_of plan y.proc) key (event_count plan x.proc) d.away.put = record {
+          at = d.away.at;
           members = members;
-          collect = d.arrival.collect;
-          is = d.arrival.is;
-          brings_it = subst (λ i. has_brought plan s.done x.proc (node_of plan y.proc) members i ≡ true) (sym d.arrival.nth)
-              (and_from _ _ complete_now (and_from _ _ d.collecting (and_from _ _ d.member d.reaches)));
-          stored_is = d.committed;
-          below = event_within plan x.proc d.at _ d.arrival.is;
+          collect = d.away.arrival.collect;
+          is = d.away.arrival.is;
+          brings_it = subst (λ i. has_brought plan s.done x.proc (node_of plan y.proc) members i ≡ true) (sym d.away.arrival.nth)
+              (and_from _ _ complete_now (and_from _ _ d.away.collecting (and_from _ _ d.away.member d.reaches)));
+          stored_is = d.away.committed;
+          below = event_within plan x.proc d.away.at _ d.away.arrival.is;
         } in
         greater_left _ (kept plan s x.proc key (node_of plan y.proc))
-        (ap is_some (ap (for_others plan x.proc) (delivered_from plan settled s.done x.proc (node_of plan y.proc) key (event_count plan x.proc) d.put b) ∙ cond-true _ _ _ d.admitted))
+        (ap is_some (ap (for_others plan x.proc) (delivered_from plan settled s.done x.proc (node_of plan y.proc) key (event_count plan x.proc) d.away.put b) ∙ cond-true _ _ _ d.away.admitted))
     came_some (ByGet get) delivers before =
         let d = delivers.brings_it in
         greater_right (for_others plan x.proc (delivered plan s.done x.proc (node_of plan y.proc) key (event_count plan x.proc))) _
-        (kept_some plan s x.proc key (node_of plan y.proc) d.put d.keeps (get_brought plan s got x.proc key (node_of plan y.proc) apart get d ((cut get).1 (before get refl))))
+        (kept_some plan s x.proc key (node_of plan y.proc) d.away.put d.away.keeps (get_brought plan s got x.proc key (node_of plan y.proc) apart get d ((cut get).1 (before get refl))))
 
     came_sure : ComesSurely plan x.proc key (node_of plan y.proc) y → brought plan s x.proc key (node_of plan y.proc) ≡ Some x.at
     came_sure sure = some_is (brought plan s x.proc key (node_of plan y.proc)) x.at (came_some sure.delivery sure.delivers sure.all_before) came_first
@@ -187,15 +187,17 @@ module _ (plan : Plan) (settled : IsSettled plan) (x : Event) (key : ℕ) (first
           delivery = ByFence b.members j;
           delivers = record {
             brings_it = record {
-              full = complete_more plan s.done (event_count plan) b.members j (before_closed plan y s cut).within p.0;
-              collecting = q.0;
-              member = r.0;
+              away = record {
+                full = complete_more plan s.done (event_count plan) b.members j (before_closed plan y s cut).within p.0;
+                collecting = q.0;
+                member = r.0;
+                at = b.at;
+                put = v;
+                arrival = record { collect = b.collect; is = b.is; member = r.0; nth = refl };
+                committed = b.stored_is;
+                admitted = a;
+              };
               reaches = r.1;
-              at = b.at;
-              put = v;
-              arrival = record { collect = b.collect; is = b.is; member = r.0; nth = refl };
-              committed = b.stored_is;
-              admitted = a;
             };
             all_live = λ z a. before_live (there z a);
           };
@@ -209,7 +211,7 @@ module _ (plan : Plan) (settled : IsSettled plan) (x : Event) (key : ℕ) (first
         record {
           delivery = ByGet g.get;
           delivers = record {
-            brings_it = record { keeps = keeps; is = g.is; there = g.there; put = u; committed = v.0; admitted = v.1 };
+            brings_it = record { away = record { keeps = keeps; is = g.is; put = u; committed = v.0; admitted = v.1 }; there = g.there };
             all_live = λ z e. subst (Live plan) (sym e) (before_live before);
           };
           all_before = λ z e. subst (λ w. Before plan w y) (sym e) before;

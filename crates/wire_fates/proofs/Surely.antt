@@ -60,9 +60,9 @@ module _ (plan : Plan) (get : Event) (p key node : ℕ) where
     where
       go : (d : Delivery) → Delivers plan p key node d → ((z : Event) → IsOf plan d z → Before plan z get) → IsSureByFence plan p key node get ⊎ IsSureByGet plan p key node get
       go (ByFence members j) d before = inl (
-        d.brings_it.at,
-        record { members = members; j = j; arrival = d.brings_it.arrival; brings = d.brings_it },
-        record { fence = record { members = members; j = j; arrival = d.brings_it.arrival }; all_live = d.all_live; all_before = before },
+        d.brings_it.away.at,
+        record { members = members; j = j; arrival = d.brings_it.away.arrival; brings = d.brings_it },
+        record { fence = record { members = members; j = j; arrival = d.brings_it.away.arrival }; all_live = d.all_live; all_before = before },
       )
       go (ByGet other) d before = inr (other, d.brings_it, before other refl)
 

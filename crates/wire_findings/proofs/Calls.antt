@@ -96,7 +96,7 @@ pub call_within : (plan : Plan) (call : CallAt) → Starts plan (first_event pla
 call_within plan call s = in_calls (calls_of plan call.proc.number) call.call s.what (sym (event_called plan (first_event plan call)) ∙ s.is)
 
 pub node_commit : (plan : Plan) (x y : Event) (key : ℕ) → IsNodeRace plan x y key → kind plan x ≡ Some Commit
-node_commit plan x y key r = stores_commit plan x key r.stores
+node_commit plan x y key r = stores_commit plan x key r.near.stores
 
 -- an arrival at a fence, or a get that waits: the source of a delivery race
 pub data ArrivesOrGets (plan : Plan) (x : Event) : Type 0 where
@@ -105,7 +105,7 @@ pub data ArrivesOrGets (plan : Plan) (x : Event) : Type 0 where
 
 source_of : (plan : Plan) (p key node : ℕ) (d : Delivery) (x : Event) → Brings plan p key node d → IsOf plan d x → ArrivesOrGets plan x
 source_of plan p key node (ByFence members j) x b a = Arriving members a.collect a.is
-source_of plan p key node (ByGet get) x b e = Getting p key (ap (kind plan) e ∙ b.is)
+source_of plan p key node (ByGet get) x b e = Getting p key (ap (kind plan) e ∙ b.away.is)
 
 pub delivery_source : (plan : Plan) (x y : Event) (owner key : ℕ) → IsDeliveryRace plan x y owner key → ArrivesOrGets plan x
 delivery_source plan x y owner key r = source_of plan owner key (node_of plan y.proc) r.delivery x r.delivers.brings_it r.of_it
@@ -152,14 +152,14 @@ pub low_starts : (plan : Plan) (f : Finding) → IsFound plan f → Starts plan 
 low_starts plan (Rewrite x y) r = record { what = Put r.key r.first_scope; is = r.first_is; first = refl }
 low_starts plan (KeyRace x y owner key) (low, inl (inl r)) = starts_commit plan x y key r.1
 low_starts plan (KeyRace x y owner key) (low, inl (inr r)) = starts_source plan x (delivery_source plan x y owner key r)
-low_starts plan (KeyRace x y owner key) (low, inr (inl r)) = starts_look plan x y.proc key r.1.is
+low_starts plan (KeyRace x y owner key) (low, inr (inl r)) = starts_look plan x y.proc key r.1.near.is
 low_starts plan (KeyRace x y owner key) (low, inr (inr r)) = starts_look plan x owner key r.is
 low_starts plan (NameRace x y name) (low, inl r) = starts_named plan name x (writes_calls plan name x (kind plan x) r.x_writes)
 low_starts plan (NameRace x y name) (low, inr r) = starts_named plan name x r.y_calls
 
 pub high_starts : (plan : Plan) (f : Finding) → IsFound plan f → Starts plan (high_of f)
 high_starts plan (Rewrite x y) r = record { what = Put r.key r.later_scope; is = r.later_is; first = refl }
-high_starts plan (KeyRace x y owner key) (low, inl (inl r)) = starts_look plan y x.proc key r.1.is
+high_starts plan (KeyRace x y owner key) (low, inl (inl r)) = starts_look plan y x.proc key r.1.near.is
 high_starts plan (KeyRace x y owner key) (low, inl (inr r)) = starts_look plan y owner key r.is
 high_starts plan (KeyRace x y owner key) (low, inr (inl r)) = starts_commit plan y x key r.1
 high_starts plan (KeyRace x y owner key) (low, inr (inr r)) = starts_source plan y (delivery_source plan y x owner key r)

@@ -39,12 +39,12 @@ arrives_once plan p a b members j first second = elim (cases_lt a b) [
 -- what a delivering arrival brings was stored before it
 pub sent_there : (plan : Plan) (p key node at : ℕ) → IsDelivering plan p key node at → IsSent plan p key at
 sent_there plan p key node at d =
-    let same = arrives_once plan p d.brings.at at d.members d.j d.brings.arrival d.arrival in
-    record { put = d.brings.put; committed = subst (λ n. stored plan p key n ≡ Some d.brings.put) same d.brings.committed; admitted = d.brings.admitted }
+    let same = arrives_once plan p d.brings.away.at at d.members d.j d.brings.away.arrival d.arrival in
+    record { put = d.brings.away.put; committed = subst (λ n. stored plan p key n ≡ Some d.brings.away.put) same d.brings.away.committed; admitted = d.brings.away.admitted }
 
 -- a delivering arrival brings data to the node
 pub brings_there : (plan : Plan) (p key node at : ℕ) → IsDelivering plan p key node at → BringsTo plan node (here p at)
-brings_there plan p key node at d = record { members = d.members; j = d.j; arrival = d.arrival; full = d.brings.full; collecting = d.brings.collecting; reaches = d.brings.reaches }
+brings_there plan p key node at d = record { members = d.members; j = d.j; arrival = d.arrival; full = d.brings.away.full; collecting = d.brings.away.collecting; reaches = d.brings.reaches }
 
 -- and an arrival that brings data brings what was stored before it
 pub delivers_there : (plan : Plan) (p key node at : ℕ) → BringsTo plan node (here p at) → IsSent plan p key at → IsDelivering plan p key node at
@@ -53,15 +53,17 @@ delivers_there plan p key node at b sent = record {
   j = b.j;
   arrival = b.arrival;
   brings = record {
-    full = b.full;
-    collecting = b.collecting;
-    member = b.arrival.member;
+    away = record {
+      full = b.full;
+      collecting = b.collecting;
+      member = b.arrival.member;
+      at = at;
+      put = sent.put;
+      arrival = b.arrival;
+      committed = sent.committed;
+      admitted = sent.admitted;
+    };
     reaches = b.reaches;
-    at = at;
-    put = sent.put;
-    arrival = b.arrival;
-    committed = sent.committed;
-    admitted = sent.admitted;
   };
 }
 

@@ -41,11 +41,11 @@ empty_under table none asked = ap (λ es. events_in (lookup (is_same asked) es))
 -- of a key that is put once, all gets that are kept deliver it, if it is for others; and none if it isn't
 pub kept_deliver : (plan : Plan) (p key node : ℕ) (places : List Event) → IsSent plan p key (event_count plan p) → AreKeptGets plan p key node places → AreGetDeliveries plan p key node places
 kept_deliver plan p key node places sent are = all_same (IsKeptGet plan p key node) (GetDelivers plan p key node) places
-    (λ z k. record { keeps = k.keeps; is = k.is; there = k.there; put = sent.put; committed = sent.committed; admitted = sent.admitted })
-    (λ z d. record { keeps = d.keeps; is = d.is; there = d.there }) are
+    (λ z k. record { away = record { keeps = k.keeps; is = k.is; put = sent.put; committed = sent.committed; admitted = sent.admitted }; there = k.there })
+    (λ z d. record { keeps = d.away.keeps; is = d.away.is; there = d.there }) are
 
 pub none_deliver : (plan : Plan) (p key node : ℕ) → (IsSent plan p key (event_count plan p) → ⊥) → AreGetDeliveries plan p key node []
-none_deliver plan p key node never = all_of_none (GetDelivers plan p key node) (λ z d. never (record { put = d.put; committed = d.committed; admitted = d.admitted }))
+none_deliver plan p key node never = all_of_none (GetDelivers plan p key node) (λ z d. never (record { put = d.away.put; committed = d.away.committed; admitted = d.away.admitted }))
 
 abbrev asked_by : Kind → ℕ × ℕ
 asked_by (Get owner key) = (owner, key)

@@ -80,12 +80,12 @@ module _ (plan : Plan) (get : Event) (owner key : ℕ) (n : IsUnsure plan get ow
       delivered : (x : Event) → IsRaceOf x get owner key f → (d : Delivery) → Delivers plan owner key (node_of plan get.proc) d → ((z : Event) → IsOf plan d z → ¬ (Before plan get z)) →
           IsOf plan d x → ¬ (Before plan x get) → ((z : Event) → IsOf plan d z → ¬ (Before plan z get) → x.proc ≤ z.proc) → IsEither f
       delivered x is (ByFence members j) d before_none of_it not_before first = inl (
-        d.brings_it.at,
+        d.brings_it.away.at,
         record {
           source = x;
-          delivers = record { members = members; j = j; arrival = d.brings_it.arrival; brings = d.brings_it };
+          delivers = record { members = members; j = j; arrival = d.brings_it.away.arrival; brings = d.brings_it };
           late = record {
-            may = record { fence = record { members = members; j = j; arrival = d.brings_it.arrival }; all_live = d.all_live; before_none = before_none };
+            may = record { fence = record { members = members; j = j; arrival = d.brings_it.away.arrival }; all_live = d.all_live; before_none = before_none };
             of_it = of_it;
             not_before = not_before;
             first = first;

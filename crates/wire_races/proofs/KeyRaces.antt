@@ -35,19 +35,19 @@ arrival_source plan x members j a = record { what = Arrive members a.collect; is
 
 delivery_source : (plan : Plan) (p key node : ℕ) (d : Delivery) (x : Event) → Brings plan p key node d → IsOf plan d x → IsSource plan x
 delivery_source plan p key node (ByFence members j) x b a = arrival_source plan x members j a
-delivery_source plan p key node (ByGet get) x b e = record { what = Get p key; is = ap (kind plan) e ∙ b.is; no_leave = λ members h. cc; no_get = λ owner other h. cc }
+delivery_source plan p key node (ByGet get) x b e = record { what = Get p key; is = ap (kind plan) e ∙ b.away.is; no_leave = λ members h. cc; no_get = λ owner other h. cc }
 
 source_is : (plan : Plan) (x y : Event) (owner key : ℕ) → IsKeyRace plan x y owner key → IsSource plan x
-source_is plan x y owner key (inl node) = commit_source plan x (stores_commit plan x key node.1.stores)
+source_is plan x y owner key (inl node) = commit_source plan x (stores_commit plan x key node.1.near.stores)
 source_is plan x y owner key (inr d) = delivery_source plan owner key (node_of plan y.proc) d.delivery x d.delivers.brings_it d.of_it
 
 -- the get of a race
 pub race_open : (plan : Plan) (x y : Event) (owner key : ℕ) → IsKeyRace plan x y owner key → IsOpen plan y owner key
 race_open plan x y owner key (inl node) = record {
-  is = node.1.is ∙ ap (λ p. Some (GetNow p key)) node.0;
-  other = λ e. node.1.other (e ∙ sym node.0);
-  once = subst (λ p. IsPutOnce plan p key) node.0 node.1.once;
-  get_live = node.1.unordered.live_y;
+  is = node.1.near.is ∙ ap (λ p. Some (GetNow p key)) node.0;
+  other = λ e. node.1.near.another (e ∙ sym node.0);
+  once = subst (λ p. IsPutOnce plan p key) node.0 node.1.near.once;
+  get_live = node.1.near.unordered.live_y;
 }
 race_open plan x y owner key (inr d) = record {
   is = d.is;
@@ -163,12 +163,14 @@ module _ (plan : Plan) (get : Event) (owner key : ℕ) (o : IsOpen plan get owne
   node_race commit p s u = inl (
     p,
     record {
-      is = o.is ∙ ap (λ q. Some (GetNow q key)) (sym p);
-      other = λ e. o.other (e ∙ p);
+      near = record {
+        is = o.is ∙ ap (λ q. Some (GetNow q key)) (sym p);
+        another = λ e. o.other (e ∙ p);
+        once = subst (λ q. IsPutOnce plan q key) (sym p) o.once;
+        stores = s;
+        unordered = u;
+      };
       node = subst (λ q. same_node plan q get.proc ≡ true) (sym p) node;
-      once = subst (λ q. IsPutOnce plan q key) (sym p) o.once;
-      stores = s;
-      unordered = u;
     },
   )
 
@@ -177,7 +179,7 @@ module _ (plan : Plan) (get : Event) (owner key : ℕ) (o : IsOpen plan get owne
   adds_node old new commit p s u h =
       adds_same plan old new (IsRaceOf commit get owner key) (IsKeyRaceBy plan get)
       (λ f i. record { source = commit; owner = owner; key = key; race = node_race commit p s u; is = i })
-      (λ f t. let n = only_node f t in subst (λ x. IsRaceOf x get owner key f) (stores_once plan n.source commit key (n.proc ∙ sym p) n.race.stores s) n.is)
+      (λ f t. let n = only_node f t in subst (λ x. IsRaceOf x get owner key f) (stores_once plan n.source commit key (n.proc ∙ sym p) n.race.near.stores s) n.is)
       h
 
   pub ordered_commit : (found : List Told) (commit : Event) → commit.proc ≡ owner → Stores plan commit key → (IsUnordered plan commit get → ⊥) → AreFound plan found →
@@ -185,4 +187,4 @@ module _ (plan : Plan) (get : Event) (owner key : ℕ) (o : IsOpen plan get owne
   ordered_commit found commit p s never are =
       adds_none plan found (IsKeyRaceBy plan get) are (λ f t.
       let n = only_node f t in
-      never (subst (λ x. IsUnordered plan x get) (stores_once plan n.source commit key (n.proc ∙ sym p) n.race.stores s) n.race.unordered))
+      never (subst (λ x. IsUnordered plan x get) (stores_once plan n.source commit key (n.proc ∙ sym p) n.race.near.stores s) n.race.near.unordered))

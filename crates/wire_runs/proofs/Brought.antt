@@ -155,16 +155,18 @@ module _ (plan : Plan) (settled : IsSettled plan) (cut later : ℕ → ℕ) (y :
           let x : Event = record { proc = t; at = c.0 } in
           let own_all = stored_own plan t key (event_count plan t) (stored_stays plan t key (later t) (event_count plan t) (closed.within t) (ap is_some eb)) in
           absurd (settled.no_node_race x y key (record {
-            is = is;
-            other = other;
             node = node;
-            once = put_once plan settled t key (event_count plan t) own_all;
-            stores = c.2;
-            unordered = record {
-              live_x = closed.all_live x c.1;
-              live_y = live_y;
-              not_before = λ before. true≢false (sym (stored_stays plan t key (suc c.0) (cut t) (known x before) c.2.something_after) ∙ ap is_some ea);
-              not_after = λ before. let d = chain_in closed before c.1 in omega (arith, d, not_yet);
+            near = record {
+              is = is;
+              another = other;
+              once = put_once plan settled t key (event_count plan t) own_all;
+              stores = c.2;
+              unordered = record {
+                live_x = closed.all_live x c.1;
+                live_y = live_y;
+                not_before = λ before. true≢false (sym (stored_stays plan t key (suc c.0) (cut t) (known x before) c.2.something_after) ∙ ap is_some ea);
+                not_after = λ before. let d = chain_in closed before c.1 in omega (arith, d, not_yet);
+              };
             };
           }))
 

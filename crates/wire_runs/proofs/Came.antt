@@ -17,7 +17,7 @@ use Rattle.wire_runs.proofs.Getters.{greater_from, greater_left, greater_right, 
 use Rattle.wire_runs.proofs.Late.{no_late}
 
 -- what has come to the node
-data Came (plan : Plan) (s : State) (t key node u : ℕ) : Type 0 where
+pub data Came (plan : Plan) (s : State) (t key node u : ℕ) : Type 0 where
   by_fence : Bringer plan s.done t node key (event_count plan t) u → admits (scope_of plan t u) false ≡ true → Came plan s t key node u
   by_get : plan.keep ≡ true → Getter plan s t key node u → Came plan s t key node u
 
@@ -32,7 +32,7 @@ fence_came : (plan : Plan) (s : State) (t key node u : ℕ) → for_others plan 
 fence_came plan s t key node u e = let f = for_others_from plan t (delivered plan s.done t node key (event_count plan t)) u e in
     by_fence (bringer plan s.done t node key (event_count plan t) u f.0) f.1
 
-came : (plan : Plan) (s : State) (t key node u : ℕ) → brought plan s t key node ≡ Some u → Came plan s t key node u
+pub came : (plan : Plan) (s : State) (t key node u : ℕ) → brought plan s t key node ≡ Some u → Came plan s t key node u
 came plan s t key node u h = elim (greater_from _ _ u h) [
   | inl e ↦ fence_came plan s t key node u e
   | inr e ↦ (let g = getter plan s t key node u e in by_get g.0 g.1)
@@ -44,7 +44,7 @@ fence_some plan settled s t key node u b a = ap is_some (ap (for_others plan t) 
 
 module _ (plan : Plan) (settled : IsSettled plan) (s : State) (answered : Answered plan s) (t key node : ℕ) (away : node_of plan t ≡ node → ⊥) where
   -- whatever came is what its owner stores in the end
-  came_value : (u : ℕ) → Came plan s t key node u → stored plan t key (event_count plan t) ≡ Some u
+  pub came_value : (u : ℕ) → Came plan s t key node u → stored plan t key (event_count plan t) ≡ Some u
   came_value u (by_fence b a) = stored_fixed plan settled t key b.at (event_count plan t) (let l = b.below in omega (arith, l)) (ap is_some b.stored_is) ∙ b.stored_is
   came_value u (by_get keeps g) = (answered_value plan s answered t key node u away g).0
 
@@ -52,14 +52,14 @@ module _ (plan : Plan) (settled : IsSettled plan) (s : State) (answered : Answer
   came_some u (by_fence b a) = greater_left (for_others plan t (delivered plan s.done t node key (event_count plan t))) (kept plan s t key node) (fence_some plan settled s t key node u b a)
   came_some u (by_get keeps g) = greater_right (for_others plan t (delivered plan s.done t node key (event_count plan t))) (kept plan s t key node) (kept_some plan s t key node u keeps g)
 
-  came_is : (u : ℕ) → Came plan s t key node u → brought plan s t key node ≡ Some u
+  pub came_is : (u : ℕ) → Came plan s t key node u → brought plan s t key node ≡ Some u
   came_is u c = go (brought plan s t key node) refl (came_some u c)
     where
       go : (o : Option ℕ) → brought plan s t key node ≡ o → is_some o ≡ true → o ≡ Some u
       go None e h = absurd (true≢false (sym h))
       go (Some v) e h = sym (came_value v (came plan s t key node v e)) ∙ came_value u c
 
-brings_parts : (plan : Plan) (cut : ℕ → ℕ) (t node : ℕ) (members : List ℕ) (j : ℕ) → has_brought plan cut t node members j ≡ true → (is_complete plan cut members j ≡ true)
+pub brings_parts : (plan : Plan) (cut : ℕ → ℕ) (t node : ℕ) (members : List ℕ) (j : ℕ) → has_brought plan cut t node members j ≡ true → (is_complete plan cut members j ≡ true)
     × (is_collecting plan members j ≡ true) × (is_member members t ≡ true) × (has_node plan members node ≡ true)
 brings_parts plan cut t node members j h =
     let a = and_parts _ _ h in
@@ -110,19 +110,19 @@ module _ (plan : Plan) (settled : IsSettled plan) (s r : State) (y : Event) (up 
       sure_came : (d : Delivery) → Delivers plan t key (node_of plan y.proc) d → ((z : Event) → IsOf plan d z → Before plan z y) → ⊥
       sure_came (ByFence members j) delivers before =
           let d = delivers.brings_it in
-          let complete_now = complete_if_arrived plan s.done members j d.full (λ z a. known z (before z a)) in
-          had d.put (by_fence (record {
-            at = d.at;
+          let complete_now = complete_if_arrived plan s.done members j d.away.full (λ z a. known z (before z a)) in
+          had d.away.put (by_fence (record {
+            at = d.away.at;
             members = members;
-            collect = d.arrival.collect;
-            is = d.arrival.is;
-            brings_it = subst (λ i. has_brought plan s.done t (node_of plan y.proc) members i ≡ true) (sym d.arrival.nth)
-                (and_from _ _ complete_now (and_from _ _ d.collecting (and_from _ _ d.member d.reaches)));
-            stored_is = d.committed;
-            below = event_within plan t d.at _ d.arrival.is;
-          }) d.admitted)
+            collect = d.away.arrival.collect;
+            is = d.away.arrival.is;
+            brings_it = subst (λ i. has_brought plan s.done t (node_of plan y.proc) members i ≡ true) (sym d.away.arrival.nth)
+                (and_from _ _ complete_now (and_from _ _ d.away.collecting (and_from _ _ d.away.member d.reaches)));
+            stored_is = d.away.committed;
+            below = event_within plan t d.away.at _ d.away.arrival.is;
+          }) d.away.admitted)
       sure_came (ByGet get) delivers before =
-          let d = delivers.brings_it in had d.put (by_get d.keeps (get_brought plan s answered_s t key (node_of plan y.proc) apart get d (known get (before get refl))))
+          let d = delivers.brings_it in had d.away.put (by_get d.away.keeps (get_brought plan s answered_s t key (node_of plan y.proc) apart get d (known get (before get refl))))
 
       not_sure : ComesSurely plan t key (node_of plan y.proc) y → ⊥
       not_sure sure = sure_came sure.delivery sure.delivers sure.all_before
@@ -147,22 +147,24 @@ module _ (plan : Plan) (settled : IsSettled plan) (s r : State) (y : Event) (up 
           no_late plan settled r.done y closed not_yet live_y t key is away
           (ap is_some (came_value plan settled r answered_r t key (node_of plan y.proc) apart u (by_fence b a))) not_sure (ByFence b.members j)
           (record {
-            full = complete_more plan r.done (event_count plan) b.members j closed.within parts.0;
-            collecting = parts.1;
-            member = parts.2;
             reaches = parts.3;
-            at = b.at;
-            put = u;
-            arrival = record { collect = b.collect; is = b.is; member = parts.2; nth = refl };
-            committed = b.stored_is;
-            admitted = a;
+            away = record {
+              full = complete_more plan r.done (event_count plan) b.members j closed.within parts.0;
+              collecting = parts.1;
+              member = parts.2;
+              at = b.at;
+              put = u;
+              arrival = record { collect = b.collect; is = b.is; member = parts.2; nth = refl };
+              committed = b.stored_is;
+              admitted = a;
+            };
           })
           (λ v v_arrives. arrived plan r.done b.members j v parts.0 v_arrives)
           z.0 z.1 (λ before. let d = known z.0 before in let l = z.2 in omega (arith, d, l))
       came_late u (by_get keeps g) =
           let v = answered_value plan r answered_r t key (node_of plan y.proc) u apart g in
           no_late plan settled r.done y closed not_yet live_y t key is away (ap is_some v.0) not_sure (ByGet g.get)
-          (record { keeps = keeps; is = g.is; there = g.there; put = u; committed = v.0; admitted = v.1 })
+          (record { away = record { keeps = keeps; is = g.is; put = u; committed = v.0; admitted = v.1 }; there = g.there })
           (λ z e. subst (λ x. IsDone r x) (sym e) g.is_done)
           g.get refl (λ before. had u (by_get keeps (get_in plan t key (node_of plan y.proc) apart r s answered_r answered_s u g (known g.get before))))
 

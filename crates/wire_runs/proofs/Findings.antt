@@ -16,7 +16,7 @@ pair_not_same : (x y v w : Event) → IsPairLower x y v w → v ≡ x → w ≡ 
 pair_not_same x y v w (inl a) e f = lower_not_same x v a e
 pair_not_same x y v w (inr a) e f = lower_not_same y w a.1 f
 
-sooner_one_way : (lower_name : ℕ → ℕ → Bool) → IsOneWay lower_name → (f g : Finding) → IsSooner lower_name f g → IsSooner lower_name g f → ⊥
+pub sooner_one_way : (lower_name : ℕ → ℕ → Bool) → IsOneWay lower_name → (f g : Finding) → IsSooner lower_name f g → IsSooner lower_name g f → ⊥
 sooner_one_way lower_name one (Rewrite x y) (Rewrite v w) a b = lower_one_way y w a b
 sooner_one_way lower_name one (Rewrite x y) (KeyRace v w q other) a b = b
 sooner_one_way lower_name one (Rewrite x y) (NameRace v w other) a b = b
@@ -57,7 +57,7 @@ one_list plan lower_name xs ys one a b =
 -- no event of a delivery is a get-now
 not_of_it : (plan : Plan) (p key node : ℕ) (d : Delivery) (x : Event) (owner k : ℕ) → Brings plan p key node d → IsOf plan d x → kind plan x ≡ Some (GetNow owner k) → ⊥
 not_of_it plan p key node (ByFence members j) x owner k b of_it e = let i = of_it.is in cc
-not_of_it plan p key node (ByGet get) x owner k b of_it e = let i = b.is in let f : kind plan get ≡ Some (GetNow owner k) = ap (kind plan) (sym of_it) ∙ e in cc
+not_of_it plan p key node (ByGet get) x owner k b of_it e = let i = b.away.is in let f : kind plan get ≡ Some (GetNow owner k) = ap (kind plan) (sym of_it) ∙ e in cc
 
 pub no_findings : NoFindings
 no_findings plan lower_name = (
@@ -65,7 +65,7 @@ no_findings plan lower_name = (
       let none : (f : Finding) → IsFound plan f → ⊥ = λ f i. (l.those f).1 i in
       record {
         no_rewrite = λ x y r. none (Rewrite x y) r;
-        no_node_race = λ x y key r. elim (one_lower x y (λ e. r.other (ap (λ (v : Event). v.proc) (sym e)))) [
+        no_node_race = λ x y key r. elim (one_lower x y (λ e. r.near.another (ap (λ (v : Event). v.proc) (sym e)))) [
           | inl low ↦ none (KeyRace x y x.proc key) (low, inl (inl (refl, r)))
           | inr high ↦ none (KeyRace y x x.proc key) (high, inr (inl (refl, r)))
         ];
@@ -94,7 +94,7 @@ pub turned : (plan : Plan) (x y : Event) → IsUnordered plan x y → IsUnordere
 turned plan x y u = record { live_x = u.live_y; live_y = u.live_x; not_before = u.not_after; not_after = u.not_before }
 
 of_key : (plan : Plan) (x y : Event) (owner key : ℕ) → IsKeyRace plan x y owner key → IsUnordered plan x y
-of_key plan x y owner key (inl race) = race.1.unordered
+of_key plan x y owner key (inl race) = race.1.near.unordered
 of_key plan x y owner key (inr race) = record {
   live_x = race.delivers.all_live x race.of_it;
   live_y = race.get_live;

@@ -139,18 +139,18 @@ get_in plan t key node away a b answered_a answered_b u g done_b =
 
 -- a get that delivers the key and is done has brought it
 pub get_brought : (plan : Plan) (s : State) → Answered plan s → (t key node : ℕ) → (node_of plan t ≡ node → ⊥) → (get : Event) (d : GetDelivers plan t key node get) →
-    IsDone s get → Getter plan s t key node d.put
-get_brought plan s answered t key node away get d is_done =
-    let other : get.proc ≡ t → ⊥ = λ e. away (ap (node_of plan) (sym e) ∙ d.there) in
-    let same : same_node plan t get.proc ≡ false = ne_eqb _ _ (λ e. away (e ∙ d.there)) in
+    IsDone s get → Getter plan s t key node d.away.put
+get_brought plan s answered t key node apart get d is_done =
+    let other : get.proc ≡ t → ⊥ = λ e. apart (ap (node_of plan) (sym e) ∙ d.there) in
+    let same : same_node plan t get.proc ≡ false = ne_eqb _ _ (λ e. apart (e ∙ d.there)) in
     record {
       get = get;
-      put = record { proc = t; at = d.put };
-      is = d.is;
+      put = record { proc = t; at = d.away.put };
+      is = d.away.is;
       there = d.there;
       is_done = is_done;
-      said = answered get t key is_done d.is other
-          ∙ ap Some (ap (λ b. sight_reply t (served plan t b (stored plan t key (event_count plan t)))) same ∙ ap (λ o. sight_reply t (served plan t false o)) d.committed
-          ∙ ap (sight_reply t) (cond-true _ _ _ d.admitted));
+      said = answered get t key is_done d.away.is other
+          ∙ ap Some (ap (λ b. sight_reply t (served plan t b (stored plan t key (event_count plan t)))) same ∙ ap (λ o. sight_reply t (served plan t false o)) d.away.committed
+          ∙ ap (sight_reply t) (cond-true _ _ _ d.away.admitted));
       put_is = refl;
     }

@@ -87,7 +87,7 @@ twice_early = refl
 
 -- each delivery has an event
 some_of : (plan : Plan) (p key node : ℕ) (d : Delivery) → Brings plan p key node d → (z : Event) × IsOf plan d z
-some_of plan p key node (ByFence members j) b = (record { proc = p; at = b.at }, b.arrival)
+some_of plan p key node (ByFence members j) b = (record { proc = p; at = b.away.at }, b.away.arrival)
 some_of plan p key node (ByGet get) b = (get, refl)
 
 abbrev the_get : Event
@@ -106,7 +106,7 @@ loose_race = record {
   not_sure = λ sure. let z = some_of loose 0 7 1 sure.delivery sure.delivers.brings_it in let d = done_before loose [] tt 2 refl z.0 (sure.all_before z.0 z.1) in omega (arith, d);
   delivery = ByGet the_get;
   delivers = record {
-    brings_it = record { keeps = refl; is = refl; there = refl; put = 0; committed = refl; admitted = refl };
+    brings_it = record { away = record { keeps = refl; is = refl; put = 0; committed = refl; admitted = refl }; there = refl };
     all_live = λ z e. subst (λ v. Live loose v) (sym e) (live_next loose (0 ∷ (0 ∷ [])) (refl, (refl, tt)) 1 refl);
   };
   before_none = λ z e b. (let d = done_before loose (0 ∷ (0 ∷ [])) (refl, (refl, tt)) 1 refl the_get_now (subst (λ v. Before loose the_get_now v) e b) in omega (arith, d));
@@ -212,7 +212,7 @@ unfolding row keeping kinds node_of kind_at event_count
 sure = record {
   delivery = ByGet row_get;
   delivers = record {
-    brings_it = record { keeps = refl; is = refl; there = refl; put = 0; committed = refl; admitted = refl };
+    brings_it = record { away = record { keeps = refl; is = refl; put = 0; committed = refl; admitted = refl }; there = refl };
     all_live = λ z e. subst (λ v. Live row v) (sym e) (live_next row upto_get (refl, (refl, tt)) 1 refl);
   };
   all_before = λ z e. subst (λ v. Before row v row_get_now) (sym e) through;
@@ -223,7 +223,7 @@ unfolding row keeping kinds node_of kind_at event_count
 row_is_settled = record {
   no_rewrite = λ x y r. (let l = r.later in let z = put_first y.proc y.at r.key r.later_scope r.later_is in omega (arith, l, z));
   no_node_race = λ x y key r.
-      (let o = the_only y.proc y.at x.proc key r.is in
+      (let o = the_only y.proc y.at x.proc key r.near.is in
       let apart : same_node row 0 2 ≡ true = subst (λ v. same_node row v 2 ≡ true) o.2 (subst (λ v. same_node row x.proc v ≡ true) o.0 r.node) in
       true≢false (sym apart));
   no_delivery_race = λ x y owner key r.

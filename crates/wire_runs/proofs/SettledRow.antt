@@ -37,7 +37,7 @@ put_at_zero (suc (suc p)) i key scope e = cc
 pub row_is_settled : IsSettled row
 row_is_settled = record {
   no_rewrite = λ x y r. (let l = r.later in let z = put_at_zero y.proc y.at r.key r.later_scope r.later_is in omega (arith, l, z));
-  no_node_race = λ x y key r. each_event (λ o. (o ≡ Some (GetNow x.proc key)) → ⊥) (λ e. cc) (λ e. cc) (λ e. cc) (λ e. cc) y.proc y.at r.is;
+  no_node_race = λ x y key r. each_event (λ o. (o ≡ Some (GetNow x.proc key)) → ⊥) (λ e. cc) (λ e. cc) (λ e. cc) (λ e. cc) y.proc y.at r.near.is;
   no_delivery_race = λ x y owner key r. each_event (λ o. (o ≡ Some (GetNow owner key)) → ⊥) (λ e. cc) (λ e. cc) (λ e. cc) (λ e. cc) y.proc y.at r.is;
   no_name_race = λ x y name r. each_event (λ o. (writes_name row name x o ≡ true) → ⊥) (λ e. cc) (λ e. cc) (λ e. cc) (λ e. cc) x.proc x.at r.x_writes;
 }

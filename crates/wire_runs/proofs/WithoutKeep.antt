@@ -16,5 +16,5 @@ pub without_keep : WithoutKeep
 without_keep plan no_keep = record {
   sees = λ s q i p key. ap (λ v. cond (nat_eq q p) (held (own plan p key i)) (cond (same_node plan p q) (served plan p true (stored plan p key (s.done p))) (held v)))
       (fences_bring plan no_keep s p key (node_of plan q));
-  deliveries = λ p key node get d. true≢false (sym d.brings_it.keeps ∙ no_keep);
+  deliveries = λ p key node get d. true≢false (sym d.brings_it.away.keeps ∙ no_keep);
 }

@@ -12,4 +12,12 @@ pub mod Order
 pub mod Races
 pub mod Findings
 pub mod Fate
+pub mod Embeddings
+pub mod Parts
+pub mod Patterns
+pub mod Restrictions
+pub mod Renamed
 pub mod Laws
+pub mod Placings
+pub mod FindingsAnywhere
+pub mod PlacingLaws

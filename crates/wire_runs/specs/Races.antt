@@ -30,14 +30,18 @@ pub record IsUnordered (plan : Plan) (x y : Event) : Type 0 where
 abbrev pub IsPutOnce : Plan → ℕ → ℕ → Type 0
 IsPutOnce plan p key = put_count plan p key (event_count plan p) ≡ 1
 
--- a get-now on the owner's node, and the commit that stores the key
-pub record IsNodeRace (plan : Plan) (commit get : Event) (key : ℕ) : Type 0 where
+-- a get-now, and the commit that stores its key: a race wherever both processes are on one node
+pub record IsNearRace (plan : Plan) (commit get : Event) (key : ℕ) : Type 0 where
   pub is : kind plan get ≡ Some (GetNow commit.proc key)
-  pub other : get.proc ≢ commit.proc
-  pub node : same_node plan commit.proc get.proc ≡ true
+  pub another : get.proc ≢ commit.proc
   pub once : IsPutOnce plan commit.proc key
   pub stores : Stores plan commit key
   pub unordered : IsUnordered plan commit get
+
+-- such a race where both are on one node
+pub record IsNodeRace (plan : Plan) (commit get : Event) (key : ℕ) : Type 0 where
+  pub near : IsNearRace plan commit get key
+  pub node : same_node plan commit.proc get.proc ≡ true
 
 -- a way by which a process's key comes to another node: a fence, or a get by a process there
 pub data Delivery : Type 0 where
@@ -49,26 +53,38 @@ abbrev pub IsOf : Plan → Delivery → Event → Type 0
 IsOf plan (ByFence members j) z = IsArrival plan members j z
 IsOf plan (ByGet get) z = z ≡ get
 
--- the j-th fence over these members brings p's key to the node
-pub record FenceDelivers (plan : Plan) (p key node : ℕ) (members : List ℕ) (j : ℕ) : Type 0 where
+-- the j-th fence over these members brings p's key to other nodes than p's, to those where it has a member
+pub record FenceBringsAway (plan : Plan) (p key : ℕ) (members : List ℕ) (j : ℕ) : Type 0 where
   pub full : is_full plan members j ≡ true
   pub collecting : is_collecting plan members j ≡ true
   pub member : is_member members p ≡ true
-  pub reaches : has_node plan members node ≡ true
   pub at : ℕ
   pub put : ℕ
   pub arrival : IsArrival plan members j (record { proc = p; at = at })
   pub committed : stored plan p key at ≡ Some put
   pub admitted : admits (scope_of plan p put) false ≡ true
 
--- a get by a process of the node brings p's key to it, and the plan keeps what gets bring
-pub record GetDelivers (plan : Plan) (p key node : ℕ) (get : Event) : Type 0 where
+-- a get brings p's key to its process's node, should that be another than p's, and the plan keeps what gets bring
+pub record GetBringsAway (plan : Plan) (p key : ℕ) (get : Event) : Type 0 where
   pub keeps : plan.keep ≡ true
   pub is : kind plan get ≡ Some (Get p key)
-  pub there : node_of plan get.proc ≡ node
   pub put : ℕ
   pub committed : stored plan p key (event_count plan p) ≡ Some put
   pub admitted : admits (scope_of plan p put) false ≡ true
+
+abbrev pub BringsAway : Plan → ℕ → ℕ → Delivery → Type 0
+BringsAway plan p key (ByFence members j) = FenceBringsAway plan p key members j
+BringsAway plan p key (ByGet get) = GetBringsAway plan p key get
+
+-- the j-th fence over these members brings p's key to the node
+pub record FenceDelivers (plan : Plan) (p key node : ℕ) (members : List ℕ) (j : ℕ) : Type 0 where
+  pub away : FenceBringsAway plan p key members j
+  pub reaches : has_node plan members node ≡ true
+
+-- a get by a process of the node brings p's key to it, and the plan keeps what gets bring
+pub record GetDelivers (plan : Plan) (p key node : ℕ) (get : Event) : Type 0 where
+  pub away : GetBringsAway plan p key get
+  pub there : node_of plan get.proc ≡ node
 
 abbrev pub Brings : Plan → ℕ → ℕ → ℕ → Delivery → Type 0
 Brings plan p key node (ByFence members j) = FenceDelivers plan p key node members j

@@ -14,7 +14,7 @@ The way of the data, each step a function from a value to a value:
 
 planning.py calls them in this order, from recordings to the draft. What MPI's order is stands in
 mpi_order.py. It has messages matched by messages.py, collectives by collectives.py, and messages
-that could have come otherwise ordered by open_groups.py.
+that could have come otherwise ordered by open_groups.py; horizon.py says which of them can matter.
 
 command_line.py is what users call, and tasks.py what is done then: running.py runs a command,
 places.py finds lines in the source, and verdicts.py asks the checker.

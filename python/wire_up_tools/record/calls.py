@@ -77,6 +77,15 @@ class Pair:
 Directives = tuple[Pair, ...]
 
 
+class Ending(enum.Enum):
+    """How a caller learns that a call has ended: it waits in the call, or gets a callback. Only a
+    library of MPI is known to wait for its callbacks."""
+
+    BLOCKS = "blocks"
+    CALLS_LIBRARY = "nb"
+    CALLS_PROGRAM = "own"
+
+
 @dataclass(frozen=True)
 class Put:
     """A put; a scope that plans don't have is `other`."""
@@ -99,7 +108,18 @@ class Fence:
     """A fence over processes: over none, if the call named none."""
 
     verb: ClassVar[str] = "fence"
-    blocks: bool
+    ending: Ending
+    names: tuple[ProcessName, ...]
+    directives: Directives
+
+
+@dataclass(frozen=True)
+class Group:
+    """The making of a group of processes, or its end, which names none."""
+
+    verb: ClassVar[str] = "group"
+    is_made: bool
+    name: bytes
     names: tuple[ProcessName, ...]
     directives: Directives
 
@@ -109,7 +129,7 @@ class Get:
     """A get of keys of a process; of every key, or of no process, where that is None."""
 
     verb: ClassVar[str] = "get"
-    blocks: bool
+    ending: Ending
     owner: Optional[ProcessName]
     keys: Optional[tuple[bytes, ...]]
     directives: Directives
@@ -120,7 +140,7 @@ class Publish:
     """A publish of names with their values."""
 
     verb: ClassVar[str] = "publish"
-    blocks: bool
+    ending: Ending
     pairs: tuple[Pair, ...]
     directives: Directives
 
@@ -130,7 +150,7 @@ class Lookup:
     """A lookup of names; of every name, where that is None."""
 
     verb: ClassVar[str] = "lookup"
-    blocks: bool
+    ending: Ending
     keys: Optional[tuple[bytes, ...]]
     directives: Directives
 
@@ -140,7 +160,7 @@ class Unpublish:
     """An unpublish of names; of every name, where that is None."""
 
     verb: ClassVar[str] = "unpublish"
-    blocks: bool
+    ending: Ending
     keys: Optional[tuple[bytes, ...]]
     directives: Directives
 
@@ -185,7 +205,7 @@ class Collective:
     communicator: int
 
 
-PmixCall = Union[Put, Commit, Fence, Get, Publish, Lookup, Unpublish]
+PmixCall = Union[Put, Commit, Fence, Group, Get, Publish, Lookup, Unpublish]
 MpiCall = Union[Send, Receive, Probe, Collective]
 Action = Union[PmixCall, MpiCall]
 MPI_CALLS = (Send, Receive, Probe, Collective)
@@ -250,10 +270,13 @@ class CollectiveEnd(End):
     found_by: Optional[FoundBy]
 
 
-@dataclass(frozen=True, eq=False)
+@dataclass(eq=False)
 class Call:
     """A call: what it does, the lines of its recording at which it began and ended, its thread,
-    the number of its place in the program, and how it ended. What isn't recorded is None."""
+    the number of its place in the program, and how it ended. What isn't recorded is None.
+
+    Nothing changes it once its recording is read.
+    """
 
     __slots__ = ("action", "begins", "thread", "place", "ends", "end")
 
@@ -263,6 +286,15 @@ class Call:
     place: Optional[str]
     ends: Optional[int]
     end: Optional[End]
+
+    def finish(self, ends: int, end: End) -> None:
+        """Takes how it ended, at a line."""
+        self.ends, self.end = ends, end
+
+    @property
+    def is_of_pmix(self) -> bool:
+        """Whether it is a call of PMIx."""
+        return not isinstance(self.action, MPI_CALLS)
 
     @property
     def status(self) -> Optional[int]:

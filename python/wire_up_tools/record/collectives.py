@@ -7,6 +7,7 @@ from wire_up_tools.record.communicators import Communicator, Communicators
 from wire_up_tools.record.meetings import JointCalls, Members, join_calls
 from wire_up_tools.record.notes import Notes
 from wire_up_tools.record.processes import Process, Processes
+from wire_up_tools.record.unseen import UNEQUAL, note_unfit_collectives
 
 
 @dataclass(frozen=True)
@@ -69,6 +70,7 @@ def join_alike(of: CallsByCommunicator, notes: Notes) -> list[JointCalls]:
         if len({find_name(call) for call in meeting.calls.values()}) > 1:
             rest = sum(max(len(them) - len(found), 0) for them in of.calls.values())
             notes.left_out["collectives that can't be matched"] += rest
+            notes.more_ordered[UNEQUAL] += 1
             break
         found.append(meeting)
     return found
@@ -80,6 +82,7 @@ def find_collectives(processes: Processes, communicators: Communicators) -> Coll
     notes, meetings, left_to_luck = Notes(), [], 0
     for of in find_calls(processes, communicators, notes).values():
         left_to_luck += sum(it.is_left_to_luck for them in of.calls.values() for it in them)
+        note_unfit_collectives(of.members, [*of.calls.values()], notes)
         met = join_alike(of, notes)
         meetings += met if len(of.members) > 1 else []
     return Collectives(meetings, left_to_luck, notes)

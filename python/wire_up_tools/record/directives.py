@@ -3,6 +3,7 @@ from wire_up_tools.record.calls import (
     NO,
     Action,
     Directives,
+    Ending,
     Fence,
     Get,
     Lookup,
@@ -14,6 +15,14 @@ COLLECT, WAIT = b"pmix.collect", b"pmix.wait"
 # Directives of a get that doesn't wait.
 AT_ONCE = (b"pmix.immediate", b"pmix.optional")
 KNOWN = (COLLECT, WAIT, *AT_ONCE)
+# Directives of a group with which all its processes still wait for all.
+OF_GROUPS = (
+    b"pmix.grp.actxid",
+    b"pmix.grp.endpt",
+    b"pmix.grp.info",
+    b"pmix.grp.lclid",
+    b"pmix.timeout",
+)
 
 
 def has_directive(directives: Directives, *keys: bytes) -> bool:
@@ -21,12 +30,21 @@ def has_directive(directives: Directives, *keys: bytes) -> bool:
     return any(it.key in keys and it.value != NO for it in directives)
 
 
+def find_ending(action: Action) -> Ending:
+    """How the caller learns that a call has ended. Of MPI's calls that isn't asked."""
+    if isinstance(action, (Fence, Get, Publish, Lookup, Unpublish)):
+        return action.ending
+    return Ending.BLOCKS
+
+
 def stands_early(action: Action) -> bool:
     """Whether a call that doesn't block stands where it was made, so that all that follows comes
     after it in the plan. A get that waits stands where it ended, and a fence that doesn't collect
     can be names."""
+    if find_ending(action) is Ending.BLOCKS:
+        return False
     if isinstance(action, Fence):
-        return not action.blocks and has_directive(action.directives, COLLECT)
+        return has_directive(action.directives, COLLECT)
     if isinstance(action, Get):
-        return not action.blocks and has_directive(action.directives, *AT_ONCE)
-    return isinstance(action, (Publish, Lookup, Unpublish)) and not action.blocks
+        return has_directive(action.directives, *AT_ONCE)
+    return True

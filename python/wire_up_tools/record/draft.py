@@ -16,7 +16,7 @@ SENT = "sent"
 SENT_VALUE = Value(ValueKind.TEXT, text=SENT.encode())
 
 
-@dataclass(frozen=True, eq=False)
+@dataclass(eq=False)
 class Line:
     """A line of a plan, and the call that it comes from.
 

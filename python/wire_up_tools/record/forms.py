@@ -15,6 +15,7 @@ from wire_up_tools.record.calls import (
     Action,
     AnyRank,
     End,
+    Ending,
     FoundBy,
     Pair,
     ProcessName,
@@ -30,6 +31,9 @@ FOUND_BY = r"(wait|poll|some)"
 KEPT_RECORDS = 1 << 17
 
 Groups = Sequence[str]
+
+# What a call without processes names.
+ALL_OF_JOB = (ProcessName(b"", AnyRank.ALL),)
 
 
 # --- words of recordings ---
@@ -116,16 +120,21 @@ def read_wanted(text: Optional[str]) -> Optional[int]:
 
 def read_fence(groups: Groups) -> Action:
     """A fence; `all` are the processes of the caller's job."""
-    all_of_job = (ProcessName(b"", AnyRank.ALL),)
-    names = all_of_job if groups[1] == "all" else read_process_names(groups[1])
-    return calls.Fence(groups[0] == "blocks", names, read_pairs(groups[2]))
+    names = ALL_OF_JOB if groups[1] == "all" else read_process_names(groups[1])
+    return calls.Fence(Ending(groups[0]), names, read_pairs(groups[2]))
+
+
+def read_group(groups: Groups) -> Action:
+    """The making or the end of a group."""
+    names = ALL_OF_JOB if groups[2] == "all" else read_process_names(groups[2])
+    return calls.Group(groups[0] == "construct", decode(groups[1]), names, read_pairs(groups[3]))
 
 
 def read_get(groups: Groups) -> Action:
     """A get, of the first process that it names."""
     names = read_process_names(groups[1])
     owner = names[0] if names else None
-    return calls.Get(groups[0] == "blocks", owner, read_keys(groups[2]), read_pairs(groups[3]))
+    return calls.Get(Ending(groups[0]), owner, read_keys(groups[2]), read_pairs(groups[3]))
 
 
 @dataclass(frozen=True)
@@ -147,21 +156,24 @@ BEGINS = {
         lambda it: calls.Put(it[0], decode(it[1]), read_value(it[2])),
     ),
     "commit": Form(re.compile(r"commit"), lambda it: calls.Commit()),
-    "fence": Form(re.compile(rf"fence (blocks|nb) ({WORD}) ({WORD})"), read_fence),
+    "fence": Form(re.compile(rf"fence (blocks|nb|own) ({WORD}) ({WORD})"), read_fence),
+    "group": Form(
+        re.compile(rf"group (construct|destruct) :({WORD}) ({WORD}) ({WORD})"), read_group
+    ),
     "get": Form(
-        re.compile(rf"get (blocks|nb) ({WORD}) (every|:{WORD}) ({WORD})"), read_get
+        re.compile(rf"get (blocks|nb|own) ({WORD}) (every|:{WORD}) ({WORD})"), read_get
     ),
     "publish": Form(
-        re.compile(rf"publish (blocks|nb) ({WORD}) ({WORD})"),
-        lambda it: calls.Publish(it[0] == "blocks", read_pairs(it[1]), read_pairs(it[2])),
+        re.compile(rf"publish (blocks|nb|own) ({WORD}) ({WORD})"),
+        lambda it: calls.Publish(Ending(it[0]), read_pairs(it[1]), read_pairs(it[2])),
     ),
     "lookup": Form(
-        re.compile(rf"lookup (blocks|nb) (-|every|:{WORD}) ({WORD})"),
-        lambda it: calls.Lookup(it[0] == "blocks", read_keys(it[1]), read_pairs(it[2])),
+        re.compile(rf"lookup (blocks|nb|own) (-|every|:{WORD}) ({WORD})"),
+        lambda it: calls.Lookup(Ending(it[0]), read_keys(it[1]), read_pairs(it[2])),
     ),
     "unpublish": Form(
-        re.compile(rf"unpublish (blocks|nb) (-|every|:{WORD}) ({WORD})"),
-        lambda it: calls.Unpublish(it[0] == "blocks", read_keys(it[1]), read_pairs(it[2])),
+        re.compile(rf"unpublish (blocks|nb|own) (-|every|:{WORD}) ({WORD})"),
+        lambda it: calls.Unpublish(Ending(it[0]), read_keys(it[1]), read_pairs(it[2])),
     ),
     "send": Form(
         re.compile(r"send (\d{1,9}) (-?\d{1,9}) (-?\d{1,18}) (-?\d{1,18})"),

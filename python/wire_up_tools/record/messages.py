@@ -20,6 +20,12 @@ class Stream(NamedTuple):
     source: int
     tag: int
 
+    @property
+    def asks(self) -> "tuple[Ask, Ask, Ask, Ask]":
+        """All that a receive could ask for that gets a message of it."""
+        source, tag = self
+        return Ask(source, tag), Ask(source, None), Ask(None, tag), Ask(None, None)
+
 
 class Ask(NamedTuple):
     """What a receive or a probe asks for; None is any."""
@@ -44,7 +50,7 @@ class Ask(NamedTuple):
         return Stream(self.source, self.tag)
 
 
-@dataclass(frozen=True, eq=False)
+@dataclass(eq=False)
 class Got:
     """A receive or a probe that got a message of a stream. `size` is negative if it isn't known."""
 
@@ -176,7 +182,7 @@ class Inbox:
         ask, end = Ask(asked.source, asked.tag), call.end
         got = Stream(end.source, end.tag) if isinstance(end, MessageEnd) else None
         if isinstance(asked, Receive):
-            for found in [it for it in self.probed if ask.fits(it)]:
+            for found in [it for it in self.probed if ask.fits(it)] if self.probed else ():
                 ask = ask.widen(self.probed.pop(found))
         elif got and not ask.stream:
             self.probed[got] = ask
@@ -187,14 +193,11 @@ class Inbox:
 
     def find_fitting(self) -> Mapping[Ask, Sequence[Stream]]:
         """For all that is asked for, the streams of which a message could be got."""
-        found: dict[Ask, list[Stream]] = {}
-        for ask in dict.fromkeys(it.ask for it in self.asked):
-            one = ask.stream
-            if one:
-                found[ask] = [one] if one in self.streams else []
-            else:
-                found[ask] = [it for it in self.streams if ask.fits(it)]
-        return found
+        fitting: dict[Ask, list[Stream]] = {}
+        for stream in self.streams:
+            for ask in stream.asks:
+                fitting.setdefault(ask, []).append(stream)
+        return {it.ask: fitting.get(it.ask, []) for it in self.asked}
 
     def groups(self) -> list[Group]:
         """Parts the streams into groups: those for which one receive could get a message of

@@ -13,9 +13,8 @@
 Which receive got which message is found by messages.py; where that isn't certain, nothing is
 ordered, and the head of the plan says so.
 """
-import re
 from collections.abc import Iterable, Sequence
-from dataclasses import dataclass
+from dataclasses import dataclass, replace
 
 from wire_up_tools.record.calls import MPI_CALLS, Call
 from wire_up_tools.record.collectives import (
@@ -27,17 +26,16 @@ from wire_up_tools.record.collectives import (
     find_name,
 )
 from wire_up_tools.record.communicators import Communicators, find_communicators
-from wire_up_tools.record.draft import Line, Ordered
+from wire_up_tools.record.draft import Line, Ordered, Part
+from wire_up_tools.record.horizon import Horizon, Links, find_horizon, note_useless
 from wire_up_tools.record.meetings import MOST_NAMED, JointCalls, Sets, is_any_inside
 from wire_up_tools.record.messages import find_inboxes
 from wire_up_tools.record.names import MessageNames, Spelling
 from wire_up_tools.record.open_groups import OpenGroup
 from wire_up_tools.record.pmix_fences import PmixFences
 from wire_up_tools.record.processes import Process, Processes
-from wire_up_tools.record.recordings import Recording
+from wire_up_tools.record.unseen import has_unknown_sends, note_unfit_messages, note_unseen
 
-# Functions of MPI 4 that send, and that are only counted.
-SENDS_UNKNOWN = re.compile(r"MPI_(Isendrecv\w*|Psend\w*|\w*send\w*_c)")
 # Collectives in which all processes wait for all, even if none of them is known to have ended.
 BARRIERS = ("barrier", "ibarrier")
 
@@ -45,11 +43,12 @@ BARRIERS = ("barrier", "ibarrier")
 @dataclass(frozen=True)
 class MessageOrder:
     """The order of messages, without `open_groups`, which aren't ordered yet: their names come
-    from `names`."""
+    from `names`. What is past the `horizon` isn't ordered."""
 
     ordered: Ordered
     open_groups: Sequence[OpenGroup]
     names: MessageNames
+    horizon: Horizon
 
 
 @dataclass(frozen=True)
@@ -63,41 +62,52 @@ class MpiOrder:
 # --- messages ---
 
 
-def may_lack_sends(recording: Recording) -> bool:
-    """Whether a process may have sent messages that its recording doesn't have."""
-    return not recording.has_finalized or any(map(SENDS_UNKNOWN.fullmatch, recording.others))
-
-
 def order_messages(
-    processes: Processes, communicators: Communicators, names: MessageNames, is_strict: bool
+    processes: Processes,
+    communicators: Communicators,
+    links: Links,
+    names: MessageNames,
+    is_strict: bool,
 ) -> MessageOrder:
     """The order of messages, and the groups whose order isn't certain."""
-    lacking = {it for it in processes.all if may_lack_sends(it.recording)}
+    unknown = {it for it in processes.all if has_unknown_sends(it.recording)}
+    lacking = {it for it in processes.all if not it.recording.has_finalized} | unknown
     inboxes = find_inboxes(processes, communicators)
+    certain: list[OpenGroup] = []
     open_groups: list[OpenGroup] = []
     ordered = Ordered(notes=inboxes.notes)
+    note_unseen(processes, ordered.notes)
     for (_, target), inbox in inboxes.found.items():
         is_cut = any(it in lacking for it in inbox.peers)
-        for group in inbox.groups():
+        is_open = not unknown.isdisjoint(inbox.peers)
+        groups = inbox.groups()
+        note_unfit_messages(target, inbox, groups, ordered.notes)
+        for group in groups:
             found = OpenGroup(group, target, inbox.peers)
-            if not group.is_matched(is_cut) or (group.is_from_any and is_cut):
+            is_matched = group.is_matched(is_cut) and not is_open
+            if not is_matched or (group.is_from_any and is_cut):
                 left_out = ordered.notes.left_out
                 left_out["messages that can't be matched for certain"] += group.receive_count
             elif group.is_certain:
-                ordered.add(order_pairs(found, names, is_strict))
+                certain.append(found)
             else:
                 open_groups.append(found)
-    return MessageOrder(ordered, open_groups, names)
+    horizon = find_horizon(processes.all, links, [*certain, *open_groups])
+    for found in certain:
+        ordered.add(order_pairs(found, horizon, names, is_strict))
+    return MessageOrder(ordered, open_groups, names, horizon)
 
 
-def order_pairs(found: OpenGroup, names: MessageNames, is_strict: bool) -> Ordered:
+def order_pairs(
+    found: OpenGroup, horizon: Horizon, names: MessageNames, is_strict: bool
+) -> Ordered:
     """Orders messages and receives that are the same pairs in every run.
 
     Where a receive isn't there (one that failed), the next ones get a message that was sent
     before theirs. That is less order for the receiver, but would be more for a sender that waited
     for its receive: so then it has none.
     """
-    ordered, group, target = Ordered(), found.group, found.target
+    ordered, group, target, useless = Ordered(), found.group, found.target, 0
     is_all = group.message_count == group.receive_count and not group.lacks
     for send, got in group.pairs():
         source = found.peers[got.stream.source]
@@ -106,11 +116,16 @@ def order_pairs(found: OpenGroup, names: MessageNames, is_strict: bool) -> Order
         ordered.left_to_luck += got.call.is_left_to_luck
         if got.call.is_left_to_luck and is_strict:
             continue
+        ordered.count += 1
+        waits = bool(send.end and is_all and got.is_receive)
+        if not (horizon.has_end(target, got.call) or waits and horizon.has_end(source, send)):
+            useless += 1
+            continue
         name = names.next(source, target)
         ordered.part.add_order(name, source, send, {target: got.call})
-        if send.end and is_all and got.is_receive:
+        if waits:
             ordered.part.add_order(f"{name}.begun", target, got.call, {source: send})
-        ordered.count += 1
+    note_useless(useless, ordered.notes)
     return ordered
 
 
@@ -121,10 +136,10 @@ class Bounds:
     """At which lines of the recording of each process calls begin and end that can race, or that
     order others: not gets that wait."""
 
-    def __init__(self, lines: Sequence[Line]) -> None:
+    def __init__(self, program: Sequence[Part]) -> None:
         self.of_pmix: dict[Process, list[int]] = {}
         self.found: dict[Process, list[int]] = {}
-        for line in lines:
+        for line in (it for part in program for it in part.lines):
             if line.is_of_program and line.verb != "get":
                 self.of_pmix.setdefault(line.process, []).append(line.at)
 
@@ -255,15 +270,20 @@ def order_collectives(
 
 
 def order_by_mpi(
-    sets: Sets, spelling: Spelling, program: Sequence[Line], fences: PmixFences, is_strict: bool
+    sets: Sets, spelling: Spelling, program: Sequence[Part], fences: PmixFences, is_strict: bool
 ) -> MpiOrder:
-    """The order that MPI gives to the processes whose calls of PMIx are the lines of `program`,
+    """The order that MPI gives to the processes whose calls of PMIx are the parts of `program`,
     fences among them."""
     processes, mark = sets.processes, spelling.mpi_mark
     communicators = find_communicators(processes)
-    messages = order_messages(processes, communicators, MessageNames(mark), is_strict)
     collectives = find_collectives(processes, communicators)
-    waiting = Waiting(communicators, is_strict)
-    chosen = choose_fences(collectives.meetings, waiting, fences, Bounds(program))
-    ordered = order_collectives(collectives, waiting, chosen, sets, mark)
+    links = Links(program, collectives.meetings)
+    messages = order_messages(processes, communicators, links, MessageNames(mark), is_strict)
+    useful = replace(
+        collectives, meetings=messages.horizon.choose(collectives.meetings, collectives.notes)
+    )
+    waiting, bounds = Waiting(communicators, is_strict), Bounds(program)
+    chosen = choose_fences(useful.meetings, waiting, fences, bounds)
+    ordered = order_collectives(useful, waiting, chosen, sets, mark)
+    ordered.count += len(collectives.meetings) - len(useful.meetings)
     return MpiOrder(messages, ordered)

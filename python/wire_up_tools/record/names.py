@@ -3,7 +3,7 @@ from collections import Counter
 from collections.abc import Iterable
 from dataclasses import dataclass
 
-from wire_up_tools.record.calls import MPI_CALLS, Action, Get, Lookup, Publish, Put, Unpublish
+from wire_up_tools.record.calls import Action, Get, Lookup, Publish, Put, Unpublish
 from wire_up_tools.record.processes import Process, Processes
 from wire_up_tools.words import Words, is_plain
 
@@ -58,10 +58,9 @@ def find_spelling(processes: Processes) -> Spelling:
     keys: set[bytes] = set()
     names: set[bytes] = set()
     for process in processes.all:
-        for call in process.recording.calls:
-            if not isinstance(call.action, MPI_CALLS):
-                keys.update(find_keys(call.action))
-                names.update(find_published(call.action))
+        for call in process.recording.calls_of_pmix:
+            keys.update(find_keys(call.action))
+            names.update(find_published(call.action))
     words = find_words(names)
     return Spelling(find_words(keys), words, find_mark(MPI, words), find_mark(FENCE, words))
 

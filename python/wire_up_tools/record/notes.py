@@ -4,24 +4,35 @@ from collections import Counter
 from collections.abc import Sequence
 from dataclasses import dataclass, field
 
-from wire_up_tools.record.calls import Action, Call, Fence, Get, Lookup, Publish, Unpublish
-from wire_up_tools.record.directives import KNOWN, stands_early
+from wire_up_tools.record.calls import (
+    Action,
+    Call,
+    Ending,
+    Fence,
+    Get,
+    Lookup,
+    Publish,
+    Unpublish,
+)
+from wire_up_tools.record.directives import KNOWN, find_ending, stands_early
 from wire_up_tools.record.recordings import Recording
 from wire_up_tools.words import show
 
 
 @dataclass(frozen=True)
 class Notes:
-    """What a plan can't say of the program, each with how often that was: what was left out;
-    what is more ordered than the program, so that a race can be missed; and what is written
-    otherwise."""
+    """What a plan can't say of the program, each with how often that was: where the run was cut
+    off; what was left out; what is more ordered than the program, so that a race can be missed;
+    and what is written otherwise."""
 
+    cut_off: Counter[str] = field(default_factory=Counter)
     left_out: Counter[str] = field(default_factory=Counter)
     more_ordered: Counter[str] = field(default_factory=Counter)
     otherwise: Counter[str] = field(default_factory=Counter)
 
     def add(self, others: "Notes") -> None:
         """Takes other notes too, also those that say that something was never so."""
+        self.cut_off.update(others.cut_off)
         self.left_out.update(others.left_out)
         self.more_ordered.update(others.more_ordered)
         self.otherwise.update(others.otherwise)
@@ -30,9 +41,9 @@ class Notes:
 def note_recording(recording: Recording, notes: Notes) -> None:
     """Notes what a recording lacks, and what of it has no line."""
     if recording.is_cut:
-        notes.left_out["last lines of recordings, which were cut"] += 1
+        notes.cut_off["last lines of recordings, which were cut"] += 1
     if not recording.has_finalized:
-        notes.otherwise[
+        notes.cut_off[
             "processes whose recordings end before PMIx_Finalize: how they went on isn't known"
         ] += 1
     for name, count in recording.others.items():
@@ -54,6 +65,8 @@ def note_directives(action: Action, notes: Notes) -> None:
 
 def note_overlaps(calls: Sequence[Call], notes: Notes) -> None:
     """Notes the calls that were made while one was open that the plan puts before them."""
+    if not any(stands_early(it.action) for it in calls if it.is_of_pmix):
+        return
     open_until: list[int] = []
     for call in calls:
         if open_until:
@@ -64,3 +77,14 @@ def note_overlaps(calls: Sequence[Call], notes: Notes) -> None:
             ] += 1
         if stands_early(call.action):
             open_until.append(call.ends or sys.maxsize)
+
+
+def note_unawaited(calls: Sequence[Call], notes: Notes) -> None:
+    """Notes the calls of the program that didn't block, ended, and were followed by others."""
+    last = calls[-1].begins if calls else 0
+    unawaited = (it for it in calls if it.is_of_pmix and it.ends and it.ends < last)
+    count = sum(find_ending(it.action) is Ending.CALLS_PROGRAM for it in unawaited)
+    notes.more_ordered[
+        "calls of the program that don't block and ended before others: in the plan it waited for "
+        "them"
+    ] += count

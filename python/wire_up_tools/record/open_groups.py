@@ -253,11 +253,15 @@ def order_open_groups(
         before, rounds = len(waits.known), rounds + 1
         draft = make_draft(processes, [*parts, published, waits.part])
         waits.add_all(groups, draft, is_strict)
+    return Ordered(waits.finish(), count=len(waits.known))
+
+
+def note_open_groups(groups: Sequence[OpenGroup]) -> Ordered:
+    """Notes messages that could have come otherwise, and which of their ends were left to luck."""
     notes = Notes()
     notes.otherwise[
         "receives that could have got messages of several processes: "
         "they order what holds whichever they got"
     ] += sum(it.group.receive_count for it in groups)
     asked = (got for it in groups for got in it.group.asked)
-    left_to_luck = sum(it.call.is_left_to_luck for it in asked)
-    return Ordered(waits.finish(), notes, len(waits.known), left_to_luck)
+    return Ordered(notes=notes, left_to_luck=sum(it.call.is_left_to_luck for it in asked))

@@ -11,13 +11,15 @@ from typing import Optional
 from wire_up_tools.failures import Refused
 from wire_up_tools.plan import read_calls
 from wire_up_tools.record.draft import Draft, Line
-from wire_up_tools.record.forms import decode_text
+from wire_up_tools.record.forms import WORD, decode_text
 from wire_up_tools.record.processes import Process
 from wire_up_tools.record.recordings import Address, Place
 from wire_up_tools.words import UNKNOWN_PLACE, escape, make_printable
 
 # The file beside recordings that keeps what was found out when the program was recorded.
 FILE = "places"
+# A line of it: a module, an offset in it, and what is said of that.
+ENTRY = re.compile(rf"({WORD}) ([0-9a-f]{{1,16}}) ([ -~]+)")
 
 
 @dataclass(frozen=True)
@@ -34,14 +36,15 @@ class Places:
 # --- what is kept beside recordings ---
 
 
-def read_entries(path: str, lines: Iterable[str]) -> Iterator[tuple[Address, str]]:
-    """Addresses and their texts, as a file keeps them. Raises Refused for any other line."""
-    for number, line in enumerate(lines, 1):
-        if line.count(" ") < 2:
-            continue
-        module, offset, text = line.split(" ", 2)
+def read_entries(path: str, text: str) -> Iterator[tuple[Address, str]]:
+    """Addresses and their texts, as a file keeps them. Raises Refused for any other line, and for
+    a last one that was cut."""
+    *lines, last = text.split("\n")
+    for number, line in enumerate([*lines, *([last] if last else [])], 1):
+        read = ENTRY.fullmatch(line) if number <= len(lines) else None
         try:
-            yield Address(decode_text(module), int(offset, 16)), make_printable(text)
+            module, offset, said = read.groups() if read else ()
+            yield Address(decode_text(module), int(offset, 16)), said
         except ValueError:
             raise Refused(f"{path}: line {number} isn't a place") from None
 
@@ -53,7 +56,7 @@ def read_places(folders: Iterable[str]) -> dict[Address, str]:
         path = os.path.join(folder, FILE)
         if os.path.isfile(path):
             with open(path, encoding="ascii", errors="replace") as it:
-                found.update(read_entries(path, it.read().splitlines()))
+                found.update(read_entries(path, it.read()))
     return found
 
 

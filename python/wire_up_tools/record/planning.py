@@ -10,7 +10,7 @@ from wire_up_tools.record.meetings import Sets
 from wire_up_tools.record.mpi_order import MpiOrder, order_by_mpi
 from wire_up_tools.record.names import Spelling, find_spelling
 from wire_up_tools.record.notes import Notes
-from wire_up_tools.record.open_groups import order_open_groups
+from wire_up_tools.record.open_groups import note_open_groups, order_open_groups
 from wire_up_tools.record.pmix_calls import make_lines
 from wire_up_tools.record.pmix_fences import PmixFences, make_fences
 from wire_up_tools.record.pmix_waits import find_waits
@@ -66,6 +66,7 @@ def refuse_waiting(draft: Draft) -> None:
         for number, line in enumerate(lines, 1):
             if line.call.end and line not in passed:
                 raise Refused(
+                    f"{process.recording.path}: line {line.call.begins}: "
                     f"call {number} of {process.name}, `{line.words}`, ended, "
                     "but in a plan of these recordings it would wait for ever, "
                     "or stand after a call that does"
@@ -77,14 +78,14 @@ def order_program(
 ) -> MpiOrder:
     """The order that MPI gives to the lines of a program, with that of messages which could have
     come otherwise."""
-    lines = [line for part in program for line in part.lines]
-    order = order_by_mpi(sets, spelling, lines, fences, is_strict)
+    order = order_by_mpi(sets, spelling, program, fences, is_strict)
     messages = order.messages
     if messages.open_groups:
         known = [*program, messages.ordered.part, order.collectives.part]
-        groups, names = messages.open_groups, messages.names
-        more = order_open_groups(sets.processes, known, groups, names, is_strict)
+        groups = messages.horizon.choose_groups(messages.open_groups, messages.ordered.notes)
+        more = order_open_groups(sets.processes, known, groups, messages.names, is_strict)
         messages.ordered.add(more)
+        messages.ordered.add(note_open_groups(messages.open_groups))
     return order
 
 

@@ -6,13 +6,14 @@ from dataclasses import dataclass, field
 from typing import Optional, Union
 
 from wire_up_tools.record.calls import (
-    MPI_CALLS,
     NO,
     AnyRank,
     Call,
     Commit,
+    Fence,
     Get,
     GetEnd,
+    Group,
     Lookup,
     LookupEnd,
     Publish,
@@ -24,7 +25,13 @@ from wire_up_tools.record.calls import (
 from wire_up_tools.record.directives import AT_ONCE, WAIT, has_directive
 from wire_up_tools.record.draft import Line, Part
 from wire_up_tools.record.names import Spelling, is_reserved_by_pmix
-from wire_up_tools.record.notes import Notes, note_directives, note_overlaps, note_recording
+from wire_up_tools.record.notes import (
+    Notes,
+    note_directives,
+    note_overlaps,
+    note_recording,
+    note_unawaited,
+)
 from wire_up_tools.record.processes import Process, Processes
 from wire_up_tools.record.puts import OTHER_SCOPE, PutsByProcess
 
@@ -200,13 +207,18 @@ class ProcessLines:
         end = call.end
         found = {it.key: it.value for it in end.found} if isinstance(end, LookupEnd) else {}
         self.note_several(lookup, len(lookup.keys))
-        verb = "lookup-wait" if self.is_waiting(call, lookup, len(lookup.keys)) else "lookup"
+        waits = "lookup-wait" if self.is_waiting(call, lookup, len(lookup.keys)) else "lookup"
         for key in lookup.keys:
             if is_reserved_by_pmix(key):
                 self.leave_out("lookups of reserved keys")
             else:
                 value = found.get(key)
                 is_known = value is not None and value.kind is not ValueKind.NONE
+                if call.status == 0 and not is_known:
+                    self.write_otherwise(
+                        "names without a value in lookups that succeeded: they aren't there"
+                    )
+                verb = waits if is_known or call.status != 0 else "lookup"
                 self.add(call, f"{verb} {self.spelling.names[key]}", value if is_known else None)
 
     def take_unpublish(self, call: Call, unpublish: Unpublish) -> None:
@@ -245,10 +257,19 @@ def make_lines(processes: Processes, spelling: Spelling, with_mpi: bool) -> Pmix
     for process in processes.all:
         recording = process.recording
         note_recording(recording, notes)
-        of_pmix = [it for it in recording.calls if not isinstance(it.action, MPI_CALLS)]
-        note_overlaps(recording.calls if with_mpi else of_pmix, notes)
+        of_pmix = recording.calls_of_pmix
+        first = len(part.lines)
         lines = ProcessLines(process, processes, spelling, puts, part, notes)
         for call in of_pmix:
             lines.take(call)
             note_directives(call.action, notes)
+        with_lines = {it.call for it in part.lines[first:]}
+        noted = recording.calls if with_mpi else of_pmix
+        in_plan = [
+            it
+            for it in noted
+            if not it.is_of_pmix or isinstance(it.action, (Fence, Group)) or it in with_lines
+        ]
+        note_overlaps(in_plan, notes)
+        note_unawaited(in_plan, notes)
     return PmixLines(part, notes)

@@ -2,9 +2,8 @@
 import re
 from collections.abc import Iterator, Mapping, Sequence
 from dataclasses import dataclass
-from typing import Optional
+from typing import NamedTuple, Optional
 
-from wire_up_tools.failures import Refused
 from wire_up_tools.limits import VERSION_1, Limits
 from wire_up_tools.record.calls import (
     AnyRank,
@@ -15,7 +14,7 @@ from wire_up_tools.record.calls import (
     ProcessName,
     ValueKind,
 )
-from wire_up_tools.record.recordings import Recording, refuse_past
+from wire_up_tools.record.recordings import PROCESS_LINE, Recording, refuse, refuse_past
 from wire_up_tools.words import Words, show
 
 # With these statuses a call never began: the library refused it.
@@ -78,10 +77,8 @@ def group_by_job(recordings: Sequence[Recording]) -> dict[bytes, Ranks]:
     for it in recordings:
         ranks = jobs.setdefault(it.namespace, {})
         if it.rank in ranks:
-            before = ranks[it.rank].path
-            raise Refused(
-                f"{it.path}: is rank {it.rank} of {show(it.namespace)} once more, after {before}"
-            )
+            before, who = ranks[it.rank].path, f"rank {it.rank} of {show(it.namespace)}"
+            refuse(it.path, PROCESS_LINE, f"says that it is {who} once more, after {before}")
         ranks[it.rank] = it
     return {**jobs}
 
@@ -106,30 +103,45 @@ def find_last_rank(call: Call, get: Get, namespace: bytes) -> Iterator[int]:
             yield int(read[1]) - 1
 
 
-def find_told_ranks(namespace: bytes, recordings: Sequence[Recording]) -> Iterator[int]:
-    """The ranks of a job that recordings tell of: by the size of MPI_COMM_WORLD, by the job's
-    size that the library told, and by sets of fences."""
+class Told(NamedTuple):
+    """A rank that a line of a recording tells of."""
+
+    rank: int
+    path: str
+    line: int
+
+
+def find_told_ranks(namespace: bytes, recordings: Sequence[Recording]) -> Iterator[Told]:
+    """The ranks of a job that recordings tell of: by their heads, by the size of MPI_COMM_WORLD,
+    by the job's size that the library told, and by sets of fences."""
     for it in recordings:
+        if it.namespace == namespace:
+            yield Told(it.rank, it.path, PROCESS_LINE)
         if it.world and it.namespace == namespace:
-            yield it.world.size - 1
-        for call in it.calls:
+            yield Told(it.world.size - 1, it.path, it.world.line)
+        for call in it.calls_of_pmix:
+            ranks: Iterator[int] = iter(())
             if isinstance(call.action, Fence):
-                yield from find_ranks_in_fence(call, call.action, namespace)
+                ranks = find_ranks_in_fence(call, call.action, namespace)
             elif isinstance(call.action, Get) and it.namespace == namespace:
-                yield from find_last_rank(call, call.action, namespace)
+                ranks = find_last_rank(call, call.action, namespace)
+            yield from (Told(rank, it.path, call.begins) for rank in ranks)
 
 
 def refuse_missing(
     namespace: bytes, ranks: Ranks, recordings: Sequence[Recording], most: Limits
 ) -> None:
     """Refuses a job of which a rank has no recording."""
-    count = max([*ranks, *find_told_ranks(namespace, recordings)]) + 1
+    last = max(find_told_ranks(namespace, recordings), key=lambda it: it.rank)
+    count = last.rank + 1
     missing = [it for it in range(min(count, 10 * most.processes)) if it not in ranks]
     if missing:
         some = ", ".join(map(str, missing[:NAMED])) + (", .." if len(missing) > NAMED else "")
-        raise Refused(
-            f"{show(namespace)} has {count} ranks, "
-            f"and there is no recording of {count - len(ranks)} of them: {some}"
+        refuse(
+            last.path,
+            last.line,
+            f"says that {show(namespace)} has {count} ranks, "
+            f"and there is no recording of {count - len(ranks)} of them: {some}",
         )
 
 

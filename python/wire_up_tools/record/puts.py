@@ -26,7 +26,7 @@ def find_puts(recording: Recording) -> Puts:
     waiting: set[bytes] = set()
     committed: set[bytes] = set()
     scopes: dict[bytes, set[str]] = {}
-    for call in recording.calls:
+    for call in recording.calls_of_pmix:
         action = call.action
         if isinstance(action, Put):
             scopes.setdefault(action.key, set()).add(action.scope)

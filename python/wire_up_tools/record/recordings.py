@@ -1,14 +1,17 @@
 """Reads recordings: files that say what one process called, one for each process."""
+import io
+import itertools
 import os
 import re
 from collections import Counter
 from collections.abc import Mapping, Sequence
 from dataclasses import dataclass, field
+from functools import cached_property
 from typing import NoReturn, Optional, Union
 
 from wire_up_tools.failures import Refused
 from wire_up_tools.limits import Limits
-from wire_up_tools.record.calls import Action, Call, End
+from wire_up_tools.record.calls import Call
 from wire_up_tools.record.forms import (
     WORD,
     Groups,
@@ -25,7 +28,8 @@ ENDING = ".recording"
 LAST_DATE = 253402300799
 
 NUMBER = r"\d{1,18}"
-# The lines at the head, and what is said where one is another.
+# The lines at the head, and what is said where one is another. The second names the process.
+PROCESS_LINE = 2
 HEAD = (
     (r"wire_up-recording 1", "isn't the first line of a recording"),
     (rf"process ({WORD}) (\d{{1,10}}) ({WORD}) {NUMBER}", "doesn't say which process it is"),
@@ -35,6 +39,7 @@ HEAD = (
 # A record: its sign (+ a call begins, - it ends, = all else), the number of the call, the thread,
 # the time, the number of its place in the program, and what it says.
 RECORD = re.compile(rf"([-+=]) ({NUMBER}) ({NUMBER}) \d{{1,18}}\.\d{{6}} (?:@(\d{{1,9}}) )?(.+)")
+FOREIGN = re.compile(rb"[^ -~\n]")
 LOST = "lost"
 NO_RECORD = "isn't a record"
 
@@ -53,10 +58,11 @@ Place = Union[Address, str]
 
 @dataclass(frozen=True)
 class World:
-    """The rank of a process in MPI_COMM_WORLD, and how many it has."""
+    """The rank of a process in MPI_COMM_WORLD, and how many it has; and the line that says so."""
 
     rank: int
     size: int
+    line: int
 
 
 @dataclass(frozen=True)
@@ -74,7 +80,8 @@ class RecordedCommunicator:
 class Recording:
     """What one process did, from the file at `path`; `began` is in seconds since 1970.
 
-    `others` counts the calls that are only counted, by their names. A process that
+    `others` counts the calls that are only counted, by their names, and `unseen` what called MPI
+    past the recorder, by what is said of it. A process that
     `has_finalized` has called nothing after PMIx_Finalize; the last line of a recording that
     `is_cut` was dropped.
     """
@@ -87,11 +94,17 @@ class Recording:
     began: float
     calls: Sequence[Call]
     others: Mapping[str, int]
+    unseen: Mapping[str, int]
     world: Optional[World]
     communicators: Mapping[int, RecordedCommunicator]
     places: Mapping[str, Place]
     has_finalized: bool
     is_cut: bool
+
+    @cached_property
+    def calls_of_pmix(self) -> Sequence[Call]:
+        """The calls of PMIx alone: they are few beside those of MPI."""
+        return [it for it in self.calls if it.is_of_pmix]
 
 
 # --- what isn't a call ---
@@ -99,8 +112,9 @@ class Recording:
 PLAIN = {
     "finalize": re.compile(r"finalize"),
     "other": re.compile(r"other (.+)"),
+    "unseen": re.compile(rf"unseen (call|object) ({WORD})"),
     "world": re.compile(r"world (\d{1,9}) (\d{1,9})"),
-    "comm": re.compile(r"comm (\d{1,9}) (\d{1,9}) ([wcgv]-?\d{1,18}) ([\d,-]+)"),
+    "comm": re.compile(r"comm (\d{1,9}) (\d{1,9}) ([wcgvs]-?\d{1,18}) ([\d,-]+)"),
     "inter": re.compile(r"inter (\d{1,9}) (\d{1,9}) (c-?\d{1,18}) ([\d,-]+) ([\d,-]+)"),
     "place": re.compile(rf"place (\d{{1,9}}) ({WORD}) ([0-9a-f]{{1,16}})"),
     "line": re.compile(rf"line (\d{{1,9}}) ({WORD}) (\d{{1,9}}) ({WORD})"),
@@ -119,6 +133,18 @@ def read_line(groups: Groups) -> Place:
     return f"{function} ({os.path.basename(file)}:{groups[2]})"
 
 
+# What is said of the process when something called MPI past the recorder, by its kind.
+UNSEEN = {
+    "call": "calls of {} that a library took elsewhere: what it called of MPI isn't seen",
+    "object": "processes in which {} calls MPI past the recorder: its calls aren't seen",
+}
+
+
+def read_unseen(groups: Groups) -> str:
+    """What is said of something that called MPI past the recorder. Raises ValueError."""
+    return UNSEEN[groups[0]].format(make_printable(os.path.basename(decode_text(groups[1]))))
+
+
 # --- files ---
 
 
@@ -128,31 +154,17 @@ def refuse(path: str, number: int, why: str) -> NoReturn:
 
 
 @dataclass
-class Opened:
-    """A call that has begun: its index among the calls of its recording, and what is known."""
-
-    __slots__ = ("index", "action", "begins", "thread", "place")
-
-    index: int
-    action: Action
-    begins: int
-    thread: str
-    place: Optional[str]
-
-    def finish(self, ends: Optional[int], end: Optional[End]) -> Call:
-        """The call with its end, if it has one."""
-        return Call(self.action, self.begins, self.thread, self.place, ends, end)
-
-
-@dataclass
 class Records:
     """The records of a file, as far as they are read: what has ended, what is open, and the
-    rest. `calls` are in the order in which they began, and None while they are open."""
+    rest. `calls` are in the order in which they began, and those in `opened` haven't ended yet,
+    by their numbers. A word that many calls have is kept once, in `words`."""
 
     path: str
-    calls: list[Optional[Call]] = field(default_factory=list)
-    opened: dict[str, Opened] = field(default_factory=dict)
+    calls: list[Call] = field(default_factory=list)
+    opened: dict[str, Call] = field(default_factory=dict)
+    words: dict[str, str] = field(default_factory=dict)
     others: Counter[str] = field(default_factory=Counter)
+    unseen: Counter[str] = field(default_factory=Counter)
     world: Optional[World] = None
     communicators: dict[int, RecordedCommunicator] = field(default_factory=dict)
     places: dict[str, Place] = field(default_factory=dict)
@@ -168,20 +180,22 @@ class Records:
         sign, call, thread, place, text = record.groups()
         try:
             if sign == "+":
-                self.begin(call, Opened(len(self.calls), read_begin(text), number, thread, place))
+                thread = self.words.setdefault(thread, thread)
+                place = self.words.setdefault(place, place) if place else None
+                self.begin(call, Call(read_begin(text), number, thread, place, None, None))
             elif sign == "-":
                 self.end(call, number, text)
             else:
-                self.note(text)
+                self.note(number, text)
         except (ValueError, KeyError):
             refuse(self.path, number, NO_RECORD)
 
-    def begin(self, call: str, opened: Opened) -> None:
+    def begin(self, number: str, call: Call) -> None:
         """Takes a call that begins. Raises Refused."""
-        if call in self.opened:
-            refuse(self.path, opened.begins, "begins a call that is open")
-        self.opened[call] = opened
-        self.calls.append(None)
+        if number in self.opened:
+            refuse(self.path, call.begins, "begins a call that is open")
+        self.opened[number] = call
+        self.calls.append(call)
         self.has_finalized = False
 
     def end(self, call: str, number: int, text: str) -> None:
@@ -189,30 +203,25 @@ class Records:
         opened = self.opened.pop(call, None)
         if not opened:
             refuse(self.path, number, "ends a call that isn't open")
-        end = read_end(opened.action.verb, text)
-        self.calls[opened.index] = opened.finish(number, end)
+        opened.finish(number, read_end(opened.action.verb, text))
 
-    def note(self, text: str) -> None:
-        """Takes what isn't a call. Raises ValueError or KeyError."""
+    def note(self, number: int, text: str) -> None:
+        """Takes what isn't a call, of a line. Raises ValueError or KeyError."""
         verb = text.split(" ", 1)[0]
         groups = match(PLAIN[verb], text)
         self.has_finalized = verb == "finalize"
         if verb == "other":
             self.others[groups[0]] += 1
+        elif verb == "unseen":
+            self.unseen[read_unseen(groups)] += 1
         elif verb == "world":
-            self.world = World(int(groups[0]), int(groups[1]))
+            self.world = World(int(groups[0]), int(groups[1]), number)
         elif verb in ("comm", "inter"):
             self.communicators[int(groups[0])] = read_communicator(groups)
         elif verb == "place":
             self.places[groups[0]] = Address(decode_text(groups[1]), int(groups[2], 16))
         elif verb == "line":
             self.places[groups[0]] = read_line(groups)
-
-    def finish(self) -> list[Call]:
-        """All calls; those that are still open have no end."""
-        for opened in self.opened.values():
-            self.calls[opened.index] = opened.finish(None, None)
-        return [it for it in self.calls if it]
 
 
 @dataclass(frozen=True)
@@ -246,20 +255,23 @@ def read_head(path: str, lines: Sequence[str]) -> Head:
 
 
 def read_recording(path: str, data: bytes) -> Recording:
-    """The recording in the bytes of a file. A last line that was cut is dropped.
+    """The recording in the bytes of a file. A last line that was cut is dropped, and so are the
+    zeros that follow what a killed process wrote.
 
     Raises Refused for what is no recording.
     """
+    data = data.rstrip(b"\0")
     if not data:
         raise Refused(f"{path}: is empty, and no recording")
-    whole, line_feed, last = data.rpartition(b"\n")
-    foreign = re.search(rb"[^ -~\n]", whole)
+    end = data.rfind(b"\n") + 1
+    foreign = FOREIGN.search(data, 0, end)
     if foreign:
-        number = whole.count(b"\n", 0, foreign.start()) + 1
+        number = data.count(b"\n", 0, foreign.start()) + 1
         refuse(path, number, "has a byte that no recording has")
-    lines = whole.decode("ascii").split("\n") if line_feed else []
-    head, records = read_head(path, lines), Records(path)
-    for number, line in enumerate(lines[len(HEAD):], len(HEAD) + 1):
+    lines = io.TextIOWrapper(io.BytesIO(data), "ascii", "replace", newline="\n")
+    whole = (it[:-1] for it in lines if it.endswith("\n"))
+    head, records = read_head(path, [*itertools.islice(whole, len(HEAD))]), Records(path)
+    for number, line in enumerate(whole, len(HEAD) + 1):
         records.read(number, line)
     return Recording(
         path=path,
@@ -268,13 +280,14 @@ def read_recording(path: str, data: bytes) -> Recording:
         host=head.host,
         library=head.library,
         began=head.began,
-        calls=records.finish(),
+        calls=records.calls,
         others=records.others,
+        unseen=records.unseen,
         world=records.world,
         communicators=records.communicators,
         places=records.places,
         has_finalized=records.has_finalized,
-        is_cut=bool(last),
+        is_cut=end < len(data),
     )
 
 

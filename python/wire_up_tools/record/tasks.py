@@ -12,6 +12,7 @@ from wire_up_tools.checker import Checker, find_checker
 from wire_up_tools.failures import Refused
 from wire_up_tools.files import STANDARD_OUTPUT, write_whole
 from wire_up_tools.limits import LARGE, VERSION_1
+from wire_up_tools.record.notes import Notes
 from wire_up_tools.record.places import find_call_place, find_places, read_places, write_places
 from wire_up_tools.record.planning import Choices, Plan, make_plan
 from wire_up_tools.record.recordings import Recording, read_recordings
@@ -78,7 +79,15 @@ def say_where(asked: WhereRequest) -> int:
 
 def count_notes(notes: Mapping[str, int]) -> str:
     """Notes in a row, each with how often that was."""
-    return ", ".join(f"{count} {what}" for what, count in sorted(notes.items()))
+    return ", ".join(f"{count} {what}" for what, count in sorted(notes.items()) if count)
+
+
+def say_part(notes: Notes) -> None:
+    """Says why a verdict over a plan holds only in part, if it does."""
+    in_part = "a verdict over this plan holds only in part"
+    for before, noted in (("the run was cut off: ", notes.cut_off), ("", notes.more_ordered)):
+        if any(noted.values()):
+            say(f"{before}{in_part}: {count_notes(noted)}")
 
 
 def write_output(plan: Plan, recordings: Sequence[Recording], output: Output) -> None:
@@ -91,11 +100,7 @@ def write_output(plan: Plan, recordings: Sequence[Recording], output: Output) ->
     write_whole(output.plan, text)
     if output.answers:
         write_whole(output.answers, answers)
-    if plan.notes.more_ordered:
-        say(
-            "a verdict over this plan holds only in part: "
-            f"{count_notes(plan.notes.more_ordered)}"
-        )
+    say_part(plan.notes)
 
 
 def add_verdicts(plan: Plan, recordings: Sequence[Recording], checker: Checker) -> Plan:

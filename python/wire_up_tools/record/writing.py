@@ -5,13 +5,14 @@ from datetime import datetime, timezone
 from typing import Optional
 
 from wire_up_tools.limits import VERSION_1
-from wire_up_tools.record.calls import Collective, MessageEnd, Probe, Receive, Send
+from wire_up_tools.record.calls import Collective, LookupEnd, MessageEnd, Probe, Receive, Send
 from wire_up_tools.record.draft import Line
 from wire_up_tools.record.places import Places
 from wire_up_tools.record.planning import Plan
 from wire_up_tools.record.processes import Process
 from wire_up_tools.record.recordings import refuse_past
 from wire_up_tools.words import (
+    CUT_OFF,
     LEFT_OUT,
     LEFT_TO_LUCK,
     MORE_ORDERED,
@@ -47,6 +48,8 @@ STATUSES = {
 }
 # The comments for which there may be no room.
 LEFT_AWAY = (PLACE_COMMENT, f"{MPI_COMMENT}send", f"{MPI_COMMENT}receive")
+# The statuses of lookups that found a name at least.
+SUCCEEDED, NOT_FOUND = (0, -52), -46
 SUCCESS, WAITING, UNREACHED = STATUSES[0], "waiting", "unreached"
 
 
@@ -100,12 +103,13 @@ def say_notes(plan: Plan) -> Iterator[str]:
     """What the plan can't say, in lists."""
     notes = plan.notes
     lists = (
+        (CUT_OFF, notes.cut_off),
         (LEFT_OUT, notes.left_out),
         (MORE_ORDERED, notes.more_ordered),
         (WRITTEN_OTHERWISE, notes.otherwise),
     )
     for title, counted in lists:
-        if counted:
+        if any(counted.values()):
             yield f"# {title}"
             yield from (f"#   {count} {what}" for what, count in sorted(counted.items()) if count)
 
@@ -197,8 +201,10 @@ def write_plan(plan: Plan, places: Optional[Places] = None) -> str:
 
 
 def say_end(line: Line) -> str:
-    """How the call of a line ended."""
+    """How the call of a line ended. A lookup of several names succeeds if one is there."""
     end = line.call.end
+    if line.is_of_program and isinstance(end, LookupEnd) and end.status in SUCCEEDED:
+        return SUCCESS if line.value else STATUSES[NOT_FOUND]
     if line.is_of_program or not (end or line.verb == "publish"):
         status = end.status if end else 0
         return STATUSES.get(status, f"PMIX_STATUS_{status}") if end else WAITING

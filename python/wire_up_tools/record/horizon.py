@@ -1,0 +1,156 @@
+"""Finds up to where each process does what can change a finding: its last call that can race, and
+all that other processes learn from it before theirs.
+
+What MPI orders past that needs no lines. In a large recording that is most of it.
+"""
+from collections.abc import Iterator, Mapping, Sequence
+from dataclasses import dataclass, field
+
+from wire_up_tools.limits import VERSION_1
+from wire_up_tools.record.calls import Call
+from wire_up_tools.record.draft import Part
+from wire_up_tools.record.meetings import JointCalls
+from wire_up_tools.record.notes import Notes
+from wire_up_tools.record.open_groups import OpenGroup
+from wire_up_tools.record.processes import Process
+
+# How often all links are looked at before the search is given up: then everything can matter.
+MOST_ROUNDS = 16
+
+
+@dataclass(frozen=True)
+class Horizon:
+    """The last line of the recording of each process that can matter. Without any, all do."""
+
+    last: Mapping[Process, int] = field(default_factory=dict)
+
+    def has(self, process: Process, at: int) -> bool:
+        """Whether a line of the recording of a process can matter."""
+        return not self.last or at <= self.last[process]
+
+    def has_end(self, process: Process, call: Call) -> bool:
+        """Whether what a process learns by the end of a call can matter."""
+        return call.ends is not None and self.has(process, call.ends)
+
+    def choose_groups(self, groups: Sequence[OpenGroup], notes: Notes) -> Sequence[OpenGroup]:
+        """The groups of which a receive or probe can matter. Notes how many lines the others would
+        have."""
+        chosen, useless = [], 0
+        for it in groups:
+            if any(self.has_end(it.target, got.call) for got in it.group.asked):
+                chosen.append(it)
+            else:
+                useless += len(it.group.asked)
+        note_useless(useless, notes)
+        return chosen
+
+    def choose(self, meetings: Sequence[JointCalls], notes: Notes) -> Sequence[JointCalls]:
+        """The collectives that can matter. Notes how many lines the others would have."""
+        chosen, useless = [], 0
+        for it in meetings:
+            if any(self.has(process, call.begins) for process, call in it.calls.items()):
+                chosen.append(it)
+            else:
+                useless += len(it.calls)
+        note_useless(useless, notes)
+        return chosen
+
+
+def note_useless(count: int, notes: Notes) -> None:
+    """Notes that so many lines of MPI's order are left out."""
+    notes.left_out["lines of MPI's order, since they can't change a finding"] += count
+
+
+@dataclass(frozen=True)
+class Link:
+    """What a process learns at a line of its recording, it learns from a line of another's."""
+
+    __slots__ = ("target", "learns", "source", "tells")
+
+    target: Process
+    learns: int
+    source: Process
+    tells: int
+
+
+@dataclass(frozen=True)
+class Links:
+    """What orders processes besides messages: the calls of PMIx, and the collectives of MPI."""
+
+    program: Sequence[Part]
+    collectives: Sequence[JointCalls]
+
+    def find_first(self) -> dict[Process, int]:
+        """The last line of each process at which it calls what can race, or brings what races."""
+        last: dict[Process, int] = {}
+        for line in (it for part in self.program for it in part.lines):
+            at = max(line.at, line.call.ends or line.at) if line.is_relevant else 0
+            last[line.process] = max(last.get(line.process, 0), at)
+        return last
+
+    def links(self) -> Iterator[Link]:
+        """What processes learn by waits and fences of PMIx."""
+        for part in self.program:
+            for line, source in part.awaited.items():
+                yield Link(line.process, line.at, source.process, source.at)
+            for line, meeting in part.meetings.items():
+                for it in meeting.lines:
+                    yield Link(line.process, line.at, it.process, it.at)
+
+
+def reaches(last: Mapping[Process, int], target: Process, call: Call) -> bool:
+    """Whether the end of a call is before the last line of its process that can matter."""
+    return call.ends is not None and call.ends <= last[target]
+
+
+def extend(last: dict[Process, int], process: Process, at: int) -> bool:
+    """Puts the last line of a process further on, if it has to. Answers whether it had to."""
+    if at <= last[process]:
+        return False
+    last[process] = at
+    return True
+
+
+def extend_by_group(last: dict[Process, int], found: OpenGroup) -> bool:
+    """Takes what processes learn by the messages of a group."""
+    group, target, is_further = found.group, found.target, False
+    if not group.is_certain:
+        if any(reaches(last, target, it.call) for it in group.asked):
+            for stream, sends in group.streams.items():
+                is_further |= extend(last, found.peers[stream.source], sends[-1].begins)
+        return is_further
+    for send, got in group.pairs():
+        source = found.peers[got.stream.source]
+        if reaches(last, target, got.call):
+            is_further |= extend(last, source, send.begins)
+        if send.ends and send.ends <= last[source]:
+            is_further |= extend(last, target, got.call.begins)
+    return is_further
+
+
+def extend_by_collective(last: dict[Process, int], meeting: JointCalls) -> bool:
+    """Takes what processes learn by a collective."""
+    calls = meeting.calls
+    if not any(call.begins <= last[it] for it, call in calls.items()):
+        return False
+    return any([extend(last, it, call.begins) for it, call in calls.items()])
+
+
+def find_horizon(
+    processes: Sequence[Process], links: Links, groups: Sequence[OpenGroup]
+) -> Horizon:
+    """Up to where processes do what can matter; everywhere, if that are few calls."""
+    count = sum(it.group.message_count for it in groups) + len(links.collectives)
+    if count <= VERSION_1.calls:
+        return Horizon()
+    last = {**dict.fromkeys(processes, 0), **links.find_first()}
+    of_pmix = list(links.links())
+    for _ in range(MOST_ROUNDS):
+        further = [extend_by_group(last, it) for it in reversed(groups)]
+        further += [extend_by_collective(last, it) for it in reversed(links.collectives)]
+        further += [
+            extend(last, it.source, it.tells) for it in of_pmix if it.learns <= last[it.target]
+        ]
+        if not any(further):
+            return Horizon(last)
+    return Horizon()

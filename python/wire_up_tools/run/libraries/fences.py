@@ -1,0 +1,156 @@
+"""How fences end, by the rules of a library."""
+import collections
+from collections.abc import Mapping, Sequence
+from dataclasses import dataclass, field
+from typing import Optional
+
+from wire_up_tools.plan import Call
+from wire_up_tools.run.libraries.rules import Rule
+from wire_up_tools.run.libraries.traits import Kept, Mixed
+from wire_up_tools.run.libraries.world import SUCCESS, Arrival, Reply, World
+
+# What identifies a fence to the library: the job of a fence of all its ranks, or a list.
+Sign = tuple[str, ...]
+ALL, LIST = "all", "list"
+
+
+@dataclass(eq=False)
+class Meeting:
+    """The calls that the library takes for one fence."""
+
+    sign: Sign
+    arrived: dict[str, Arrival] = field(default_factory=dict)
+    has_brought: bool = False
+
+
+@dataclass(eq=False)
+class Fences:
+    """All fences of a run: how often each rank called each, and where each stands."""
+
+    world: World
+    counts: collections.Counter[tuple[str, Sign]] = field(default_factory=collections.Counter)
+    meetings: dict[tuple[Sign, int], Meeting] = field(default_factory=dict)
+    standing: dict[str, Meeting] = field(default_factory=dict)
+
+    def find_sign(self, call: Call) -> Sign:
+        """How the library knows a fence."""
+        job = call.rank.job
+        if call.target in ("all", f"{job}:*"):
+            return (ALL, job)
+        if not self.world.has(Rule.LIST_AS_SPELT):
+            return (LIST, *sorted(self.world.members(call)))
+        items: Sequence[str] = call.target.split(",")
+        return (LIST, *sorted(set(items) if self.world.traits.drops_repeats else items))
+
+    def arrive(self, call: Call) -> None:
+        """Lets a rank arrive."""
+        name, sign = call.rank.name, self.find_sign(call)
+        self.counts[name, sign] += 1
+        key = (sign, self.counts[name, sign])
+        meeting = self.meetings.setdefault(key, Meeting(sign))
+        meeting.arrived[name] = Arrival(
+            call.collects, dict(self.world.owners[name].elsewhere)
+        )
+        self.standing[name] = meeting
+
+    def leave(self, call: Call) -> Reply:
+        """How the fence ends for a rank that has arrived; None while it doesn't."""
+        end = End(self.world, call, self.standing[call.rank.name])
+        if end.is_barred() or not end.is_complete():
+            return None
+        del self.standing[call.rank.name]
+        reply = end.answer_mixed()
+        end.bring()
+        return reply or SUCCESS
+
+
+@dataclass(frozen=True, eq=False)
+class End:
+    """How a fence ends for one of its callers."""
+
+    world: World
+    call: Call
+    meeting: Meeting
+
+    @property
+    def members(self) -> frozenset[str]:
+        """The members, by the plan."""
+        return self.world.members(self.call)
+
+    @property
+    def arrived(self) -> Mapping[str, Arrival]:
+        """Those that have arrived at what the library takes for the same fence."""
+        return self.meeting.arrived
+
+    def node_of(self, name: str) -> str:
+        """The node of a rank."""
+        return self.world.ranks[name].node
+
+    @property
+    def nodes(self) -> list[str]:
+        """The nodes of the members."""
+        return sorted({self.node_of(it) for it in self.members})
+
+    def is_barred(self) -> bool:
+        """Whether it never ends."""
+        words = self.call.target.split(",")
+        repeats = len(set(words)) < len(words) and not self.world.traits.drops_repeats
+        if repeats and self.world.has(Rule.LIST_AS_SPELT):
+            return True
+        is_list = self.meeting.sign[0] == LIST and len(self.nodes) > 1
+        return is_list and self.call.collects and self.world.has(Rule.FENCE_OF_NODE)
+
+    def is_complete(self) -> bool:
+        """Whether all have arrived that it waits for."""
+        of_node = self.world.has(Rule.FENCE_OF_NODE)
+        here = self.call.rank.node
+        far = [it for it in self.members if self.node_of(it) != here]
+        if of_node and not self.call.collects:
+            return self.members.difference(far) <= self.arrived.keys()
+        if not self.members <= self.arrived.keys():
+            return False
+        return not of_node or all(self.arrived[it].collects for it in far)
+
+    def find_flags(self, node: Optional[str] = None) -> set[bool]:
+        """Whether those that have arrived collect, on a node or on all."""
+        there = [it for it in self.members if it in self.arrived]
+        return {self.arrived[it].collects for it in there if node in (None, self.node_of(it))}
+
+    def answer_mixed(self) -> Optional[str]:
+        """The reply of a fence whose callers differ in collecting, if it is another one."""
+        if len(self.find_flags()) < 2 or not self.world.has(Rule.MIXED_COLLECT):
+            return None
+        traits = self.world.traits
+        if traits.mixed is Mixed.FAILS:
+            return traits.invalid
+        self.bring_between_nodes()
+        return traits.invalid if len(self.find_flags(self.call.rank.node)) > 1 else None
+
+    def bring_between_nodes(self) -> None:
+        """Brings keys from each node whose callers collect to each other such node."""
+        whole = [it for it in self.nodes if self.find_flags(it) == {True}]
+        for member in self.members:
+            for node in whole if self.node_of(member) in whole else []:
+                if node != self.node_of(member):
+                    self.world.on_node[node, member].update(self.arrived[member].values)
+
+    def bring(self) -> None:
+        """Brings what its members committed to their nodes, once, if it collects."""
+        if self.find_flags() != {True} or len(self.nodes) < 2 or self.meeting.has_brought:
+            return
+        if self.world.has(Rule.COLLECT_BRINGS_NOTHING):
+            return
+        self.meeting.has_brought = True
+        jobs = {self.world.ranks[it].job for it in self.members}
+        if len(jobs) == 1 or self.world.traits.is_across_jobs:
+            for member in self.members & self.arrived.keys():
+                self.bring_from(member)
+
+    def bring_from(self, member: str) -> None:
+        """Brings what a member committed to the nodes of all members."""
+        values, is_apart = self.arrived[member].values, self.world.traits.kept is Kept.APART
+        for node in self.nodes:
+            if is_apart:
+                self.world.by_fences[node, member].update(values)
+            elif node != self.node_of(member):
+                self.world.on_node[node, member].update(values)

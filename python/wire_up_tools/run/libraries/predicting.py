@@ -1,0 +1,135 @@
+"""What a library replies to each call of a plan, and by which rule."""
+from collections.abc import Sequence
+from dataclasses import dataclass, field
+from typing import Optional
+
+from wire_up_tools.plan import Call, Plan, Rank
+from wire_up_tools.run.libraries.fences import Fences
+from wire_up_tools.run.libraries.gets import answer_get
+from wire_up_tools.run.libraries.name_calls import BAD, answer_name_call
+from wire_up_tools.run.libraries.rules import Rule
+from wire_up_tools.run.libraries.traits import Traits
+from wire_up_tools.run.libraries.world import SUCCESS, Held, Question, Reply, World
+from wire_up_tools.run.reports import (
+    UNREACHED,
+    WAITING,
+    Difference,
+    Line,
+    Place,
+    Report,
+    compare,
+)
+from wire_up_tools.words import is_reserved
+
+
+@dataclass(eq=False)
+class Prediction:
+    """A run of a plan by the rules of a library."""
+
+    world: World
+    fences: Fences = field(init=False)
+    replies: dict[str, list[str]] = field(init=False)
+
+    def __post_init__(self) -> None:
+        self.fences = Fences(self.world)
+        self.replies = {it.name: [] for it in self.world.plan.ranks}
+
+    def find_call(self, rank: Rank) -> Optional[Call]:
+        """The call at which a rank stands."""
+        calls, done = self.world.plan.calls_of[rank.name], len(self.replies[rank.name])
+        return calls[done] if done < len(calls) else None
+
+    def step(self, rank: Rank) -> bool:
+        """Takes the next step of a rank, and answers whether it could."""
+        call = self.find_call(rank)
+        if call is None:
+            return False
+        if call.verb == "fence" and rank.name not in self.fences.standing:
+            self.fences.arrive(call)
+            return True
+        reply = self.fences.leave(call) if call.verb == "fence" else self.answer(call)
+        if reply is not None:
+            self.replies[rank.name].append(reply)
+        return reply is not None
+
+    def answer(self, call: Call) -> Reply:
+        """What a call gives that is no fence; None where it waits."""
+        owner = self.world.owners[call.rank.name]
+        if call.verb == "put":
+            return self.put(call)
+        if call.verb == "commit":
+            owner.commit()
+            return SUCCESS
+        if call.verb in ("get", "get-now"):
+            of = self.world.ranks[call.target]
+            asked = Question(self.world, call.rank, of, call.about, call.verb == "get")
+            return answer_get(asked)
+        return answer_name_call(self.world, call)
+
+    def put(self, call: Call) -> Reply:
+        """What a put gives."""
+        key, owner = call.about, self.world.owners[call.rank.name]
+        is_taken = self.world.traits.takes_reserved or key.startswith("PMIX_")
+        if is_reserved(key) and not (self.world.has(Rule.RESERVED_KEYS) and is_taken):
+            return BAD
+        held = Held(call.target, key, call.words[3])
+        owner.put[key] = held
+        owner.held.append(held)
+        return SUCCESS
+
+    def run(self, order: Sequence[str]) -> None:
+        """Takes the steps of an order, as far as they can be taken, and then those of the lowest
+        rank that can go on."""
+        for name in order:
+            self.step(self.world.ranks[name])
+        ranks = self.world.plan.ranks
+        while any(self.step(it) for it in ranks):
+            pass
+
+    def report(self) -> Report:
+        """What became of all calls."""
+        lines = []
+        for rank in self.world.plan.ranks:
+            replies = self.replies[rank.name]
+            for call in self.world.plan.calls_of[rank.name]:
+                at = call.number - 1
+                after = WAITING if at == len(replies) else UNREACHED
+                place = Place(rank.name, call.number, call.verb)
+                lines.append(Line(place, replies[at] if at < len(replies) else after))
+        return Report(lines)
+
+
+def predict(
+    plan: Plan, traits: Traits, without: Optional[Rule] = None, order: Sequence[str] = ()
+) -> Report:
+    """The report of a library by its rules, or by all of them but one."""
+    rules = traits.rules if without is None else traits.rules - {without}
+    prediction = Prediction(World(plan, traits, rules))
+    prediction.run(order)
+    return prediction.report()
+
+
+@dataclass(frozen=True)
+class Predicted:
+    """A call that a library answers otherwise, and the rules without which it would not reply so;
+    where there is none, several rules do it together."""
+
+    difference: Difference
+    rules: Sequence[Rule]
+
+
+def explain_differences(
+    plan: Plan, traits: Traits, rules: Report, order: Sequence[str] = ()
+) -> list[Predicted]:
+    """The calls that a library answers otherwise than the rules' report, each with why."""
+    found = compare(rules, predict(plan, traits, order=order))
+    if not found:
+        return []
+    others = {
+        rule: {it.place: it.reply for it in predict(plan, traits, rule, order).lines}
+        for rule in sorted(traits.rules, key=lambda it: it.name)
+    }
+    return [
+        Predicted(it, [rule for rule, said in others.items() if said[it.place] != it.library])
+        for it in found
+    ]

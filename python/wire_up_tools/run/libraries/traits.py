@@ -1,0 +1,170 @@
+"""Which rules each library has, and how: read off the tables of what it did."""
+import enum
+import os
+from collections.abc import Mapping
+from dataclasses import dataclass
+from typing import Optional
+
+from wire_up_tools.run.launchers import Kind
+from wire_up_tools.run.libraries.rules import Rule
+
+TABLES = os.path.join(os.path.dirname(os.path.dirname(os.path.abspath(__file__))), "tables")
+OUTSIDE = "PMIX_ERR_EXISTS_OUTSIDE_SCOPE"
+
+
+class Mixed(enum.Enum):
+    """What a fence does whose callers differ in collecting."""
+
+    COLLECTS_NOT = "it doesn't collect"
+    FAILS_ON_NODE = "it fails on a node with both; from the other nodes it may bring"
+    FAILS = "it fails"
+
+
+class Publish(enum.Enum):
+    """What a second publish of a name does."""
+
+    REFUSED = "it is refused"
+    ADDED = "it is added to the first"
+
+
+class Several(enum.Enum):
+    """What a lookup of a name gives that is published more than once."""
+
+    LAST = "the last value"
+    PARTIAL = "a status that says so, without a value"
+
+
+class Kept(enum.Enum):
+    """Where what fences brought is kept on a node."""
+
+    WITH_GETS = "with what gets brought"
+    APART = "apart, where it is seen before all else"
+
+
+class MapRule(enum.Enum):
+    """Of which ranks the map can be asked."""
+
+    EVERY_RANK = "of every rank"
+    OWN_JOB = "of ranks of the caller's job"
+    OWN_JOB_AND_NODE = "of ranks of the caller's job, on other nodes for the host name alone"
+
+
+@dataclass(frozen=True)
+class Traits:
+    """How a library answers.
+
+    `local_elsewhere` is the reply for a key of scope local on another node, `invalid` that for a
+    fence whose callers differ. With `asks_owner_at_once` a get of a rank on another node that has
+    committed anything is answered at once. `drops_repeats`: a list is taken as a set.
+    `is_across_jobs`: a fence that collects brings keys to other jobs too.
+    """
+
+    rules: frozenset[Rule]
+    local_elsewhere: str = OUTSIDE
+    invalid: str = ""
+    asks_owner_at_once: bool = False
+    drops_repeats: bool = False
+    is_across_jobs: bool = True
+    has_names: bool = True
+    unpublishes_of_others: bool = False
+    takes_reserved: bool = True
+    has_own_reserved: bool = True
+    asks_owner_of_reserved: bool = False
+    mixed: Mixed = Mixed.COLLECTS_NOT
+    publish: Publish = Publish.ADDED
+    several: Several = Several.PARTIAL
+    kept: Kept = Kept.WITH_GETS
+    map_rule: MapRule = MapRule.OWN_JOB
+
+
+COMMON = frozenset(
+    {
+        Rule.LIST_AS_SPELT,
+        Rule.REMOTE_ON_OWN_NODE,
+        Rule.GET_BRINGS_ALL,
+        Rule.LOCAL_ELSEWHERE,
+        Rule.RESERVED_KEYS,
+        Rule.NAMES,
+    }
+)
+
+
+@dataclass(frozen=True)
+class Library:
+    """A library with the host that served it, by versions; and what is known of it. `release` is
+    how what it says of its version begins, and `kind` that of its launcher."""
+
+    name: str
+    version: str
+    host: str
+    release: str
+    kind: Kind
+    traits: Traits
+
+    @property
+    def table(self) -> str:
+        """The path of the table of what it did."""
+        return os.path.join(TABLES, f"{self.name}.txt")
+
+
+OPENPMIX_4 = Traits(
+    rules=COMMON | {Rule.OWNER_ANSWERS, Rule.MIXED_COLLECT, Rule.OWN_FROM_STORE},
+    local_elsewhere="PMIX_STATUS(-13,HANDSHAKE-FAILED)",
+    invalid="PMIX_STATUS(-33,INVALID-ARG)",
+    asks_owner_at_once=True,
+    is_across_jobs=False,
+    has_own_reserved=False,
+    mixed=Mixed.FAILS_ON_NODE,
+    several=Several.LAST,
+    map_rule=MapRule.EVERY_RANK,
+)
+OPENPMIX_5 = Traits(rules=COMMON | {Rule.KEPT_BY_CALLER, Rule.COLLECT_BRINGS_NOTHING})
+OPENPMIX_7 = Traits(
+    rules=COMMON | {Rule.KEPT_BY_CALLER, Rule.MIXED_COLLECT},
+    invalid="PMIX_STATUS(-33,INVALID_ARG)",
+    drops_repeats=True,
+    is_across_jobs=False,
+    unpublishes_of_others=True,
+    takes_reserved=False,
+    asks_owner_of_reserved=True,
+    mixed=Mixed.FAILS,
+    publish=Publish.REFUSED,
+    kept=Kept.APART,
+)
+SLURM = Traits(
+    rules=COMMON | {Rule.KEPT_BY_CALLER, Rule.OWNER_ANSWERS, Rule.FENCE_OF_NODE},
+    local_elsewhere="PMIX_ERROR",
+    asks_owner_at_once=True,
+    has_names=False,
+    map_rule=MapRule.OWN_JOB_AND_NODE,
+)
+_ALL = (
+    Library(
+        "openpmix-4.2",
+        "OpenPMIx 4.2.2",
+        "orted of Open MPI 4.1.4",
+        "OpenPMIx 4.",
+        Kind.OPEN_MPI_4,
+        OPENPMIX_4,
+    ),
+    Library(
+        "openpmix-5.0", "OpenPMIx 5.0.7", "PRRTE 3.0.8", "OpenPMIx 5.", Kind.PRRTE, OPENPMIX_5
+    ),
+    Library(
+        "openpmix-7.0",
+        "OpenPMIx 7.0.0rc1",
+        "PRRTE 5.0.0rc1",
+        "OpenPMIx 7.",
+        Kind.PRRTE,
+        OPENPMIX_7,
+    ),
+    Library("slurm-24.11", "OpenPMIx 5.0.7", "Slurm 24.11.5", "OpenPMIx 5.", Kind.SLURM, SLURM),
+)
+LIBRARIES: Mapping[str, Library] = {it.name: it for it in _ALL}
+
+
+def find_library(version: str, kind: Kind) -> Optional[Library]:
+    """The library of which most is known that is like one of this version, with a launcher of this
+    kind: of the same release."""
+    alike = (it for it in _ALL if it.kind is kind and version.startswith(it.release))
+    return next(alike, None)

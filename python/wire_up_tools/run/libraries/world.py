@@ -1,0 +1,159 @@
+"""What ranks and servers know while the steps of a plan are taken by the rules of a library."""
+import collections
+from collections.abc import Mapping
+from dataclasses import dataclass, field
+from typing import Optional
+
+from wire_up_tools.plan import Call, Plan, Rank, find_sets
+from wire_up_tools.run.libraries.rules import Rule
+from wire_up_tools.run.libraries.traits import Traits
+
+# Keys with their values.
+Values = dict[str, str]
+
+
+@dataclass(frozen=True)
+class Held:
+    """A put: its scope, its key and its value."""
+
+    scope: str
+    key: str
+    value: str
+
+
+@dataclass(frozen=True)
+class Published:
+    """A value under a name, and who published it."""
+
+    owner: Rank
+    value: str
+
+
+@dataclass(frozen=True)
+class Arrival:
+    """A rank at a fence: whether it collects, and what it had committed for other nodes."""
+
+    collects: bool
+    values: Mapping[str, str]
+
+
+@dataclass(eq=False)
+class Owner:
+    """What a rank has put and committed. `held` waits for the next commit; `here` is for its own
+    node and `elsewhere` for others, and `committed` has the scope of the last commit of a key."""
+
+    put: dict[str, Held] = field(default_factory=dict)
+    held: list[Held] = field(default_factory=list)
+    here: Values = field(default_factory=dict)
+    elsewhere: Values = field(default_factory=dict)
+    committed: dict[str, Held] = field(default_factory=dict)
+
+    def commit(self) -> None:
+        """Hands all that is held to the server."""
+        for it in self.held:
+            self.committed[it.key] = it
+            if it.scope != "remote":
+                self.here[it.key] = it.value
+            if it.scope != "local":
+                self.elsewhere[it.key] = it.value
+        self.held.clear()
+
+
+@dataclass(eq=False)
+class World:
+    """All that is known. `on_node` is what a node has of a rank elsewhere, `by_fences` what fences
+    brought where that is kept apart, and `in_caller` what a rank has been given of another."""
+
+    plan: Plan
+    traits: Traits
+    rules: frozenset[Rule]
+    owners: dict[str, Owner] = field(init=False)
+    on_node: dict[tuple[str, str], Values] = field(init=False)
+    by_fences: dict[tuple[str, str], Values] = field(init=False)
+    in_caller: dict[tuple[str, str], Values] = field(init=False)
+    names: dict[str, list[Published]] = field(init=False)
+    sets: Mapping[tuple[str, str], frozenset[str]] = field(init=False)
+    ranks: Mapping[str, Rank] = field(init=False)
+
+    def __post_init__(self) -> None:
+        self.owners = {it.name: Owner() for it in self.plan.ranks}
+        self.on_node = collections.defaultdict(dict)
+        self.by_fences = collections.defaultdict(dict)
+        self.in_caller = collections.defaultdict(dict)
+        self.names = collections.defaultdict(list)
+        fences = [it for it in self.plan.list_single() if it.verb == "fence"]
+        self.sets = find_sets(self.plan.declared, fences)
+        self.ranks = {it.name: it for it in self.plan.ranks}
+
+    def has(self, rule: Rule) -> bool:
+        """Whether the library has a rule."""
+        return rule in self.rules
+
+    def members(self, call: Call) -> frozenset[str]:
+        """The ranks of the set of a fence."""
+        return self.sets[call.rank.job, call.target]
+
+
+@dataclass(frozen=True)
+class Question:
+    """A get: who asks, of whom, for which key, and whether it waits."""
+
+    world: World
+    caller: Rank
+    owner: Rank
+    key: str
+    waits: bool
+
+    @property
+    def is_own(self) -> bool:
+        """Whether a rank asks for a key of its own."""
+        return self.caller is self.owner
+
+    @property
+    def is_near(self) -> bool:
+        """Whether both are on one node."""
+        return self.caller.node == self.owner.node
+
+    @property
+    def is_of_job(self) -> bool:
+        """Whether both are of one job."""
+        return self.caller.job == self.owner.job
+
+    @property
+    def put(self) -> Owner:
+        """What the owner has put and committed."""
+        return self.world.owners[self.owner.name]
+
+    def has(self, rule: Rule) -> bool:
+        """Whether the library has a rule."""
+        return self.world.has(rule)
+
+    @property
+    def traits(self) -> Traits:
+        """How the library answers."""
+        return self.world.traits
+
+    @property
+    def on_node(self) -> Values:
+        """What the caller's node has of the owner."""
+        return self.world.on_node[self.caller.node, self.owner.name]
+
+    @property
+    def in_caller(self) -> Values:
+        """What the caller was given of the owner."""
+        return self.world.in_caller[self.caller.name, self.owner.name]
+
+    @property
+    def by_fences(self) -> Values:
+        """What fences brought of the owner to the caller's node, where that is kept apart."""
+        return self.world.by_fences[self.caller.node, self.owner.name]
+
+
+# A reply as a report writes it; None: the call waits.
+Reply = Optional[str]
+SUCCESS, NOT_FOUND = "PMIX_SUCCESS", "PMIX_ERR_NOT_FOUND"
+
+
+def succeed(value: str) -> str:
+    """The reply of a call that found a value."""
+    return f"{SUCCESS} {value}"

@@ -1,0 +1,338 @@
+"""Runs a plan on a real library: each rank is a process that makes its calls."""
+import contextlib
+import os
+import shutil
+import signal
+import subprocess
+import tempfile
+import threading
+import time
+from collections.abc import Iterator, Sequence
+from dataclasses import dataclass, field
+from typing import Optional
+
+from wire_up_tools.failures import Refused
+from wire_up_tools.plan import Plan, Rank
+from wire_up_tools.run import fake_nodes
+from wire_up_tools.run.channels import Channel, Hall, Heard, open_hall
+from wire_up_tools.run.launchers import (
+    Kind,
+    Launcher,
+    Start,
+    make_environment,
+    write_command,
+    write_hosts,
+)
+from wire_up_tools.run.ranks import (
+    LiveRank,
+    find_standing,
+    hold_places,
+    list_jobs,
+    make_report,
+    number_jobs,
+    write_script,
+)
+from wire_up_tools.run.reports import Report
+from wire_up_tools.run.turns import Turns, read_steps
+
+# How often what is waited for is looked at, and how long a launcher may take to end, in seconds.
+TICK, PATIENCE = 0.02, 5.0
+# The job of the process that starts the jobs of a plan.
+STARTER = "start"
+LINE_LENGTH = 200
+
+
+class Stopped(Exception):
+    """A run was stopped: something else needs no answer of it any more."""
+
+
+@dataclass(frozen=True)
+class Setting:
+    """How plans are run. `hosts` are those of the nodes in their order; None means fake nodes.
+
+    `quiet` is after how many seconds without progress the rest counts as waiting, `start` how long
+    the ranks may take to be there. `stop` ends all runs.
+    """
+
+    launcher: Launcher
+    program: str
+    hosts: Optional[Sequence[str]] = None
+    quiet: float = 6.0
+    start: float = 60.0
+    stop: threading.Event = field(default_factory=threading.Event)
+
+
+@dataclass(frozen=True)
+class Task:
+    """A plan that is run, and in which order, if in one. With `is_held` nothing comes after it."""
+
+    plan: Plan
+    order: Optional[Sequence[str]] = None
+    is_held: bool = False
+
+
+@dataclass(frozen=True)
+class Outcome:
+    """What came of a run: the library's version, and the calls that didn't keep to the order."""
+
+    report: Report
+    library: str
+    late: Sequence[str] = ()
+
+
+@dataclass(eq=False)
+class Run:
+    """A run that is under way."""
+
+    task: Task
+    setting: Setting
+    hall: Hall
+    process: "subprocess.Popen[bytes]"
+    ranks: dict[str, LiveRank] = field(default_factory=dict)
+    names: dict[Channel, str] = field(default_factory=dict)
+    spaces: dict[str, str] = field(default_factory=dict)
+    library: str = ""
+    turns: Optional[Turns] = None
+
+    @property
+    def plan(self) -> Plan:
+        """The plan that is run."""
+        return self.task.plan
+
+    def hear(self) -> list[Heard]:
+        """What comes within a tick. Raises Stopped, and Refused if the launcher has ended."""
+        if self.setting.stop.is_set():
+            raise Stopped
+        heard = list(self.hall.hear(TICK))
+        if not heard and self.process.poll() is not None:
+            raise Refused(self.explain_end())
+        return heard
+
+    def explain_end(self) -> str:
+        """Why there are no ranks any more: how the launcher ended, and what it said first."""
+        status = self.process.returncode
+        how = f"with status {status}" if status >= 0 else f"by signal {-status}"
+        list(self.hall.hear(TICK))
+        lines = self.hall.said.decode("utf-8", "replace").split("\n")
+        said = [it.strip() for it in lines if it.strip(" -=*\t\r")]
+        first = f": {said[0][:LINE_LENGTH]}" if said else ""
+        return f"{self.setting.launcher.name} ended {how} before the ranks did{first}"
+
+    def gather(self) -> None:
+        """Waits until all ranks are there. Raises Refused, Stopped."""
+        until = time.monotonic() + self.setting.start
+        while len(self.ranks) < len(self.plan.ranks):
+            for it in self.hear():
+                self.meet(it)
+            if time.monotonic() > until:
+                count = f"{len(self.ranks)} of {len(self.plan.ranks)} ranks"
+                raise Refused(f"only {count} came up in {self.setting.start:g} seconds")
+
+    def meet(self, heard: Heard) -> None:
+        """Takes what a process says before its script begins. Raises Refused."""
+        if heard.line is None:
+            if heard.channel in self.names:
+                raise Refused(f"{self.names[heard.channel]} ended before its script began")
+            return
+        words = heard.line.split(" ", 6)
+        if words[0] == "started" and heard.channel in self.names:
+            if words[2] != "PMIX_SUCCESS":
+                raise Refused(f"{self.setting.launcher.name} starts no further job: {words[2]}")
+        elif len(words) < 4 or words[1] != self.hall.word:
+            heard.channel.connection.shutdown(2)
+        elif words[0] == "failed":
+            raise Refused(f"PMIx_Init replied {words[3]}: was it started by a PMIx server?")
+        elif words[2] == STARTER:
+            self.start_jobs(heard.channel)
+        else:
+            self.add_rank(heard.channel, words)
+
+    def start_jobs(self, channel: Channel) -> None:
+        """Tells the process that is there first to start the jobs."""
+        numbers = number_jobs(self.plan)
+        self.names[channel] = "the process that starts the jobs"
+        for job in list_jobs(self.plan):
+            ranks = [it for it in self.plan.ranks if it.job == job]
+            hosts = choose_hosts(self.plan, ranks, self.setting.hosts)
+            channel.send(f"start {numbers[job]} {','.join(hosts)}")
+
+    def add_rank(self, channel: Channel, words: Sequence[str]) -> None:
+        """Takes a rank. Raises Refused if the plan has none such."""
+        _, _, job, space, number, host, self.library = words
+        jobs = self.plan.declared.jobs
+        name = f"{jobs[int(job)]}:{number}"
+        rank = next((it for it in self.plan.ranks if it.name == name), None)
+        if rank is None or name in self.ranks:
+            raise Refused(f"a process came up as {name}: the plan has no such rank, or one")
+        self.ranks[name] = LiveRank(rank, channel, host, space)
+        self.names[channel] = name
+        self.spaces[rank.job] = space
+
+    def begin(self) -> None:
+        """Tells each rank its script, and how it may go on."""
+        for it in self.ranks.values():
+            it.channel.send(*write_script(self.plan, it.rank, self.spaces))
+        if self.task.order is None:
+            for it in self.ranks.values():
+                it.channel.send("free")
+        else:
+            steps = read_steps(self.plan, self.task.order)
+            patience = self.setting.quiet / 2
+            self.turns = Turns(steps, self.ranks, patience, not self.task.is_held)
+
+    def follow(self) -> None:
+        """Follows the ranks until all are done, or nothing has moved for a time. Raises Refused,
+        Stopped."""
+        changed = time.monotonic()
+        at = -1
+        while not self.is_done():
+            heard = self.hear()
+            for it in heard:
+                self.take(it)
+            if self.turns:
+                self.turns.go_on()
+            moved = self.turns is not None and self.turns.at != at
+            if heard or moved:
+                changed, at = time.monotonic(), self.turns.at if self.turns else -1
+            if time.monotonic() - changed > self.setting.quiet:
+                return
+
+    def is_done(self) -> bool:
+        """Whether nothing more can come."""
+        if self.turns and self.turns.is_over and self.task.is_held:
+            return not any(it.is_in_call for it in self.ranks.values())
+        return all(it.is_done for it in self.ranks.values())
+
+    def take(self, heard: Heard) -> None:
+        """Takes what a rank says. Raises Refused if it has ended."""
+        name = self.names.get(heard.channel)
+        if name is None:
+            return
+        if name not in self.ranks:
+            if heard.line is None:
+                raise Refused(f"{name} ended before the ranks did")
+            return
+        live = self.ranks[name]
+        if heard.line is not None:
+            live.take(heard.line)
+            return
+        call = find_standing(live, self.plan.calls_of[name])
+        at = f" at its call {call.number} {call.verb}" if call else ""
+        raise Refused(f"{name} ended{at} before the run did: the library or a signal ended it")
+
+    def run(self) -> Outcome:
+        """Runs the plan to its end. Raises Refused, Stopped, OSError."""
+        self.gather()
+        node_of = hold_places(list(self.ranks.values()))
+        self.begin()
+        self.follow()
+        report = make_report(self.plan, self.ranks, node_of, self.task.is_held)
+        for channel, name in self.names.items():
+            if name not in self.ranks or self.ranks[name].is_done:
+                channel.send("end")
+        return Outcome(report, self.library, self.turns.late if self.turns else ())
+
+
+def choose_hosts(
+    plan: Plan, ranks: Sequence[Rank], hosts: Optional[Sequence[str]]
+) -> list[str]:
+    """The host of each rank. Raises Refused if there are too few."""
+    nodes = plan.declared.nodes
+    names = [fake_nodes.name_host(*it) for it in enumerate(nodes)] if hosts is None else hosts
+    if len(names) < len(nodes):
+        raise Refused(f"the plan has {len(nodes)} nodes, and there are {len(names)} hosts")
+    host_of = dict(zip(nodes, names))
+    return [host_of[it.node] for it in ranks]
+
+
+def end_process(process: "subprocess.Popen[bytes]", is_fake: bool) -> None:
+    """Ends a launcher with all that it started. Among fake nodes all ends with the first process;
+    elsewhere the launcher is given time to take its daemons down."""
+    if not is_fake and not ends_within(process, PATIENCE):
+        process.terminate()
+        ends_within(process, PATIENCE)
+    with contextlib.suppress(ProcessLookupError):
+        os.killpg(process.pid, signal.SIGKILL)
+    process.wait()
+
+
+def ends_within(process: "subprocess.Popen[bytes]", seconds: float) -> bool:
+    """Whether a process ends within a time."""
+    with contextlib.suppress(subprocess.TimeoutExpired):
+        process.wait(seconds)
+    return process.returncode is not None
+
+
+def is_among_fake_nodes(setting: Setting) -> bool:
+    """Whether plans are run on fake nodes."""
+    return setting.hosts is None and setting.launcher.makes_fake_nodes
+
+
+def make_start(task: Task, setting: Setting, folder: str, hall: Hall) -> Start:
+    """What is started. Raises Refused, OSError."""
+    plan, launcher = task.plan, setting.launcher
+    jobs = list_jobs(plan)
+    has_several = len(jobs) > 1
+    if has_several and not launcher.takes_several_jobs:
+        raise Refused(f"{launcher.name} starts one job: the plan has {len(jobs)}")
+    is_fake = is_among_fake_nodes(setting)
+    hosts = choose_hosts(plan, plan.ranks, setting.hosts)
+    if has_several and is_fake:
+        hosts.insert(0, fake_nodes.HEAD)
+    job = STARTER if has_several else str(number_jobs(plan)[jobs[0]])
+    program = [setting.program, hall.address, hall.word, job]
+    agent = fake_nodes.write_agent(folder) if is_fake else None
+    return Start(program, hosts, has_several, folder, agent)
+
+
+def start_process(task: Task, setting: Setting, folder: str, hall: Hall) -> Run:
+    """Starts a run. Raises Refused, OSError."""
+    start, launcher = make_start(task, setting, folder, hall), setting.launcher
+    with open(start.host_file, "w", encoding="utf-8") as it:
+        it.write(write_hosts(launcher, start))
+    before: list[str] = []
+    if start.agent:
+        table = fake_nodes.write_names(folder, start.hosts)
+        before = fake_nodes.write_start(table if launcher.kind is Kind.PRRTE else None)
+    process = subprocess.Popen(
+        [*before, *write_command(launcher, start)],
+        stdin=subprocess.DEVNULL,
+        stdout=subprocess.PIPE,
+        stderr=subprocess.STDOUT,
+        env=make_environment(launcher, start),
+        start_new_session=True,
+    )
+    assert process.stdout
+    hall.watch(process.stdout.fileno())
+    return Run(task, setting, hall, process)
+
+
+def end(run: Run) -> None:
+    """Ends a run: its ranks first, which end where nobody listens any more."""
+    run.hall.close()
+    end_process(run.process, is_among_fake_nodes(run.setting))
+    if run.process.stdout:
+        run.process.stdout.close()
+
+
+@contextlib.contextmanager
+def started(task: Task, setting: Setting) -> Iterator[Run]:
+    """A run that has started. At the end nothing of it is left. Raises Refused, OSError."""
+    folder = tempfile.mkdtemp(prefix="wire_up-run-")
+    try:
+        with contextlib.closing(open_hall(folder, is_among_fake_nodes(setting))) as hall:
+            run = start_process(task, setting, folder, hall)
+            try:
+                yield run
+            finally:
+                end(run)
+    finally:
+        shutil.rmtree(folder, ignore_errors=True)
+
+
+def run_plan(task: Task, setting: Setting) -> Outcome:
+    """Runs a plan once. Raises Refused, Stopped, OSError."""
+    if not task.plan.ranks:
+        return Outcome(Report([]), "")
+    with started(task, setting) as it:
+        return it.run()

@@ -1,0 +1,146 @@
+"""What is known of libraries: the plans of the suite, the tables of what libraries did, and their
+rules, which predict it."""
+import unittest
+from collections.abc import Mapping
+
+import grammar
+import model
+from running import ProgramCase, text_of, written
+from test_run_parts import run
+from wire_up_tools.plan import read_plan
+from wire_up_tools.run.libraries.predicting import explain_differences, predict
+from wire_up_tools.run.libraries.rules import Rule
+from wire_up_tools.run.libraries.traits import LIBRARIES, Library
+from wire_up_tools.run.profile import ProfileRule
+from wire_up_tools.run.reports import Report, read_report
+from wire_up_tools.run.suite import Kind, SuitePlan, read_suite
+from wire_up_tools.run.tables import Recorded, read_table
+
+# Plans that differ, and that the rules of a library don't explain: a node on which some callers of
+# a fence collect and some don't.
+UNEXPLAINED = {
+    "openpmix-5.0": ["collect-mixed-one-node"],
+    "slurm-24.11": ["collect-mixed-one-node"],
+}
+PLANS = {it.name: it for it in read_suite()}
+
+
+def rules_report(plan: SuitePlan) -> Report:
+    """The report of the rules, by the model of the tests."""
+    scripts = grammar.read(plan.text.encode())
+    return read_report(model.Run(model.Plan(scripts)).go().report().decode())
+
+
+REPORTS = {name: rules_report(it) for name, it in PLANS.items()}
+
+
+class Suite(unittest.TestCase):
+    """The plans of the suite."""
+
+    def test_no_plan_races(self) -> None:
+        """Each has one report: at most a key is put twice."""
+        for it in PLANS.values():
+            found = model.Plan(grammar.read(it.text.encode())).findings()
+            self.assertNotIn(b"race", found, it.name)
+
+    def test_names_are_different(self) -> None:
+        self.assertEqual(len(PLANS), len(read_suite()))
+
+    def test_each_rule_has_a_plan(self) -> None:
+        self.assertEqual(set(ProfileRule), {it.rule for it in PLANS.values()})
+
+
+class Predictions(unittest.TestCase):
+    """The rules of each library, held to the table of what it did."""
+
+    def found(self, library: Library, name: str) -> list[str]:
+        """What the rules of a library predict of a plan."""
+        plan = read_plan(PLANS[name].text.encode())
+        found = explain_differences(plan, library.traits, REPORTS[name])
+        return [str(it.difference) for it in found]
+
+    def list_wrong(self, library: Library, plans: Mapping[str, Recorded]) -> list[str]:
+        """The plans that are predicted otherwise than they were recorded."""
+        steady = {name: it for name, it in plans.items() if it.kind is not Kind.UNSTEADY}
+        recorded = {name: [str(d) for d in it.differences] for name, it in steady.items()}
+        return [name for name, it in recorded.items() if self.found(library, name) != it]
+
+    def test_tables(self) -> None:
+        """Each plan that differs is explained, but those listed, and no other is predicted to."""
+        for name, library in LIBRARIES.items():
+            with self.subTest(name):
+                table = read_table(library.table)
+                self.assertGreater(len(table.plans), 90)
+                self.assertEqual(name, table.head["library"])
+                wrong = self.list_wrong(library, table.plans)
+                self.assertEqual(UNEXPLAINED.get(name, []), wrong)
+
+    def test_unsteady_plans(self) -> None:
+        """Where runs differed, each reply that is predicted is the rules' or one that was seen."""
+        for library in LIBRARIES.values():
+            for name, it in read_table(library.table).plans.items():
+                if it.kind is Kind.UNSTEADY:
+                    seen = [str(d) for d in it.differences]
+                    wrong = [d for d in self.found(library, name) if d not in seen]
+                    self.assertEqual([], wrong, f"{library.name} {name}")
+
+    def test_an_equal_plan_has_no_recorded_difference(self) -> None:
+        for library in LIBRARIES.values():
+            for name, it in read_table(library.table).plans.items():
+                is_same = not it.differences
+                self.assertEqual(it.kind is Kind.EQUAL, is_same, f"{library.name} {name}")
+
+    def test_without_rules_a_library_keeps_the_profile(self) -> None:
+        """Each rule of the first library is needed for a plan, and the call that differs names
+        it."""
+        traits = LIBRARIES["openpmix-4.2"].traits
+        needed: set[Rule] = set()
+        for name in read_table(LIBRARIES["openpmix-4.2"].table).plans:
+            plan = read_plan(PLANS[name].text.encode())
+            for it in explain_differences(plan, traits, REPORTS[name]):
+                needed.update(it.rules)
+        self.assertEqual(traits.rules, needed)
+
+    def test_an_order_is_taken(self) -> None:
+        """The steps of an order come first."""
+        plan = read_plan(text_of("examples/early-get.plan"))
+        traits = LIBRARIES["openpmix-4.2"].traits
+        late = predict(plan, traits, order=["app:1"]).lines[-1].reply
+        self.assertEqual("PMIX_ERR_NOT_FOUND", late)
+
+
+class CommandLine(ProgramCase):
+    """`--predict` and `--show`."""
+
+    def test_predict(self) -> None:
+        """Each call that differs is told with the rule, and these with their words."""
+        path = written(self.room, "it.plan", PLANS["scope-local-direct"].text.encode())
+        ran = run("--checker", self.program, "--predict", "openpmix-4.2", path)
+        self.assertEqual(1, ran.returncode, ran.stderr)
+        lines = ran.stdout.splitlines()
+        outside, error = "PMIX_ERR_EXISTS_OUTSIDE_SCOPE", "PMIX_STATUS(-13,HANDSHAKE-FAILED)"
+        rules = "local-elsewhere,owner-answers"
+        wanted = f"differs app:1 1 get rules {outside} v library {error} by {rules}"
+        self.assertEqual(wanted, lines[0])
+        self.assertEqual("differing 1 of 3", lines[-1])
+
+    def test_a_library_that_is_not_known(self) -> None:
+        ran = run("--checker", self.program, "--predict", "mine", "it.plan")
+        self.assertEqual((125, ""), (ran.returncode, ran.stdout))
+        self.assertIn("mine isn't known: openpmix-4.2", ran.stderr)
+
+    def test_show(self) -> None:
+        """The plan comes with the rule that it is about."""
+        ran = run("--show", "scope-local-direct")
+        self.assertEqual(0, ran.returncode, ran.stderr)
+        self.assertTrue(ran.stdout.endswith(PLANS["scope-local-direct"].text))
+        self.assertTrue(ran.stdout.startswith("# scope-local-direct: scope-local, "))
+
+    def test_a_name_that_the_suite_has_not(self) -> None:
+        ran = run("--checker", self.program, "--suite", "such")
+        said = "wire_up-run: the suite has no plan and no rule such\n"
+        self.assertEqual((125, said), (ran.returncode, ran.stderr))
+
+
+if __name__ == "__main__":
+    unittest.main()
