@@ -39,7 +39,7 @@ SAYS = {
         "MPI_Recv from 1, tag 0",
         "since it receives from any source",
     ),
-    "recorded-sleep": ("no race seen, in part (2 recordings are cut off: what came then",),
+    "recorded-sleep": ("in part (the run was cut off, 2 recordings end early: what came then",),
     "recorded-unwaited": ("no race seen, in part (1 calls of the program that don't block",),
     "early-get": ("early-get.plan:7", "Use get in place of get-now", "<race> app:1"),
     "foreign-fence": ("Let the reader meet in the fence itself", "3 fence: comes <race> app:1"),
