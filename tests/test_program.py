@@ -698,6 +698,45 @@ def migrations_of_plans(room: str) -> Runs:
     yield Run("a migration with a word too many", ["migrate", odd, odd], status=5, said=usage)
 
 
+def placements(room: str) -> Runs:
+    """The runs of `place`."""
+    plan, usage = text_of(EXAMPLE), (b"Usage: wire_up place",)
+    odd = written(room, "odder.plan", plan + b"getaway app:0 k\n")
+    placed = (
+        b"rehearsal 1\nnode n0\nnode n1\njob app\n"
+        b"rank n1\nput global k v\ncommit\nrank n0\n"
+        b"get app:0 k\n"
+    )
+    unknown = b"wire_up: fault 13 BadOrder 2\n"
+    why = b"  rank 2 | app:2\n  expected: a rank of the plan, such as app:0\n"
+    yield Run("a placement", ["place", "app:0"], given=plan, wrote=placed)
+    yield Run("a placement of a file", ["place", "app:0", EXAMPLE], wrote=placed)
+    yield Run("a placement with large limits", ["place", "--large", "app:0", EXAMPLE], wrote=placed)
+    yield Run("a rank that isn't there", ["place", "app:1,app:2", EXAMPLE], status=2, said=unknown)
+    yield Run(
+        "a rank that isn't there, explained",
+        ["place", "--explain", "app:1,app:2", EXAMPLE],
+        status=2,
+        said=unknown + why,
+    )
+    yield Run(
+        "a placement of a file that is refused",
+        ["place", "app:2", odd],
+        status=2,
+        said=b"wire_up: fault 4 BadLine 10\n",
+    )
+    yield Run(
+        "a placement, and a full device",
+        ["place", "app:0", EXAMPLE],
+        status=4,
+        said=b"wire_up: fault 11 Write 0\n",
+        set_up=onto("/dev/full", 1),
+    )
+    yield Run("a placement of no rank", ["place"], status=5, said=usage)
+    yield Run("a placement, a word too many", ["place", "app:0", odd, odd], status=5, said=usage)
+    yield Run("help on place", ["place", "--help"], wrote=usage)
+
+
 def runs_with_large_limits(room: str) -> Runs:
     """Plans past the limits of version 1."""
     many = written(room, "many.plan", b"rehearsal 1\nnode n0\njob app\n" + b"rank n0\n" * 257)
@@ -738,6 +777,9 @@ class Program(ProgramCase):
 
     def test_migrations(self) -> None:
         self.hold_all(migrations(self.room))
+
+    def test_placements(self) -> None:
+        self.hold_all(placements(self.room))
 
     def test_broken_off(self) -> None:
         """A file that takes so many bytes and no more gets these, and the fault counts them."""
