@@ -38,6 +38,24 @@ def run_report(*words: str, checker: Optional[str] = None) -> "subprocess.Comple
     )
 
 
+# A checker that judges only the placement written.
+OLDER = """#!/bin/sh
+case "$*" in
+*--help) "{program}" "$@" | grep -v -e --anywhere -e '^ *place ' ;;
+*) exec "{program}" "$@" ;;
+esac
+"""
+
+
+@functools.cache
+def make_older() -> str:
+    """The path of a checker that judges only the placement written, and is else the built one."""
+    text = OLDER.format(program=support.program())
+    path = write(os.path.join(make_room(), "older"), text.encode())
+    os.chmod(path, 0o755)
+    return path
+
+
 def run_checker(*words: str) -> "subprocess.CompletedProcess[str]":
     """Runs the built program."""
     command = [support.program(), *words]

@@ -20,13 +20,6 @@ case "$*" in
 *) exec "{program}" "$@" ;;
 esac
 """
-# A checker of before that.
-OLDER = """#!/bin/sh
-case "$*" in
-*--help) "{program}" "$@" | grep -v -e --anywhere -e '^ *place ' ;;
-*) exec "{program}" "$@" ;;
-esac
-"""
 
 
 def place(text: str) -> str:
@@ -93,7 +86,7 @@ class PlacementsTest(unittest.TestCase):
         self.assertIn('class="partly"', page)
 
     def test_an_older_checker(self) -> None:
-        text, page = self.report(self.write_checker(OLDER))
+        text, page = self.report(report_support.make_older())
         self.assertTrue(text.startswith("two-jobs.plan: no race; 1 call fails Which"), text[:99])
         self.assertIn('class="fails"', page)
         self.assertNotIn("placement", page)

@@ -40,7 +40,7 @@ SAYS = {
         "since it receives from any source",
     ),
     "recorded-sleep": ("in part (the run was cut off, 2 recordings end early: what came then",),
-    "recorded-unwaited": ("no race seen, in part (1 calls of the program that don't block",),
+    "recorded-unwaited": ("in part (1 calls of the program that don't block",),
     "early-get": ("early-get.plan:7", "Use get in place of get-now", "<race> app:1"),
     "foreign-fence": ("Let the reader meet in the fence itself", "3 fence: comes <race> app:1"),
     "kept-card": (
@@ -49,7 +49,7 @@ SAYS = {
         "<race> app:2",
     ),
     "standstill": (
-        "no race; 2 ranks wait for ever",
+        "; 2 ranks wait for ever",
         "app:0 waits for app:1, which waits for app:0.",
     ),
     "large": ("31,744 races", "takes no plan past the limits of its version"),

@@ -39,7 +39,8 @@ class VerdictTest(unittest.TestCase):
         for name, wanted in FIRST_LINES.items():
             with self.subTest(name):
                 path = report_support.find_plan(name)
-                ran = report_support.run_report("--text", path)
+                older = report_support.make_older()
+                ran = report_support.run_report("--text", path, checker=older)
                 flat = " ".join(ran.stdout.split())
                 self.assertTrue(flat.startswith(f"{wanted} "), flat[:300])
 

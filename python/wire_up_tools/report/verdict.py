@@ -35,9 +35,9 @@ def say_found(report: Report) -> str:
     said = say_races(report)
     if said and report.reasons:
         said += "; others may be missed"
-    nothing = "no race seen, in part" if report.reasons else "no race"
     more = say_elsewhere(report)
-    return "; ".join(filter(None, [said or nothing + more, say_ends(report), more * bool(said)]))
+    nothing = f"no race seen{more}, in part" if report.reasons else f"no race{more}"
+    return "; ".join(filter(None, [said or nothing, say_ends(report), more * bool(said)]))
 
 
 def say_elsewhere(report: Report) -> str:
