@@ -1,18 +1,18 @@
 -- Which events come in the plain run of a settled plan.
-use Rattle.std.proofs.Common.{◌≡◌, ◌≢◌, ◌∙◌, ap, refl, sym, subst, ℕ, zero, suc, ◌+◌, ◌<◌, ◌≤◌, Bool, true, List, [], ◌∷◌, ◌++◌, map, length, Option, Some, None, is_some, ◌⊎◌, inl, inr, ⊎_elim, arith, eq-eqb}
-use Rattle.std.specs.Prelude.{◌↔◌, slice_get}
+use Rattle.std.proofs.Common.{◌≡◌, ◌≢◌, ◌∙◌, ap, refl, sym, subst, ℕ, zero, suc, ◌+◌, ◌<◌, ◌≤◌, true, List, [], ◌∷◌, ◌++◌, map, length, Option, Some, None, is_some, ◌⊎◌, inl, inr, ⊎_elim, arith, eq-eqb}
+use Rattle.std.specs.Prelude.{◌↔◌}
 use Rattle.std.proofs.lemmas.Bool.{cond-true, cases_lt, cases_eq, true≢false}
 use Rattle.std.proofs.lemmas.Option.{same_Some}
 use Rattle.wire_types.specs.declared.place.Event.{Event as CodeEvent}
 use Rattle.wire_runs.specs.Plan.{Plan, Event, Kind, Leave, Get, LookupWait, event_of, kind, event_count, process_count}
 use Rattle.wire_runs.specs.Puts.{own}
 use Rattle.wire_runs.specs.Sight.{held}
-use Rattle.wire_runs.specs.State.{State, next_event, IsDone}
+use Rattle.wire_runs.specs.State.{next_event, IsDone}
 use Rattle.wire_runs.specs.Step.{may_do, reply, is_seen, IsReachable}
 use Rattle.wire_runs.specs.PlainRun.{plain_run}
 use Rattle.wire_runs.specs.Order.{Edge, Follows, Live, live, may_come, Before, edge, further}
 use Rattle.wire_runs.specs.Races.{IsSettled}
-use Rattle.wire_runs.specs.Fate.{Fate, Waits, HasFate, dead, told}
+use Rattle.wire_runs.specs.Fate.{Waits, HasFate, dead, told}
 use Rattle.wire_runs.specs.Laws.{plain_end, Marks}
 use Rattle.wire_runs.proofs.Due.{Sound, chain_in, closed_cut, live_may, live_source, reachable_sound, place_path}
 use Rattle.wire_runs.proofs.Fates.{live_event, get_fate, says_not_waits, fates_tell, runs_are_sound}

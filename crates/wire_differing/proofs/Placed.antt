@@ -1,7 +1,7 @@
 -- What a get replies where its process and the owner have a node of their own, and where its process is alone on its node.
-use Rattle.std.proofs.Common.{◌≡◌, ◌≢◌, ◌∙◌, ap, refl, sym, subst, ℕ, suc, ◌<◌, ◌≤◌, Bool, true, false, List, [], ◌∷◌, Option, Some, None, is_some, ⊎_elim, inl, inr, cond, arith, eq-eqb, ne_eqb, leb-true}
-use Rattle.std.specs.Prelude.{slice_get, ◌↔◌, not, if◌then◌else◌}
-use Rattle.std.proofs.lemmas.Bool.{cond-true, cond-false, or_cases, cases_lt, true≢false}
+use Rattle.std.proofs.Common.{◌≡◌, ◌∙◌, ap, refl, sym, subst, ℕ, suc, ◌<◌, Bool, true, false, List, Option, Some, None, is_some, ⊎_elim, inl, inr, cond, arith, eq-eqb, ne_eqb, leb-true}
+use Rattle.std.specs.Prelude.{◌↔◌, not, if◌then◌else◌}
+use Rattle.std.proofs.lemmas.Bool.{cond-false, or_cases, cases_lt, true≢false}
 use Rattle.std.proofs.lemmas.Option.{slice_get-get_or}
 use Rattle.wire_types.specs.Replies.{bare}
 use Rattle.wire_types.specs.declared.CallAt.{CallAt}
@@ -12,7 +12,7 @@ use Rattle.wire_types.specs.declared.Status.{Status}
 use Rattle.wire_types.specs.declared.Status.TheVariants as status
 use Rattle.wire_types.specs.declared.Value.TheVariants as value
 use Rattle.wire_types.specs.declared.Verb.TheVariants as verb
-use Rattle.wire_runs.specs.Plan.{Plan, Event, Get, GetNow, Fixed, kind, event_count, process_count, node_of, same_node, admits}
+use Rattle.wire_runs.specs.Plan.{Plan, Event, Get, GetNow, kind, event_count, process_count, node_of, same_node, admits}
 use Rattle.wire_runs.specs.Puts.{stored, put_count, scope_of}
 use Rattle.wire_runs.specs.Sight.{held, brought}
 use Rattle.wire_runs.specs.State.{Success, NotFound, ExistsOutside, IsDone}

@@ -1,5 +1,5 @@
 -- Where processes are stuck: for the contracts of private functions.
-use Rattle.std.specs.Prelude.{◌≡◌, ◌≢◌, ◌<◌, ◌≤◌, ◌⊎◌, ℕ, List, Option, Some, MatchOption, slice_get}
+use Rattle.std.specs.Prelude.{◌≡◌, ◌<◌, ◌≤◌, ◌⊎◌, ℕ, List, Option, Some, MatchOption, slice_get}
 use Rattle.wire_types.specs.declared.place.Event.{Event as CodeEvent}
 use Rattle.wire_runs.specs.Plan.{Plan, Event, event_of}
 use Rattle.wire_runs.specs.Order.{Live, Before}

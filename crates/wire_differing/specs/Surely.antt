@@ -1,5 +1,5 @@
 -- Whether a process surely has a key when it asks for it: for the contracts of private functions.
-use Rattle.std.specs.Prelude.{◌≡◌, ◌≢◌, ◌<◌, ◌≤◌, ℕ, List, Option, true, Some, MatchOption, slice_get}
+use Rattle.std.specs.Prelude.{◌≡◌, ◌≢◌, ◌≤◌, ℕ, List, Option, true, Some, MatchOption, slice_get}
 use Rattle.wire_types.specs.declared.place.Event.{Event as CodeEvent}
 use Rattle.wire_runs.specs.Plan.{Plan, Event, GetNow, event_of, kind, node_of}
 use Rattle.wire_runs.specs.Fences.{is_member}

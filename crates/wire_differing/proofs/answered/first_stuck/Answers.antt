@@ -1,5 +1,4 @@
 use Rattle.std.proofs.Common.{arith}
-use Rattle.wire_runs.specs.Plan.{event_count}
 use Rattle.wire_content.specs.Planned.{plan_of}
 use Rattle.wire_runs.proofs.Fates.{live_within}
 use Rattle.wire_differing.proofs.answered.first_stuck.Goals as goal

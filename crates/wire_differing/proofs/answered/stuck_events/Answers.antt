@@ -1,4 +1,4 @@
-use Rattle.std.proofs.Common.{◌+◌, ◌++◌, ◌∷◌, [], ap, sym, subst, map, arith}
+use Rattle.std.proofs.Common.{◌+◌, sym, subst, map, arith}
 use Rattle.wire_runs.specs.Plan.{event_of}
 use Rattle.wire_content.specs.Planned.{plan_of}
 use Rattle.wire_differing.specs.Answered.{AreStuckTo}

@@ -1,7 +1,6 @@
 use Rattle.std.proofs.Common.{◌∙◌, ap, refl, sym, subst}
 use Rattle.std.proofs.lemmas.Bool.{true≢false}
 use Rattle.wire_runs.specs.Plan.{event_of}
-use Rattle.wire_runs.specs.Order.{Stores, Before}
 use Rattle.wire_runs.specs.Puts.{scope_of}
 use Rattle.wire_content.specs.Planned.{plan_of}
 use Rattle.wire_plan.specs.Index.{IsFirstPut}

@@ -1,4 +1,3 @@
-use Rattle.std.proofs.Common.{◌≡◌, ◌+◌, sym}
 use Rattle.wire_content.specs.Planned.{plan_of}
 use Rattle.wire_differing.proofs.Listed.{none_told, one_told}
 use Rattle.wire_differing.proofs.Placed.{settled_here}

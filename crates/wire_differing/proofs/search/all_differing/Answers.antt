@@ -1,4 +1,3 @@
-use Rattle.std.proofs.Common.{◌+◌, arith}
 use Rattle.wire_content.specs.Planned.{plan_of}
 use Rattle.wire_differing.proofs.Listed.{one_process}
 use Rattle.wire_differing.proofs.search.all_differing.Goals as goal

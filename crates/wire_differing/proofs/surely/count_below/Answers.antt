@@ -1,7 +1,7 @@
 use Rattle.std.proofs.Common.{◌∙◌, ap, sym, arith, rules, inl, inr, nat_lt}
 use Rattle.std.proofs.lemmas.Bool.{cases_lt, lt-ltb, le-ltb}
 use Rattle.std.proofs.lemmas.List.Sorted.{IsPartitionPoint-from_clause}
-use Rattle.wire_runs.specs.Plan.{Event, event_of}
+use Rattle.wire_runs.specs.Plan.{Event}
 use Rattle.wire_types.specs.declared.Event.{Event as CodeEvent}
 use Rattle.wire_plan.proofs.FirstBringing.{stands_at}
 use Rattle.wire_differing.proofs.Firsts.{below_first}

@@ -1,8 +1,8 @@
-use Rattle.std.proofs.Common.{◌≡◌, ◌+◌, ◌∙◌, ap, sym, refl, subst, map, suc, ℕ, List, arith}
+use Rattle.std.proofs.Common.{◌+◌, ◌∙◌, sym, refl, subst, map, ℕ, List, arith}
 use Rattle.std.proofs.lemmas.Bool.{true≢false}
-use Rattle.wire_runs.specs.Plan.{Event, event_of, node_of, process_count, event_count}
+use Rattle.wire_runs.specs.Plan.{event_of}
 use Rattle.wire_runs.specs.Order.{IsArrival, Before}
-use Rattle.wire_plan.specs.Index.{IsDelivering, AreArrivals}
+use Rattle.wire_plan.specs.Index.{IsDelivering}
 use Rattle.wire_content.specs.Planned.{plan_of}
 use Rattle.wire_runs.proofs.Basics.{process_within}
 use Rattle.wire_differing.proofs.Sure.{none_later, none_left, none_after, none_here, sure_here}

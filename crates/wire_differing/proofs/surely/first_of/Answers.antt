@@ -1,4 +1,4 @@
-use Rattle.std.proofs.Common.{◌<◌, ◌≤◌, map, length, arith, ◌∙◌}
+use Rattle.std.proofs.Common.{map, arith}
 use Rattle.std.proofs.lemmas.List.{length-map}
 use Rattle.wire_runs.specs.Plan.{event_of}
 use Rattle.wire_fates.proofs.Places.{place_at}
