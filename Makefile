@@ -119,7 +119,12 @@ record/record-mpi.so: $(RECORD_MPI) record/record.h $(wildcard record/mpi/*.h)
 # The process that makes the calls of a rank of a plan, which ./wire_up-run starts.
 ranks: run/wire_up-rank
 
-PMIX_LIBRARIES = $(or $(PMIX_LIBS),$(shell pkg-config --libs pmix 2> /dev/null),-lpmix)
+COMMA = ,
+PMIX_FOUND = $(or $(PMIX_LIBS),$(shell pkg-config --libs pmix 2> /dev/null),-lpmix)
+# Where the loader finds the system's library by itself, no path to it is written down.
+PMIX_BY_PATH = -Wl$(COMMA)-rpath -Wl$(COMMA)/usr/lib/%
+PMIX_LIBRARIES = $(if $(and $(wildcard /usr/lib/*/libpmix.so.2),$(filter -Wl$(COMMA)/usr/lib/%,$(PMIX_FOUND))), \
+	$(filter-out $(PMIX_BY_PATH),$(PMIX_FOUND)),$(PMIX_FOUND))
 
 run/wire_up-rank: $(wildcard run/*.c) run/rank.h
 	@test -n "$(PMIX_CFLAGS)" || pkg-config --exists pmix || \

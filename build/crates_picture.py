@@ -19,7 +19,7 @@ PICTURE = os.path.join(TOP, "docs", "crates.svg")
 # All lengths are in pixels.
 WIDTH = 900
 MARGIN = 8
-BOX_WIDTH = 140
+BOX_WIDTH = 148
 BOX_HEIGHT = 28
 ROW_HEIGHT = 58
 LEGEND_HEIGHT = 34

@@ -26,6 +26,8 @@ from build.timing import Command, Taken, best_of, findings_in, floor, mebibytes
 PAGE = os.path.join(TOP, "docs", "figures.md")
 RUNS, LARGE_RUNS = 5, 2
 SMALL_RANKS, SMALL_ROUNDS = 4, 6
+# The ranks of which the cards are reported, each of which asks for those of all others.
+CARDS = 2_000
 # The ranks up to which a replay is measured: it takes the square of them in memory, 2 GiB for so
 # many.
 MOST_REPLAYED = 16_384
@@ -87,6 +89,19 @@ class Figures:
             pieces = replace(plan, ranks=ranks).pieces()
             is_replayed = ranks <= MOST_REPLAYED
             yield self.measure(plan.name, what, pieces, LARGE_RUNS, is_replayed=is_replayed)
+
+    def of_a_report(self) -> tuple[Taken, Taken]:
+        """A check of the cards of many ranks, and the report of it with what the checker takes."""
+        path = os.path.join(self.room, "cards.plan")
+        ranks = SMALL_RANKS if self.is_small else CARDS
+        with open(path, "w", encoding="ascii") as it:
+            words = [sys.executable, os.path.join(TOP, "examples", "cards.py"), "8", str(ranks)]
+            subprocess.run(words, stdout=it, check=True)
+        report = [sys.executable, os.path.join(TOP, "wire_up-report"), "--checker", self.program]
+        words = [self.program, "check", "--large", path]
+        made = Command([*report, "--large", "-o", os.devnull, path])
+        check, whole = best_of(1 if self.is_small else LARGE_RUNS, [Command(words), made])
+        return check, whole
 
 
 def table(heads: Sequence[str], rows: Iterable[Sequence[str]]) -> str:
@@ -170,6 +185,8 @@ def page(figures: Figures) -> str:
     least, today = floor(), datetime.date.today().isoformat()
     near = table(heads, rows_of(figures.near_the_limits(), least))
     large = table(heads, rows_of(figures.of_machines(), least))
+    check, report = figures.of_a_report()
+    of_report = f"{seconds(report)} s and {mebibytes(report, least)} MiB"
     return f"""\
 # Figures
 
@@ -185,6 +202,11 @@ nothing. It takes the square of the ranks in memory, so of more than {MOST_REPLA
 ## Plans of whole machines
 
 {large}
+## A report
+
+`wire_up-report` of `cards.py 8 {CARDS}` takes {of_report}, with the runs of the checker, of which
+`check` alone takes {seconds(check)} s.
+
 ## Proofs
 
 {proofs()}"""

@@ -8,7 +8,7 @@ from collections.abc import Callable, Sequence
 
 import helps
 from helps import Help, Word
-from manual import RECORDER, REPORTER
+from manual import RECORDER, REPORTER, RUNNER
 
 # The words that are files.
 FILES = ("FILE", "ORDER", "PLAN", "FOLDER")
@@ -117,7 +117,7 @@ def write_completions(program: str, folder: str, shell: str, has_recorder: bool 
     made, file = SHELLS[shell]
     alone, *commands = helps.of_program(program)
     texts = {"wire_up": made("wire_up", alone.options, commands)}
-    for script in [*[RECORDER] * has_recorder, REPORTER]:
+    for script in [*[RECORDER] * has_recorder, REPORTER, RUNNER]:
         name = os.path.basename(script)
         texts[name] = made(name, helps.of_script(script).options, [])
     os.makedirs(folder, exist_ok=True)

@@ -31,7 +31,8 @@ LONG = """\
  plan, by one thread or by several.
  .
  wire_up-record makes such plans of real programs, and wire_up-report writes
- what is found in a plan as a page with diagrams, or as SARIF.
+ what is found in a plan as a page with diagrams, or as SARIF. wire_up-run runs
+ a plan on a real PMIx library.
 """
 COPYRIGHT = """\
 wire_up was written by its developers.
@@ -39,7 +40,9 @@ wire_up was written by its developers.
 No licence is granted yet: the owner of the repository has chosen none so far.
 """
 # The compiled programs and libraries of the package.
-COMPILED = ("usr/bin/wire_up", "usr/lib/wire_up/*.so")
+COMPILED = ("usr/bin/wire_up", "usr/lib/wire_up/*.so", "usr/lib/wire_up/wire_up-rank")
+# What runs only where a launcher is, which brings its libraries.
+BY_LAUNCHER = "wire_up-rank"
 RELEASE = re.compile(r"(?m)^## (\S+) - (\S+)\n")
 CHANGE = re.compile(r"(?m)^- .*\n(?:  .*\n)*")
 DEBIAN = textwrap.TextWrapper(
@@ -116,14 +119,16 @@ def strip(root: str) -> None:
 
 
 def needed(root: str) -> str:
-    """The packages of the libraries that the program and the recorder are linked with."""
+    """The packages of the libraries that the program and the recorder are linked with. Those of the
+    runner's ranks come with a launcher."""
     if not shutil.which("dpkg-shlibdeps"):
         return "libc6"
     with tempfile.TemporaryDirectory() as room:
         os.mkdir(os.path.join(room, "debian"))
         with open(os.path.join(room, "debian", "control"), "w", encoding="utf-8") as it:
             it.write(f"Source: {NAME}\n\nPackage: {NAME}\nArchitecture: amd64\n")
-        words = ["dpkg-shlibdeps", "-O", *compiled(root)]
+        alone = [it for it in compiled(root) if os.path.basename(it) != BY_LAUNCHER]
+        words = ["dpkg-shlibdeps", "-O", *alone]
         ran = subprocess.run(words, cwd=room, capture_output=True, text=True, check=False)
     found = SHLIBS.search(ran.stdout)
     return found[1] if found else "libc6"
@@ -148,8 +153,8 @@ def control(root: str, version: str) -> str:
         "Installed-Size": str(-(-size // 1024)),
         "Depends": f"{needed(root)}, python3",
     }
-    if os.path.exists(os.path.join(root, "usr", "bin", "wire_up-record")):
-        fields["Suggests"] = "openmpi-bin, binutils"
+    if glob.glob(os.path.join(root, "usr", "lib", "wire_up", "*")):
+        fields["Suggests"] = "openmpi-bin, binutils, iproute2"
     fields["Description"] = ABOUT
     return "".join(f"{name}: {it}\n" for name, it in fields.items()) + LONG
 

@@ -9,9 +9,9 @@ from typing import Optional
 
 SECONDS = 60
 ROW = re.compile(r"(?m)^ {2,6}(\S.*?) {2,}(\S.*)$")
-# A row of the options of the recorder or the reporter, and a use of either.
+# A row of the options of the recorder, the reporter or the runner, and a use of one.
 SCRIPT_ROW = re.compile(r"  (-\S.*?) {2,}(\S.*)")
-USE = re.compile(r"(?m)^ +(wire_up-\w+ .*?(?:\.\.|PLAN)) +([a-z].*)$")
+USE = re.compile(r"(?m)^ +(wire_up-\w+ .*?(?:\.\.\]?|PLAN)) +([a-z].*)$")
 
 
 @dataclass(frozen=True)
@@ -40,7 +40,7 @@ class Help:
 
 @dataclass(frozen=True)
 class ScriptHelp:
-    """What the recorder or the reporter says of itself."""
+    """What the recorder, the reporter or the runner says of itself."""
 
     about: str
     # Each use, and what it does.
@@ -111,13 +111,13 @@ def of_program(program: str) -> list[Help]:
 
 
 def script_option(written: str, meaning: str) -> Word:
-    """An option of the recorder or the reporter, such as `-o PLAN`."""
+    """An option of the recorder, the reporter or the runner, such as `-o PLAN`."""
     values = re.findall(r" ([A-Z]+)$", written)
     return Word(re.findall(r"(?<!\w)-[\w-]+", written), values[0] if values else None, meaning)
 
 
 def of_script(script: str) -> ScriptHelp:
-    """What the recorder or the reporter says of itself."""
+    """What the recorder, the reporter or the runner says of itself."""
     about, uses, options, *below = asked([sys.executable, script, "--help"]).split("\n\n")
     written: list[tuple[str, str]] = []
     for line in options.split("\n"):

@@ -14,6 +14,7 @@ from helps import Word
 
 TOP = os.path.dirname(os.path.dirname(os.path.abspath(__file__)))
 RECORDER, REPORTER = os.path.join(TOP, "wire_up-record"), os.path.join(TOP, "wire_up-report")
+RUNNER = os.path.join(TOP, "wire_up-run")
 # A part of a paragraph of Markdown: code, strong words, slanted words, a link, or plain text.
 INLINE = re.compile(
     r"`(?P<code>[^`]*)`|\*\*(?P<strong>[^*]+)\*\*|(?<![\w*])\*(?P<slant>[^*\s][^*]*)\*"
@@ -176,12 +177,13 @@ def program_page(program: str) -> Lines:
     for it in commands:
         made += [f".SS {bold(it.name)}", f"{escaped(it.about)}."]
         made += word_lines([*it.words, *it.options])
-    others = [".BR wire_up (5),", ".BR wire_up\\-record (1),", ".BR wire_up\\-report (1)"]
+    others = [".BR wire_up (5),", ".BR wire_up\\-record (1),", ".BR wire_up\\-report (1),"]
+    others.append(".BR wire_up\\-run (1)")
     return [*made, *sections(alone.below), ".SH SEE ALSO", *others]
 
 
 def script_page(script: str, program: str) -> Lines:
-    """wire_up-record(1) or wire_up-report(1)."""
+    """wire_up-record(1), wire_up-report(1) or wire_up-run(1)."""
     said = helps.of_script(script)
     about = said.about[0].lower() + said.about[1:].rstrip(".").replace("`", "")
     made = head(os.path.basename(script), 1, helps.version_of(program), about)
@@ -211,6 +213,7 @@ PAGES: dict[str, Callable[[str], Lines]] = {
     "wire_up.1": program_page,
     "wire_up-record.1": functools.partial(script_page, RECORDER),
     "wire_up-report.1": functools.partial(script_page, REPORTER),
+    "wire_up-run.1": functools.partial(script_page, RUNNER),
     "wire_up.5": format_page,
 }
 

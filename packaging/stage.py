@@ -1,5 +1,5 @@
-"""Lays out what is installed: the program, the reporter, the recorder, the package of both, manual
-pages, completions, documents and examples.
+"""Lays out what is installed: the program, the reporter, the recorder, the runner, the package of
+these, manual pages, completions, documents and examples.
 
 Usage: python3 packaging/stage.py PROGRAM FOLDER     FOLDER is the prefix, such as /usr/local
 """
@@ -13,7 +13,9 @@ import manual
 from manual import TOP
 
 RECORDERS = [os.path.join(TOP, "record", it) for it in ("record.so", "record-mpi.so")]
-# The package of the recorder and the reporter, and where these look for it, below the prefix.
+# The process that makes the calls of a rank, which the runner starts.
+RANK = os.path.join(TOP, "run", "wire_up-rank")
+# The package of the Python programs, and where these look for it, below the prefix.
 PACKAGE, PACKAGES = os.path.join(TOP, "python", "wire_up_tools"), "share/wire_up"
 # Where each shell looks for completions, below the prefix.
 COMPLETIONS = {
@@ -37,10 +39,13 @@ def put(source: str, folder: str, mode: int = 0o644, name: str = "") -> None:
 
 
 def lay_out_programs(program: str, prefix: str) -> bool:
-    """The program, the reporter, and the recorder where it is built. Answers whether that is
-    so."""
+    """The program, the reporter, the runner, and the recorder where it is built. Answers whether
+    that is so."""
     put(program, os.path.join(prefix, "bin"), 0o755, "wire_up")
-    put(manual.REPORTER, os.path.join(prefix, "bin"), 0o755)
+    for it in (manual.REPORTER, manual.RUNNER):
+        put(it, os.path.join(prefix, "bin"), 0o755)
+    if os.path.exists(RANK):
+        put(RANK, os.path.join(prefix, "lib", "wire_up"), 0o755)
     built = [it for it in RECORDERS if os.path.exists(it)]
     if built:
         put(manual.RECORDER, os.path.join(prefix, "bin"), 0o755)
@@ -50,7 +55,7 @@ def lay_out_programs(program: str, prefix: str) -> bool:
 
 
 def lay_out_package(prefix: str) -> None:
-    """The package of the recorder and the reporter. What an earlier version had of it goes."""
+    """The package of the Python programs. What an earlier version had of it goes."""
     folder = os.path.join(prefix, PACKAGES)
     place = os.path.join(folder, os.path.basename(PACKAGE))
     sources = glob.glob(os.path.join(PACKAGE, "**"), recursive=True)

@@ -225,6 +225,26 @@ enter_call("$function", caller);
 if (call.is_noted)
     note_objects_past();
 """),
+    "init-session": Shape(after=CALL + """\
+static void *known_taking;
+MPI_Group world;
+__typeof__(&PMPI_Group_from_session_pset) take = find_function(
+    &known_taking, "PMPI_Group_from_session_pset", &watch_$function, caller);
+if (call.is_noted && result == MPI_SUCCESS && take &&
+    take(*session, "mpi://WORLD", &world) == MPI_SUCCESS)
+    note_session(world);
+"""),
+    "finalize-session": Shape(CALL + """\
+if (call.is_noted) {
+    note_objects_past();
+    leave_session();
+}
+"""),
+    # It has no parent: its processes know it by the tag.
+    "make-from-group": Shape(CALL, """\
+if (call.is_noted)
+    note_of_session(&call, result, made, tag);
+"""),
     "make": Shape(CALL + COUNT_CHILD, """\
 note_child(&parent, result, made);
 """),

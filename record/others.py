@@ -18,7 +18,7 @@ LOCAL = {
     "MPI": (
         # Objects of the process alone, and what is asked of them.
         r"(Type|Group|Info|Op|Errhandler|Error|Status|Message|Keyval|Attr|Add_error)_\w+",
-        r"\w+_(c2f|f2c)",
+        r"\w+_(c2f|f2c|toint|fromint)",
         r"T_\w+",
         r"(Comm|Win|File)_(get_\w+|call_errhandler|\w+_errhandler|\w+_keyval|\w+_attr|set_name)",
         r"(Cart|Graph|Dist_graph|Dims|Cartdim|Graphdims)_?\w*",
@@ -31,7 +31,8 @@ LOCAL = {
         r"Reduce_local",
         r"Initialized|Finalized|Is_thread_main|Query_thread",
         r"Pcontrol|Wtick|Wtime",
-        r"Register_datarep|Buffer_attach|Cancel|Test_cancelled|Grequest_\w+",
+        r"Register_datarep|Buffer_attach|(Comm|Session)_attach_buffer",
+        r"Cancel|Test_cancelled|Grequest_\w+",
         r"Get_hw_resource_info|Aint_(add|diff)|Remove_error_\w+|Abi_\w+",
         r"Session_(get_\w+|\w+_errhandler|set_info)",
         # It fetches a message that MPI_Mprobe received.
@@ -45,7 +46,8 @@ LOCAL = {
         r"(Value|Info|Data|Topology|Cpuset|Argv|Proc|Byte_object|Pdata|App|Regattr|Coord)_\w+",
         r"(Geometry|Device|Endpoint|Envar|(Disk|Net|Node)_stats|Multicluster_nspace)_\w+",
         r"(Node_pid|Resource_unit)_\w+|Query_(\w+_)?(construct|destruct|create|free|release)",
-        r"(Load|Check|Xfer)_(key|nspace|procid|rank|reserved_key)|(Nspace|Procid)_invalid",
+        r"(Load|Check|Xfer)_(key|nspace|procid|rank|reserved_key)(_strict)?|Regex2_\w+",
+        r"(Nspace|Procid)_invalid|Rank_valid|Heartbeat|Progress_thread_\w+",
         r"Fabric_construct|Setenv|Error_code|generate_\w+|Store_internal",
         r"Get_(version|attribute_\w+|cpuset|relative_locality)",
         r"Initialized|Progress|Load_topology",

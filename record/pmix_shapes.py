@@ -46,6 +46,10 @@ if (is_noted(caller))
     "commit": shape_blocking("note_commit(&call)"),
     "fence": shape_blocking("note_fence(&call, processes, count, info, infos)"),
     "fence-nb": shape_calling_back("note_fence(&call, processes, count, info, infos)", "operation"),
+    "group-construct": shape_blocking(
+        'note_group(&call, "construct", group, processes, count, info, infos)'
+    ),
+    "group-destruct": shape_blocking('note_group(&call, "destruct", group, NULL, 0, info, infos)'),
     "get": shape_blocking("note_get(&call, process, key, info, infos)", """\
 note_value(number, result, result == PMIX_SUCCESS && value ? *value : NULL);
 """),

@@ -18,6 +18,7 @@ ENVIRONMENT = {**os.environ, "OMPI_ALLOW_RUN_AS_ROOT": "1", "OMPI_ALLOW_RUN_AS_R
 COMPILED = {
     "calls": ("cc", "-pthread", "calls.c"),
     "direct": ("mpicc", "-pthread", "direct.c"),
+    "sessions": ("mpicc", "-pthread", "sessions.c"),
     "plugin.so": ("mpicc", "-shared", "-fPIC", "plugin.c"),
     "libprofiler.so": ("mpicc", "-shared", "-fPIC", "profiler.c"),
     "profiled": ("mpicc", "told.c", "-L{folder}", "-Wl,-rpath,{folder}", "-lprofiler"),
@@ -26,7 +27,7 @@ COMPILED = {
 }
 SOURCES = (".c", ".f90")
 # The programs that call PMIx themselves.
-WITH_PMIX = ("calls", "direct")
+WITH_PMIX = ("calls", "direct", "sessions")
 NEEDED = ("mpicc", "mpirun", "make", "cc", "pkg-config")
 # `mpirun` may mix the lines of two processes where one is long, in about one run of six.
 TRIES = 10

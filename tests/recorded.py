@@ -91,6 +91,8 @@ OTHER_WAYS = {
     "mixed-barrier": Program(2, 1, 1, words=("mixed", "barrier")),
     "fortran": Program(2, 0, 3, words=("fortran",)),
     "profiled": Program(2, 0, 1, words=("profiled",)),
+    "sessions": Program(2, 0, 2, words=("sessions",)),
+    "large": Program(2, 0, 2, words=("large",)),
 }
 # Those of `direct`.
 DIRECT = {

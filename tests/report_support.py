@@ -93,6 +93,15 @@ def write_many_groups(keys: int, names: int) -> str:
     return f"rehearsal 2\nnode n0\njob app\n{owner}" + f"rank n0\n{gets}{lookups}" * 2
 
 
+def write_wide() -> str:
+    """A plan of long names of jobs, keys and nodes, whose ranks give to each other in a ring."""
+    job, key, node = "j" * 60, "k" * 63, "n" * 63
+    script = f"rank {node}\nput global {key} v\ncommit\nget {job}:{{}} {key}\nfence all\n"
+    ring = "".join(script.format((it + 1) % 6) for it in range(6))
+    last = f"rank {node}\nget-now {job}:0 {key}\nlookup {key}\nrank {node}\npublish {key} v\n"
+    return f"rehearsal 1\nnode {node}\njob {job}\n{ring}{last}".replace("fence all", "commit")
+
+
 EVIL = b"<script>document.title='in'</script>&amp;\"'><img/src=x/onerror=alert(1)>"
 HOSTILE = (
     b"# Recorded by wire_up-record <i>on\xff\x00\x1b[31m a day</i>\n"
@@ -137,6 +146,7 @@ WRITTEN: dict[str, Callable[[], bytes]] = {
     "empty": lambda: b"rehearsal 1\n",
     "shapes": lambda: write_shapes().encode(),
     "cards": lambda: write_cards(6, 2, 5).encode(),
+    "hostile-wide": lambda: write_wide().encode(),
     "manygroups": lambda: write_many_groups(60, 3).encode(),
     "large": lambda: write_cards(2048, 64, 46).encode(),
     "large-fence": lambda: write_cards(2048, 64, 46, "fence all collect").encode(),

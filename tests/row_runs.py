@@ -15,6 +15,7 @@ from rows import (
     Followed,
     Formed,
     Large,
+    Placed,
     Refused,
     Reported,
     Row,
@@ -24,7 +25,7 @@ from running import FAULTS
 
 NAMES = (
     "reports fences names keeps sweeps findings refusals follows questions texts limits witnesses"
-    " forms"
+    " forms placed"
 ).split()
 # The functions of the library that are run by themselves.
 PLAIN, READ = "plain", "read"
@@ -154,6 +155,11 @@ class RowRuns:
         is_shown = row.text.startswith(b"shown ")
         words = ["witness", *row.words.split()]
         yield RowRun(words, row.plan, Ended(int(is_shown), row.text))
+
+    def of_placed(self, row: Placed) -> Runs:
+        yield RowRun(["place", row.ranks], row.plan, answered(row.answer))
+        if isinstance(row.answer, bytes):
+            yield RowRun(["place", row.ranks], row.answer, answered(row.answer))
 
     def of_formed(self, row: Formed) -> Runs:
         checked, report = found(row.plan, row.findings, ["--json"]), Ended(wrote=row.report)

@@ -11,6 +11,8 @@ plans (model.py).
 - `migrate` writes the canonical text under version 2 that the second reader has, and `check` and
   `replay`, with 1 and 7 workers, write the same about it. `--large` changes no byte of what `check`
   writes.
+- `place` writes the canonical text that the second reader has, with some ranks on one node and all
+  others on another.
 - Without findings `replay` writes the same with 1, 2, 7 and 64 workers, its JSON form says the
   same, and so does the report of a random complete order. With findings it writes those that
   `check` writes, and the order of `--anyway`, followed, gives its report. `--complete` changes no
@@ -38,6 +40,7 @@ from typing import NamedTuple, Optional, Union
 
 import grammar
 import model
+import placements
 from random_plans import NUMBERS, damaged, styled
 
 SECONDS = 10
@@ -192,6 +195,7 @@ class Look:
         checked = self.at_inputs("check")
         self.hold("check", checked.wrote, lambda it: it.findings())
         self.at_version_2()
+        self.at_place()
         large = self.runner.run("check", "--large", self.path)
         same("another answer with large limits", checked, large)
         self.at_questions()
@@ -230,6 +234,17 @@ class Look:
             for words in (["check"], ["replay"], ["replay", "--workers", "7"]):
                 was, now = run(*words, self.path), run(*words, given=text)
                 same(f"another answer of {words[0]} under version 2", was, now)
+
+    def at_place(self) -> None:
+        """Some ranks on a node of their own."""
+        count = len(self.scripts.procs)
+        ranks = self.dice.choices(range(count), k=self.dice.choice((1, 2, 3, 9))) if count else []
+        word = placements.ranks_word(self.scripts, ranks)
+        # clap reads a word that begins so as an option.
+        if not word or word.startswith("-"):
+            return
+        text = grammar.canonical(placements.placed(self.scripts, ranks))
+        same("another placed text", Ran(0, text, b""), self.runner.run("place", word, self.path))
 
     def at_inputs(self, command: str) -> Ran:
         """What a command answers; the same from all places and in all spellings."""
@@ -450,7 +465,7 @@ def at_refusal(runner: Runner, text: bytes, said: bytes) -> None:
     order, refused = runner.written("it.order", b"app:9\n"), Ran(2, b"", said)
     commands: list[list[str]] = [["check"], ["replay"], ["replay", "--json", "--workers", "2"]]
     commands += [["replay", "--anyway"], ["follow", order]]
-    commands += [["why", "a:0", "1", "x", "0"], ["migrate"]]
+    commands += [["why", "a:0", "1", "x", "0"], ["migrate"], ["place", "a:0"]]
     two = "the second reader's and the program's"
     for words in commands:
         same(f"a refusal by {words[0]}", refused, run(*words, path), two)

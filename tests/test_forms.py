@@ -355,6 +355,12 @@ def misused_placings() -> Runs:
             status=5,
             said=misfit,
         )
+    yield Run(
+        "check with --same alone",
+        ["check", "--same", "--lines", racy],
+        status=5,
+        said=b"wire_up: usage --same\n",
+    )
     for words in (["replay"], ["follow", racy], ["migrate"]):
         yield Run(f"{words[0]} with lines", [*words, "--lines", racy], status=5, said=usage)
     for command in ("check", "why", "witness"):

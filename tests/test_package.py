@@ -39,13 +39,17 @@ DPKG = ["--force-depends", "--force-not-root", "--force-script-chrootless", "--l
 INSTALLED = {
     "bin/wire_up",
     "bin/wire_up-report",
+    "bin/wire_up-run",
     "share/bash-completion/completions/wire_up",
     "share/man/man1/wire_up.1",
     "share/man/man1/wire_up-report.1",
+    "share/man/man1/wire_up-run.1",
     "share/man/man5/wire_up.5",
     "share/doc/wire_up/README.md",
     "share/doc/wire_up/docs/report.png",
     "share/wire_up/wire_up_tools/__init__.py",
+    "share/wire_up/wire_up_tools/run/plans/rules.txt",
+    "share/wire_up/wire_up_tools/run/tables/openpmix-4.2.txt",
 }
 DIAGRAM = (": 1 race</h1>", '<line class="race"', "(early.c:")
 # What each shell must offer for a line: the line, and the words of the answer, in the order of the
@@ -65,6 +69,7 @@ LINES = {
     "wire_up-record --st": ["--strict"],
     "wire_up-report --so": ["--source"],
     "wire_up-report --la": ["--large"],
+    "wire_up-run --ti": ["--times"],
 }
 BASH = (
     "source {file}; COMP_WORDS=({line}); COMP_CWORD=$((${{#COMP_WORDS[@]}} - 1));"
@@ -291,7 +296,7 @@ class Pages(ProgramCase):
         """The words that a page must have."""
         if name == "wire_up.5":
             return ["rehearsal 2", "keep", "get-now", "lookup-wait"]
-        for script in (manual.RECORDER, manual.REPORTER):
+        for script in (manual.RECORDER, manual.REPORTER, manual.RUNNER):
             if name == f"{os.path.basename(script)}.1":
                 return [it for option in helps.of_script(script).options for it in option.names]
         alone, *commands = helps.of_program(self.program)

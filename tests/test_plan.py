@@ -4,7 +4,7 @@ import os
 import unittest
 
 import support
-from wire_up_tools.plan import read_plan, read_set
+from wire_up_tools.plan import Lines, read_calls, read_plan, read_set
 
 PLAN = b"""\
 # Recorded by wire_up-record
@@ -66,7 +66,6 @@ class PlanTest(unittest.TestCase):
                 ("c:0 1", "unpublish", "*", 25),
             ],
         )
-        self.assertEqual([it.index for it in self.plan.calls], list(range(6)))
 
     def test_places(self) -> None:
         places = [it.place for it in self.plan.calls]
@@ -98,6 +97,31 @@ class PlanTest(unittest.TestCase):
     def test_a_plan_without_calls(self) -> None:
         plan = read_plan(b"rehearsal 1")
         self.assertEqual((plan.calls, plan.ranks, plan.meetings), ([], [], []))
+
+    def test_lines_are_cut(self) -> None:
+        data = b"".join(b"line %d\n" % it for it in range(30_000)) + b"last"
+        lines = Lines(data)
+        self.assertEqual((len(lines), lines[-1], lines[0]), (30_001, "last", "line 0"))
+        for it in (1, 999, 8_191, 8_192, 14_000, 29_999):
+            self.assertEqual(lines[it], f"line {it}")
+
+
+class RunsTest(unittest.TestCase):
+    """Many calls that are alike are a run, and are the same calls as if they were read one by
+    one."""
+
+    def test_a_run(self) -> None:
+        gets = "".join(f"get-now a:{it} card\n" for it in range(1, 100))
+        script = f"put global card v\ncommit\n{gets}get-now a:0 card\nfence all\n"
+        text = f"rehearsal 1\nnode n\njob a\nrank n\n{script}" + "rank n\nfence all\n" * 99
+        plan, calls = read_plan(text.encode()), read_calls(text.encode())
+        kinds = [type(it).__name__ for it in plan.list_outline(plan.ranks[0])]
+        self.assertEqual(kinds, ["Call", "Call", "Run", "Call", "Call"])
+        said = [(it.name, it.words, it.line) for it in plan.calls]
+        self.assertEqual(said, [(it.name, it.words, it.line) for it in calls])
+        self.assertEqual(plan.call_count, len(calls))
+        self.assertIs(plan.find_call("a:0", 50), plan.calls_of["a:0"][49])
+        self.assertEqual(len(plan.meetings[0].calls), 100)
 
 
 class ExamplesTest(unittest.TestCase):

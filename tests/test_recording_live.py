@@ -37,6 +37,9 @@ CORES, MEMORY = 4, 8 << 30
 # How long a signal may take to end a program that sleeps, in seconds.
 SOON = 5.5
 
+# The status of a program that needs what this MPI doesn't have.
+TOO_OLD = 77
+
 # Whose data each of the four processes waits for in the collectives of `messages`.
 ALL, NONE, BELOW = Sources.ALL, Sources.NONE, Sources.BELOW
 SOURCES: Mapping[str, Sequence[Union[Sources, tuple[int, ...]]]] = {
@@ -264,6 +267,18 @@ class OtherWaysTest(LiveTest):
         """A tool that the program is linked with still counts what the program sends."""
         self.compile("libprofiler.so")
         self.hold("profiled")
+
+    def hold_if_new(self, name: str, what: str) -> None:
+        """Tests one that needs a newer MPI."""
+        if subprocess.run([self.compile(name)], check=False).returncode == TOO_OLD:
+            self.skipTest(f"this MPI has no {what}")
+        self.hold(name)
+
+    def test_sessions(self) -> None:
+        self.hold_if_new("sessions", "sessions")
+
+    def test_large_counts(self) -> None:
+        self.hold_if_new("large", "functions with large counts")
 
     def test_fortran(self) -> None:
         """Alone and beside C, and its calls come from its lines."""

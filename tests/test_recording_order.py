@@ -94,6 +94,51 @@ class FencesTest(OrderTest):
         self.become(tapes, [[], []], "1 fences with processes that aren't recorded")
 
 
+class GroupsTest(OrderTest):
+    """The making of groups of PMIx, and their ends."""
+
+    MADE, GONE = "group construct :g job:0,job:1 -", "group destruct :g all -"
+    FENCE = "fence app:0,app:1"
+
+    def make_tapes(self, directives: str = "-") -> list[Tape]:
+        """Tapes of three processes, of which two make and end a group."""
+        tapes = [Tape(rank) for rank in range(3)]
+        for tape in tapes[:2]:
+            tape.call(f"{self.MADE[:-1]}{directives}").call(self.GONE)
+        return tapes
+
+    def test_a_group(self) -> None:
+        none: list[str] = []
+        scripts = [[self.FENCE, self.FENCE], [self.FENCE, self.FENCE], none]
+        self.become(self.make_tapes(), scripts, "# PMIx: construct g\nfence")
+        self.become(self.make_tapes("pmix.grp.actxid=number:1:1"), scripts, "# PMIx: destruct g")
+
+    def test_a_group_that_need_not_be_whole(self) -> None:
+        tapes = self.make_tapes("pmix.grp.opt=number:1:1")
+        self.become(tapes, [[], [], []], "4 calls that make or end groups")
+
+    def test_a_group_that_was_refused(self) -> None:
+        tapes = [Tape(0), Tape(1)]
+        for tape in tapes:
+            tape.call(self.MADE, "-27").call(self.GONE, "-46")
+        self.become(tapes, [[], []], "4 calls that make or end groups")
+
+    def test_groups_in_two_orders(self) -> None:
+        """The library matches them by their names."""
+        tapes = [Tape(0), Tape(1)]
+        made = [self.MADE, self.MADE.replace(":g", ":h")]
+        for tape, calls in zip(tapes, (made, made[::-1])):
+            for call in calls:
+                tape.call(call)
+            tape.call("fence blocks all -")
+        self.become(tapes, [["fence all"], ["fence all"]], "4 calls that make or end groups")
+
+    def test_a_group_that_one_did_not_make(self) -> None:
+        tapes = [Tape(0).call(self.MADE).call("fence blocks all -"), Tape(1)]
+        tapes[1].call("fence blocks all -")
+        self.become(tapes, [["fence all"], ["fence all"]], "1 calls that make or end groups")
+
+
 class EndsTest(OrderTest):
     """Recordings that end badly."""
 

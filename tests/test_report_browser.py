@@ -51,6 +51,7 @@ function measure(frame, width) {
 }
 function look(svg, here) {
   const all = boxes(svg), whole = svg.getBoundingClientRect();
+  cut(svg, all, whole, here);
   for (const [box, text] of all)
     if (box.right > whole.right + 1 || box.left < whole.left - 1 || box.bottom > whole.bottom + 1)
       said.push(`${here}: ${text} goes past the diagram`);
@@ -59,6 +60,17 @@ function look(svg, here) {
     const wide = Math.min(a.right, b.right) - Math.max(a.left, b.left);
     const high = Math.min(a.bottom, b.bottom) - Math.max(a.top, b.top);
     if (wide > 1 && high > 1.5) said.push(`${here}: ${all[i][1]} is over ${all[j][1]}`);
+  }
+}
+// A label that is cut must have no room for one more character up to what stands beside it.
+function cut(svg, all, whole, here) {
+  const dots = [...svg.querySelectorAll(".dot, .met")].map(it => it.getBoundingClientRect());
+  for (const [box, text] of all.filter(([, it]) => it.endsWith("…") && it.length > 12)) {
+    const beside = [...all.map(it => it[0]), ...dots].filter(it =>
+      it.left > box.left + 1 && it.top < box.bottom + 8 && it.bottom > box.top - 8);
+    const edge = Math.min(whole.right, ...beside.map(it => it.left));
+    const character = box.width / text.length;
+    if (edge - box.right > 6 * character) said.push(`${here}: ${text} is cut and has room`);
   }
 }
 for (const width of widths) {

@@ -67,6 +67,21 @@ class WireUpTest(unittest.TestCase):
         self.assertEqual([it.below for it in diagram.lanes], ["and 29 like it"])
         self.assertTrue(diagram.notes)
 
+    def test_fences_in_a_row_are_one_bar(self) -> None:
+        fences = "put global k v\ncommit\n" + "fence all\n" * 16
+        diagram = make_diagram(TWO_RANKS.format(fences, "fence all\n" * 16 + "commit\n"))
+        (bar,) = diagram.bars
+        labels = [it.label for it in bar.marks.values()]
+        self.assertEqual(labels, ["3–18 fence ×16", "1–16 fence ×16"])
+        self.assertNotIn("…", drawing.draw_figure(diagram, ""))
+
+    def test_few_ranks_that_give_to_each_other_are_lanes(self) -> None:
+        script = "rank n0\nput global k v\ncommit\nget a:{} k\n"
+        ring = "".join(script.format((it + 1) % 4) for it in range(4))
+        diagram = make_diagram(f"rehearsal 1\nnode n0\njob a\n{ring}")
+        given = sorted((it.target.lane, it.source.lane) for it in diagram.arrows)
+        self.assertEqual(given, [(0, 1), (1, 2), (2, 3), (3, 0)])
+
     def test_many_shapes_are_nodes(self) -> None:
         diagram = make_diagram(report_support.write_shapes())
         self.assertEqual(len(diagram.lanes), LANES - 1)
@@ -101,7 +116,14 @@ class DrawingTest(unittest.TestCase):
         key = "k" * 60
         svg = drawing.draw_figure(make_diagram(TWO_RANKS.format(f"put global {key} v\n", "")), "")
         self.assertIn(f"<title>1 put {key}</title>", svg)
-        self.assertIn(f">1 put {'k' * 19}…<", svg)
+        self.assertRegex(svg, ">1 put k{19,50}…<")
+
+    def test_a_label_uses_the_room_in_its_row(self) -> None:
+        key = "k" * 30
+        plan = TWO_RANKS.format(f"put global {key} v\ncommit\n", f"get a:0 {key}\n")
+        svg = drawing.draw_figure(make_diagram(plan), "")
+        self.assertIn(f">1 put {key}<", svg)
+        self.assertRegex(svg, ">1 get k{19,29}…<")
 
     def test_what_is_not_drawn_is_counted(self) -> None:
         puts = "".join(f"put global k{it} v\ncommit\n" for it in range(30))

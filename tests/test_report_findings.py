@@ -8,14 +8,14 @@ from wire_up_tools.checker import Checker
 from wire_up_tools.plan import read_plan
 from wire_up_tools.report import findings
 from wire_up_tools.report.asking import Asker
-from wire_up_tools.report.findings import Group, Kind
+from wire_up_tools.report.findings import Group
 
 
 def describe(group: Group) -> list[str]:
     """All that a group has, in words."""
     pairs = [" ".join(call.name for call in it.calls) for it in (group.first, *group.others)]
     one = group.first
-    return [str(group.count), str(group.rank_count), one.kind.value, one.about, *one.verbs, *pairs]
+    return [str(group.count), str(one.owner), one.kind.value, one.about, *one.verbs, *pairs]
 
 
 @report_support.for_each_plan
@@ -27,29 +27,21 @@ class GroupsTest(report_support.PlanCase):
             data = it.read()
         plan = read_plan(data)
         asker = Asker(Checker(support.program(), bool(report_support.list_options(name))), data)
-        groups = findings.find_groups(asker, plan)
-        counted = findings.group_lines(asker, plan)
-        self.assertEqual([describe(it) for it in groups], [describe(it) for it in counted])
-        self.check_extent(asker, sum(it.count for it in groups))
-
-    def check_extent(self, asker: Asker, count: int) -> None:
-        """Tests whether so many findings are few or many, by where the border is."""
-        for most, is_many in ((count, False), (count - 1, True)):
-            if most >= 0:
-                with mock.patch.object(findings, "READ_AS_JSON", most):
-                    self.assertEqual(findings.has_many(asker), is_many)
+        found = [describe(it) for it in findings.find_groups(asker, plan)]
+        with mock.patch.object(findings, "READ_AS_JSON", 0):
+            self.assertEqual([describe(it) for it in findings.find_groups(asker, plan)], found)
 
 
-class CountedTest(unittest.TestCase):
-    """No more findings are counted than are to be counted."""
+class ManyTest(unittest.TestCase):
+    """No more groups are read than are to be read."""
 
     def test_only_the_first(self) -> None:
-        with open(report_support.find_plan("cards"), "rb") as it:
+        with open(report_support.find_plan("manygroups"), "rb") as it:
             data = it.read()
         asker = Asker(Checker(support.program()), data)
-        with mock.patch.object(findings, "COUNTED", 5):
-            (group,) = findings.group_lines(asker, read_plan(data))
-        self.assertEqual((group.count, group.first.kind), (5, Kind.KEY))
+        with mock.patch.object(findings, "MOST_GROUPS", 5):
+            groups = findings.find_groups(asker, read_plan(data))
+        self.assertEqual([it.first.about for it in groups], [f"key{it}" for it in range(5)])
 
 
 if __name__ == "__main__":

@@ -13,10 +13,9 @@ ASKED = 8
 
 def name_order(order: Order, one: Call, other: Call) -> str:
     """How two calls are ordered in a report, in the words of `why`."""
-    if order.event_of(one) in order.find_earlier(order.event_of(other)):
+    if order.is_before(one, other):
         return "before"
-    is_after = order.event_of(other) in order.find_earlier(order.event_of(one))
-    return "after" if is_after else "unordered"
+    return "after" if order.is_before(other, one) else "unordered"
 
 
 def ask_why(name: str, one: Call, other: Call) -> Optional[str]:

@@ -18,7 +18,7 @@ FIRST_LINES = {
     "recorded-ring": "recorded-ring.plan: no race",
     "recorded-sleep": (
         "recorded-sleep.plan: no race seen, in part "
-        "(2 recordings are cut off: what came then isn't known)"
+        "(the run was cut off, 2 recordings end early: what came then isn't known)"
     ),
     "recorded-poll": (
         "recorded-poll.plan: no race seen, in part (the order of 1 polled request is that of this "
@@ -83,7 +83,9 @@ class ReasonsTest(unittest.TestCase):
 
     def test_a_recording_that_was_cut_off(self) -> None:
         title, last = "Left out:", "  1 last lines of recordings, which were cut"
-        wanted = ["1 recording is cut off: what came then isn't known"]
+        wanted = ["the run was cut off, 1 recording ends early: what came then isn't known"]
+        self.assertEqual(find_reasons_in(title, last), wanted)
+        title = "The run was cut off, so that a verdict holds only in part:"
         self.assertEqual(find_reasons_in(title, last), wanted)
 
 

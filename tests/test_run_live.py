@@ -5,6 +5,7 @@ import json
 import os
 import shutil
 import signal
+import socket
 import subprocess
 import sys
 import time
@@ -14,6 +15,7 @@ import support
 from live import run_plainly
 from running import ProgramCase, written
 from support import TOP
+from wire_up_tools.run.tables import read_table
 
 COMMAND = os.path.join(TOP, "wire_up-run")
 NEEDED = ("mpirun", "make", "cc", "pkg-config", "unshare", "ip", "hostname")
@@ -153,6 +155,28 @@ class Live(ProgramCase):
         self.assertEqual(1 if said else 0, len(stderr.splitlines()), stderr)
         self.assertIn(said, stderr)
         self.hold_nothing_left()
+
+    def test_suite(self) -> None:
+        """A rule that is kept and one that isn't, and random plans, which the known rules of the
+        library explain."""
+        table, names = os.path.join(self.room, "it.table"), ["random-1-0", "random-1-7"]
+        words = ["--times", "1", "--table", table, "--suite", "fence-single"]
+        ran = self.run_it(*words, "scope-local-direct", *names)
+        self.assertEqual(1, ran.returncode, ran.stderr)
+        self.assertIn("\nkept fence-barrier 0 of 1 plans: ", ran.stdout)
+        self.assertIn("\nnot-kept scope-local 1 of 1 plans: ", ran.stdout)
+        if "library OpenPMIx 4" in ran.stdout:
+            self.assertIn("\nknown openpmix-4.2 explains ", ran.stdout)
+            self.assertNotIn("\nunexplained", ran.stdout)
+        self.assertEqual({"fence-single", "scope-local-direct", *names}, {*read_table(table).plans})
+
+    def test_a_host_file(self) -> None:
+        """The node of a plan is this machine."""
+        host = socket.gethostname().encode()
+        hosts = written(self.room, "hosts", b"# this machine\n" + host + b"\n")
+        plan = WAITS.replace(b"get app:1 k", b"get app:1 PMIX_HOSTNAME")
+        ran = self.run_it("--hosts", hosts, written(self.room, "it.plan", plan))
+        self.assertIn("app:0 1 get PMIX_SUCCESS n0\n", ran.stdout, ran.stderr)
 
     def test_what_cannot_be_run(self) -> None:
         """A launcher that dies, one that isn't there, a plan with a fault, too few hosts."""

@@ -1,7 +1,9 @@
 """Parts of wire_up-run that need no MPI: reports, launchers, orders, and its command line."""
+import json
 import os
 import subprocess
 import sys
+import tempfile
 import unittest
 from collections.abc import Sequence
 from xml.etree import ElementTree
@@ -9,12 +11,23 @@ from xml.etree import ElementTree
 from support import TOP
 from wire_up_tools.failures import Refused
 from wire_up_tools.plan import Rank, read_plan
-from wire_up_tools.run import launchers, ranks, turns
-from wire_up_tools.run.answers import Case, write_junit
+from wire_up_tools.run import fake_nodes, launchers, ranks, turns
+from wire_up_tools.run.answers import Case, Seen, write_junit
 from wire_up_tools.run.channels import Channel
 from wire_up_tools.run.expected import read_order
 from wire_up_tools.run.launchers import Kind, Launcher, Start
+from wire_up_tools.run.live import Outcome
+from wire_up_tools.run.profile import BY_LABEL, ProfileRule
 from wire_up_tools.run.reports import compare, read_report
+from wire_up_tools.run.suite import Kind as Verdicts
+from wire_up_tools.run.suite import SuitePlan, Verdict
+from wire_up_tools.run.suite_answers import (
+    SuiteResult,
+    list_suite_cases,
+    write_suite,
+    write_suite_json,
+)
+from wire_up_tools.run.tables import read_table, write_table
 
 COMMAND = os.path.join(TOP, "wire_up-run")
 PLAN = b"""\
@@ -117,6 +130,12 @@ class Launchers(unittest.TestCase):
         self.assertIn("--mpi=pmix", self.write(Kind.SLURM, False))
         self.assertEqual("it program", self.write(Kind.OWN, False))
 
+    def test_hosts_of_fake_nodes(self) -> None:
+        """A name that a launcher could take for something else is replaced."""
+        names = ("n0", "localhost", "10.0.0.1", "a,b")
+        hosts = [fake_nodes.name_host(*it) for it in enumerate(names)]
+        self.assertEqual(["n0", "wire-up-node-1", "wire-up-node-2", "wire-up-node-3"], hosts)
+
     def test_a_command_that_is_not_there_is_refused(self) -> None:
         for it in ("no-such-command -n 2", "'", ""):
             with self.assertRaises(Refused):
@@ -161,6 +180,61 @@ class Scripts(unittest.TestCase):
         calls = plan.calls_of["a:0"]
         told = [ranks.write_reply(it, live, {}, False) for it in calls]
         self.assertEqual(["PMIX_SUCCESS", "waiting"], told)
+
+
+class SuiteAnswers(unittest.TestCase):
+    """How what the suite gave is told."""
+
+    def make(self, rule: ProfileRule, kind: Verdicts, *reports: str) -> Verdict:
+        """What came of a plan, by the library's reports."""
+        rules, read = read_report(RULES), [read_report(it) for it in reports]
+        seen = [Seen(Outcome(it, "Library 1"), 1, compare(rules, it)) for it in read]
+        return Verdict(SuitePlan(f"{rule.label}-{kind.value}", rule, ""), kind, seen, "no host")
+
+    def make_all(self) -> SuiteResult:
+        """A result with each kind."""
+        failing = LIBRARY.replace("ready", "waiting")
+        verdicts = [
+            self.make(ProfileRule.LOOKUP, Verdicts.EQUAL, RULES),
+            self.make(ProfileRule.LOOKUP, Verdicts.DIFFERENT, failing),
+            self.make(ProfileRule.MAP, Verdicts.UNSTEADY, RULES, failing),
+            self.make(ProfileRule.GET_OWN, Verdicts.EQUAL, RULES),
+            self.make(ProfileRule.UNPUBLISH, Verdicts.FAILED),
+        ]
+        return SuiteResult(verdicts, "it", 2, 6.0, None)
+
+    def test_lines(self) -> None:
+        """Each rule has a line, below which the calls stand."""
+        lines = write_suite(self.make_all()).splitlines()
+        said = DIFFERS.removeprefix("differs ")
+        self.assertIn(f"  different lookup-different {said}", lines)
+        self.assertIn(f"  unsteady map-unsteady {said} (1 of 2)", lines)
+        self.assertIn("  failed unpublish-failed: no host", lines)
+        self.assertEqual("equal 2 different 1 unsteady 1 failed 1", lines[-1])
+        states = [it.split()[:2] for it in lines if it.split()[1] in BY_LABEL]
+        wanted = ["kept get-own", "not-kept lookup", "not-run unpublish", "unsteady map"]
+        self.assertEqual(wanted, sorted(" ".join(it) for it in states))
+
+    def test_table(self) -> None:
+        """A table says again what was written; what couldn't be run isn't in it."""
+        with tempfile.TemporaryDirectory() as room:
+            path = os.path.join(room, "it")
+            with open(path, "w", encoding="ascii") as it:
+                it.write(write_table({"library": "it"}, self.make_all().verdicts))
+            table = read_table(path)
+        self.assertEqual({"library": "it"}, table.head)
+        found = {name: [str(d) for d in it.differences] for name, it in table.plans.items()}
+        self.assertEqual([DIFFERS], found["lookup-different"])
+        self.assertEqual([], found["get-own-equal"])
+        self.assertNotIn("unpublish-failed", found)
+
+    def test_json_and_junit(self) -> None:
+        """Programs find the same there."""
+        result = self.make_all()
+        states = {it["rule"]: it["state"] for it in json.loads(write_suite_json(result))["rules"]}
+        self.assertEqual("not-kept", states["lookup"])
+        failures = [bool(it.failure) for it in list_suite_cases(result)]
+        self.assertEqual([False, True, True, False, True], failures)
 
 
 class CommandLine(unittest.TestCase):

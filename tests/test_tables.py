@@ -8,6 +8,7 @@ commands that it tells of:
   canonical text. (These are functions of the library by themselves: crates/one_function runs them.)
 - As `migrate` writes the plan under version 2, it has the same findings and the same report, and is
   migrated to itself.
+- `place` writes the plan that stands there, and the same again from that one.
 - What is refused has one line of fault and the status of that fault, and nothing is written.
 
 `python3 -m unittest tests.test_tables -k fences` runs one table.
@@ -100,6 +101,9 @@ class Tables(ProgramCase):
 
     def test_forms(self) -> None:
         self.hold_table("forms")
+
+    def test_placed(self) -> None:
+        self.hold_table("placed")
 
 
 if __name__ == "__main__":

@@ -5,9 +5,9 @@ WIRE_UP_TRIED names the tables, such as `fences names`, or is `all`:
 
     WIRE_UP_TRIED=fences python3 -m unittest tests.test_tables_tried
 
-It runs `check`, `replay`, `why`, `witness` and `migrate` of the plans that are no larger than a few
-lines. Their statuses and what they write are compared, and not their lines of fault. All tables
-take ten minutes.
+It runs `check`, `replay`, `why`, `witness`, `migrate` and `place` of the plans that are no larger
+than a few lines. Their statuses and what they write are compared, and not their lines of fault. All
+tables take ten minutes.
 """
 import os
 import re
@@ -20,7 +20,7 @@ from row_runs import NAMES, Ended, RowRun, RowRuns, rows_of
 from rows import Large, Row
 from running import written
 
-COMMANDS = {"check", "replay", "why", "witness", "migrate"}
+COMMANDS = {"check", "replay", "why", "witness", "migrate", "place"}
 # How a case ended, and with which status.
 CASE = re.compile(r"^case=(\S+) run=(\S+) (?:status=(\d+))?(.*)$", re.M)
 DIFFERS = "output=differs"

@@ -50,10 +50,15 @@ class Checker:
         said = self._run("--help").stdout
         return re.search(rf"(?m)^ +{re.escape(command)}\b", said) is not None
 
+    def takes(self, command: str, option: str) -> bool:
+        """Whether a command takes an option, by what it says of itself. Raises OSError."""
+        said = self._run(command, "--help").stdout
+        return re.search(rf"(?<![\w-]){re.escape(option)}(?![\w-])", said) is not None
+
     def takes_large(self) -> bool:
         """Whether it can take plans past the limits of their version; not if it can't be run."""
         try:
-            return "--large" in self._run("check", "--help").stdout
+            return self.takes("check", "--large")
         except OSError:
             return False
 

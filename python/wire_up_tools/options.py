@@ -12,7 +12,7 @@ KINDS = {
     "FILE": "file",
     "PLAN": "file",
     "NAME": "name",
-    "COMMAND": "command line",
+    "WORDS": "command line",
     "COUNT": "number",
     "SECONDS": "number of seconds",
 }

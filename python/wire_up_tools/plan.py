@@ -1,13 +1,16 @@
 """Reads a plan: what it declares, its calls with their places, and which calls of fences meet.
 
-A plan that is read here was taken by the checker before: nothing is judged.
+A plan that is read here was taken by the checker before: nothing is judged. Of a plan with millions
+of calls only those are made that are named: many in a row that are alike stay a run of bytes.
 """
+import bisect
 import collections
+import functools
 import itertools
 import re
-from collections.abc import Iterable, Mapping, Sequence
+from collections.abc import Iterable, Iterator, Mapping, Sequence
 from dataclasses import dataclass, field
-from typing import Optional
+from typing import Optional, Union, overload
 
 from wire_up_tools import words
 
@@ -15,32 +18,45 @@ from wire_up_tools import words
 KEY_AT = {"put": 2, "get": 2, "get-now": 2}
 WITHOUT_KEY = ("commit", "fence")
 WORD = re.compile(r"[^ \t]+")
+# Where a script begins, before its first line.
+RANK = re.compile(rb"\n[ \t]*rank[ \t]")
+# How many calls of a rank in a row make a run, by these verbs. A script has runs only if it has
+# none of the others: comments, words further apart, lines without words or of other kinds.
+FEWEST, ASKING = 64, (b"get", b"get-now")
+ODD = (b"#", b"\r", b"\t", b"  ", b"\n\n", b"\n ", b" \n", b"\njob ", b"\nnode ")
+# Among how many lines of the head that is looked for which says that it was recorded.
+HEAD_LINES = 100
+# Of how many bytes it is known how many lines end before them.
+BLOCK = 1 << 16
 
 
 @dataclass(frozen=True, eq=False)
 class Rank:
-    """A rank: its name such as `app:0`, its job, its node, and its place in rank order from 0."""
+    """A rank: its name such as `app:0`, its job, its node, its place in rank order from 0, and
+    whether `wire_up-record` wrote its calls."""
 
     name: str
     job: str
     node: str
     index: int
+    is_recorded: bool = False
 
 
-@dataclass(frozen=True, eq=False)
+@dataclass(frozen=True, eq=False, slots=True)
 class Call:
     """A call of a rank.
 
-    `number` counts the calls of its rank from 1, and `index` those of all ranks from 0. `line` is
-    its line in the plan, from 1, and `place` says where in the program it comes from, if known.
+    `number` counts the calls of its rank from 1. `line` is its line in the plan, from 1, and
+    `place` says where in the program it comes from, if known, and `remark` what of MPI it stands
+    for, as the line above says it.
     """
 
     rank: Rank
     number: int
-    index: int
     words: Sequence[str]
     line: int
     place: Optional[str]
+    remark: Optional[str] = None
 
     @property
     def verb(self) -> str:
@@ -70,6 +86,58 @@ class Call:
 
 
 @dataclass(frozen=True, eq=False)
+class Run:
+    """Many calls of a rank in a row, which ask other ranks for one key by one verb.
+
+    They stand in these bytes of the plan, and are made when they are asked for. `first` is the
+    number of the first, and `line` its line.
+    """
+
+    rank: Rank
+    first: int
+    line: int
+    count: int
+    verb: str
+    about: str
+    data: memoryview
+    made: dict[int, Call] = field(default_factory=dict)
+
+    @property
+    def last(self) -> int:
+        """The number of its last call."""
+        return self.first + self.count - 1
+
+    @property
+    def targets(self) -> list[str]:
+        """Whom its calls ask, in their order."""
+        skipped = len(self.verb) + 1
+        cut = len(self.about) + 1
+        return [it[skipped:-cut].decode() for it in bytes(self.data).splitlines()]
+
+    def find_call(self, number: int) -> Call:
+        """The call of a number of the rank, which must be one of these."""
+        if number not in self.made:
+            self.make(number, self.targets[number - self.first])
+        return self.made[number]
+
+    def list_calls(self) -> list[Call]:
+        """All its calls."""
+        for number, target in enumerate(self.targets, self.first):
+            if number not in self.made:
+                self.make(number, target)
+        return [self.made[it] for it in range(self.first, self.last + 1)]
+
+    def make(self, number: int, target: str) -> None:
+        """Makes a call, which stands alone in its line."""
+        said = [self.verb, target, self.about]
+        self.made[number] = Call(self.rank, number, said, self.line + number - self.first, None)
+
+
+# What a script has in outline.
+Entry = Union[Call, Run]
+
+
+@dataclass(frozen=True, eq=False)
 class Meeting:
     """The calls of one fence that meet: the n-th of each member over the same set of ranks.
 
@@ -85,33 +153,115 @@ class Meeting:
         """Whether all members call it."""
         return len(self.calls) == len(self.members)
 
+    @functools.cached_property
+    def numbers(self) -> Mapping[str, int]:
+        """The number of the call of each rank, by its name."""
+        return {it.rank.name: it.number for it in self.calls}
+
 
 @dataclass(frozen=True, eq=False)
 class Declared:
-    """What the lines of a plan say: `head` are the comments above the header."""
+    """What the lines of a plan declare: `head` are the comments above the header."""
 
-    lines: Sequence[str]
     head: Sequence[str]
     keeps: bool
     nodes: Sequence[str]
     jobs: Sequence[str]
     ranks: Sequence[Rank]
-    calls: Sequence[Call]
+
+
+class Lines(Sequence[str]):
+    """The lines of a file, without their ends. They are cut when they are asked for."""
+
+    def __init__(self, data: bytes) -> None:
+        self.data = data
+        blocks = range(0, len(data), BLOCK)
+        counts = (data.count(b"\n", it, it + BLOCK) for it in blocks)
+        # How many lines end before each block.
+        self.before = list(itertools.accumulate(counts, initial=0))
+        self.total = self.before[-1] + (not data.endswith(b"\n") and bool(data))
+
+    def __len__(self) -> int:
+        return self.total
+
+    @overload
+    def __getitem__(self, index: int) -> str: ...
+
+    @overload
+    def __getitem__(self, index: slice) -> Sequence[str]: ...
+
+    def __getitem__(self, index: Union[int, slice]) -> Union[str, Sequence[str]]:
+        if isinstance(index, slice):
+            return [self[it] for it in range(*index.indices(self.total))]
+        number = index + self.total if index < 0 else index
+        if not 0 <= number < self.total:
+            raise IndexError(index)
+        start = self.find_start(number)
+        end = self.data.find(b"\n", start)
+        return decode_line(self.data[start:] if end < 0 else self.data[start:end])
+
+    def find_start(self, number: int) -> int:
+        """Where a line begins, by its number from 0."""
+        if not number:
+            return 0
+        block = bisect.bisect_left(self.before, number) - 1
+        start = block * BLOCK
+        for _ in range(number - self.before[block]):
+            start = self.data.index(b"\n", start) + 1
+        return start
+
+
+class Scripts(Mapping[str, Sequence[Call]]):
+    """The calls of each rank, by its name, as its outline has them."""
+
+    def __init__(self, outlines: Mapping[str, Sequence[Entry]]) -> None:
+        self.outlines = outlines
+        self.made: dict[str, Sequence[Call]] = {}
+
+    def __getitem__(self, name: str) -> Sequence[Call]:
+        if name not in self.made:
+            found: list[Call] = []
+            for it in self.outlines[name]:
+                found += it.list_calls() if isinstance(it, Run) else [it]
+            self.made[name] = found
+        return self.made[name]
+
+    def __iter__(self) -> Iterator[str]:
+        return iter(self.outlines)
+
+    def __len__(self) -> int:
+        return len(self.outlines)
+
+    def find_call(self, rank: str, number: int) -> Call:
+        """The call of a rank by its number from 1. Raises LookupError where there is none."""
+        outline = self.outlines[rank]
+        at = bisect.bisect_right(outline, number, key=number_of) - 1
+        if at < 0 or number > last_of(outline[at]):
+            raise LookupError(number)
+        found = outline[at]
+        return found.find_call(number) if isinstance(found, Run) else found
+
+
+def number_of(entry: Entry) -> int:
+    """The number of the first call of an entry."""
+    return entry.first if isinstance(entry, Run) else entry.number
+
+
+def last_of(entry: Entry) -> int:
+    """The number of the last call of an entry."""
+    return entry.last if isinstance(entry, Run) else entry.number
 
 
 @dataclass(frozen=True, eq=False)
 class Plan:
-    """A plan: what it declares, the calls of each rank by its name, and which fences meet."""
+    """A plan: its lines, what it declares, the calls of each rank by its name, and which fences
+    meet."""
 
+    lines: Sequence[str]
     declared: Declared
-    calls_of: Mapping[str, Sequence[Call]]
+    calls_of: Scripts
     meetings: Sequence[Meeting]
     meeting_of: Mapping[Call, Meeting]
-
-    @property
-    def lines(self) -> Sequence[str]:
-        """The lines of the file, without their ends."""
-        return self.declared.lines
 
     @property
     def ranks(self) -> Sequence[Rank]:
@@ -120,17 +270,34 @@ class Plan:
 
     @property
     def calls(self) -> Sequence[Call]:
-        """The calls of all ranks, in the order of the file."""
-        return self.declared.calls
+        """The calls of all ranks, in the order of the file. There may be millions."""
+        return [call for it in self.ranks for call in self.calls_of[it.name]]
+
+    @property
+    def call_count(self) -> int:
+        """How many calls there are."""
+        outlines = self.calls_of.outlines.values()
+        return sum(last_of(it[-1]) for it in outlines if it)
+
+    def list_outline(self, rank: Rank) -> Sequence[Entry]:
+        """The calls of a rank, of which many that are alike are one entry."""
+        return self.calls_of.outlines[rank.name]
+
+    def list_single(self) -> Iterator[Call]:
+        """The calls of all ranks but those of runs."""
+        for rank in self.ranks:
+            for entry in self.list_outline(rank):
+                if isinstance(entry, Call):
+                    yield entry
 
     @property
     def is_recorded(self) -> bool:
         """Whether `wire_up-record` wrote it."""
-        return any(line.startswith(words.RECORDED_BY) for line in self.declared.head)
+        return is_recorded(self.declared.head)
 
     def find_call(self, rank: str, number: int) -> Call:
         """The call of a rank by its number from 1. Raises LookupError where there is none."""
-        return self.calls_of[rank][number - 1]
+        return self.calls_of.find_call(rank, number)
 
     def list_in_head(self, title: str) -> list[str]:
         """The lines that stand indented below a title in the head, such as `Left out:`."""
@@ -142,21 +309,86 @@ class Plan:
         return [line.strip() for line in found]
 
 
+def is_recorded(head: Sequence[str]) -> bool:
+    """Whether the head of a plan says that `wire_up-record` wrote it."""
+    return any(line.startswith(words.RECORDED_BY) for line in head[:HEAD_LINES])
+
+
 def read_plan(data: bytes) -> Plan:
     """Reads the bytes of a plan that the checker takes."""
-    declared = read_lines(split_lines(data))
-    calls_of: dict[str, list[Call]] = {rank.name: [] for rank in declared.ranks}
-    for call in declared.calls:
-        calls_of[call.rank.name].append(call)
-    meetings = find_meetings(declared)
+    starts = [it.start() + 1 for it in RANK.finditer(data)]
+    draft = Draft()
+    first = starts[0] if starts else len(data)
+    number = draft.read(split_lines(data[:first]), 1)
+    outlines: dict[str, Sequence[Entry]] = {}
+    for start, end in zip(starts, [*starts[1:], len(data)]):
+        draft.calls = []
+        text = data[start:end]
+        if is_plain(text):
+            draft.add_rank(text.partition(b"\n")[0].decode().split(" ")[1])
+            name = draft.ranks[-1].name
+            outlines[name] = read_outline(draft.ranks[-1], memoryview(data)[start:end], number)
+        else:
+            draft.read(split_lines(text), number)
+            outlines[draft.ranks[-1].name] = draft.calls
+        number += text.count(b"\n")
+    declared = Declared(draft.head, draft.keeps, draft.nodes, draft.jobs, draft.ranks)
+    fences = [it for them in outlines.values() for it in them if it.verb == "fence"]
+    meetings = find_meetings(declared, [it for it in fences if isinstance(it, Call)])
     meeting_of = {call: meeting for meeting in meetings for call in meeting.calls}
-    return Plan(declared, calls_of, meetings, meeting_of)
+    return Plan(Lines(data), declared, Scripts(outlines), meetings, meeting_of)
+
+
+def is_plain(text: bytes) -> bool:
+    """Whether the lines of a long script have calls alone, after the first, with single spaces
+    between words. Then they needn't be read one by one."""
+    return text.count(b"\n") > FEWEST and text.endswith(b"\n") and not any(map(text.count, ODD))
+
+
+def read_outline(rank: Rank, data: memoryview, line: int) -> list[Entry]:
+    """Reads the outline of a plain script, which begins at a line."""
+    lines = bytes(data).split(b"\n")[1:-1]
+    outline: list[Entry] = []
+    at, start = 0, bytes(data[:256]).index(b"\n") + 1
+    while at < len(lines):
+        count = count_alike(rank, lines, at)
+        size = sum(map(len, itertools.islice(lines, at, at + count))) + count
+        said, end = lines[at].decode().split(" "), start + size
+        if count >= FEWEST:
+            run = Run(rank, at + 1, line + at + 1, count, said[0], said[-1], data[start:end])
+            outline.append(run)
+        else:
+            for it in range(at, at + count):
+                text = lines[it].decode().split(" ")
+                outline.append(Call(rank, it + 1, text, line + it + 1, None))
+        at, start = at + count, end
+    return outline
+
+
+def count_alike(rank: Rank, lines: Sequence[bytes], at: int) -> int:
+    """How many lines from this one on ask other ranks for one key by one verb; at least 1."""
+    verb = lines[at].partition(b" ")[0]
+    if verb not in ASKING:
+        return 1
+    key = b" " + lines[at].rpartition(b" ")[2]
+    own = verb + b" " + rank.name.encode() + key
+    end, begins = at, verb + b" "
+    while end < len(lines) and lines[end].startswith(begins) and lines[end].endswith(key):
+        if lines[end] == own:
+            break
+        end += 1
+    return max(end - at, 1)
 
 
 def split_lines(data: bytes) -> list[str]:
-    """The lines of a file. Words are ASCII: only a comment can have other bytes."""
-    lines = [it.decode("utf-8", "replace").removesuffix("\r") for it in data.split(b"\n")]
+    """The lines of a file."""
+    lines = [decode_line(it) for it in data.split(b"\n")]
     return lines if lines[-1] else lines[:-1]
+
+
+def decode_line(line: bytes) -> str:
+    """The text of a line. Words are ASCII: only a comment can have other bytes."""
+    return line.decode("utf-8", "replace").removesuffix("\r")
 
 
 @dataclass
@@ -173,12 +405,27 @@ class Draft:
     calls: list[Call] = field(default_factory=list)
     calls_in_rank: int = 0
     place: Optional[str] = None
+    remark: Optional[str] = None
+
+    def read(self, lines: Sequence[str], first: int) -> int:
+        """Takes lines, the first of which has this number. Answers the number after the last."""
+        number = first
+        for line in lines:
+            said = WORD.findall(line)
+            if not said or said[0].startswith("#"):
+                self.add_comment(line)
+            else:
+                self.add_line(number, said)
+            number += 1
+        return number
 
     def add_comment(self, line: str) -> None:
         """Takes a line that is a comment or has no words."""
         if line.startswith(words.PLACE_COMMENT):
             place = line.removeprefix(words.PLACE_COMMENT)
             self.place = None if place == words.UNKNOWN_PLACE else place
+        if line.startswith(words.MPI_COMMENT):
+            self.remark = line.removeprefix(words.MPI_COMMENT)
         if not self.is_headed and line.startswith("#"):
             self.head.append(line[1:].removeprefix(" "))
 
@@ -201,51 +448,47 @@ class Draft:
     def add_rank(self, node: str) -> None:
         """Takes a rank of the last job."""
         job = self.jobs[-1]
-        self.ranks.append(Rank(f"{job}:{self.ranks_in_job}", job, node, len(self.ranks)))
+        name, index = f"{job}:{self.ranks_in_job}", len(self.ranks)
+        self.ranks.append(Rank(name, job, node, index, is_recorded(self.head)))
         self.ranks_in_job += 1
-        self.calls_in_rank, self.place = 0, None
+        self.calls_in_rank, self.place, self.remark = 0, None, None
 
     def add_call(self, line: int, said: list[str]) -> None:
         """Takes a call of the last rank."""
         self.calls_in_rank += 1
-        rank, index = self.ranks[-1], len(self.calls)
-        self.calls.append(Call(rank, self.calls_in_rank, index, said, line, self.place))
+        call = Call(self.ranks[-1], self.calls_in_rank, said, line, self.place, self.remark)
+        self.calls.append(call)
+        self.remark = None
 
 
-def read_lines(lines: Sequence[str]) -> Declared:
-    """Reads what the lines of a plan declare, and its calls."""
+def read_calls(data: bytes) -> Sequence[Call]:
+    """All calls of a plan, whose fences may not meet."""
     draft = Draft()
-    for number, line in enumerate(lines, 1):
-        said = WORD.findall(line)
-        if not said or said[0].startswith("#"):
-            draft.add_comment(line)
-        else:
-            draft.add_line(number, said)
-    return Declared(
-        lines, draft.head, draft.keeps, draft.nodes, draft.jobs, draft.ranks, draft.calls
-    )
+    draft.read(split_lines(data), 1)
+    return draft.calls
 
 
-def find_meetings(declared: Declared) -> list[Meeting]:
+def find_meetings(declared: Declared, fences: Sequence[Call]) -> list[Meeting]:
     """Finds which calls of fences meet, in the order of the first call of each."""
-    members_of = find_sets(declared)
+    members_of = find_sets(declared, fences)
     calls_of: dict[tuple[frozenset[str], int], list[Call]] = {}
     count: collections.Counter[tuple[frozenset[str], str]] = collections.Counter()
-    for call in declared.calls:
-        if call.verb == "fence":
-            members = members_of[call.rank.job, call.target]
-            calls_of.setdefault((members, count[members, call.rank.name]), []).append(call)
-            count[members, call.rank.name] += 1
+    for call in fences:
+        members = members_of[call.rank.job, call.target]
+        calls_of.setdefault((members, count[members, call.rank.name]), []).append(call)
+        count[members, call.rank.name] += 1
     found = enumerate(calls_of.items())
     return [Meeting(number, members, calls) for number, ((members, _), calls) in found]
 
 
-def find_sets(declared: Declared) -> dict[tuple[str, str], frozenset[str]]:
+def find_sets(
+    declared: Declared, fences: Sequence[Call]
+) -> dict[tuple[str, str], frozenset[str]]:
     """The ranks of each set that a fence names, by the job of the caller and the set's word."""
     ranks_of = collections.defaultdict(list)
     for rank in declared.ranks:
         ranks_of[rank.job].append(rank.name)
-    named = {(it.rank.job, it.target) for it in declared.calls if it.verb == "fence"}
+    named = {(it.rank.job, it.target) for it in fences}
     return {(job, text): read_set(job, text, ranks_of) for job, text in named}
 
 

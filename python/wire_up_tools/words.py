@@ -13,6 +13,8 @@ EVERY_NAME = "*"
 # call for which that isn't known.
 PLACE_COMMENT = "# at "
 UNKNOWN_PLACE = "an unknown place"
+# The comment before a line that stands for a call of MPI.
+MPI_COMMENT = "# MPI: "
 # How the head of a recorded plan begins, and the titles of the lists in it.
 RECORDED_BY = "Recorded by wire_up-record"
 CUT_OFF = "The run was cut off, so that a verdict holds only in part:"

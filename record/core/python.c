@@ -21,6 +21,7 @@ static struct {
     const char *(*text)(void *);
     void (*drop)(void *);
 } python;
+static int (*is_finalizing)(void); /* null where Python can't say so */
 static bool has_python;
 static pthread_once_t learning = PTHREAD_ONCE_INIT;
 
@@ -49,6 +50,18 @@ static void learn_python(void)
         memcpy(wanted[n].function, &found, sizeof found);
         has_python = has_python && found;
     }
+    void *found = dlsym(RTLD_DEFAULT, "Py_IsFinalizing");
+    if (!found)
+        found = dlsym(RTLD_DEFAULT, "_Py_IsFinalizing");
+    memcpy(&is_finalizing, &found, sizeof found);
+}
+
+/* Whether this thread may ask Python for its lock: one that does while Python ends never returns. */
+static bool may_ask(void)
+{
+    if (!has_python || !python.is_initialized() || (is_finalizing && is_finalizing()))
+        return false;
+    return python.this_thread() != NULL;
 }
 
 /* --- lines --- */
@@ -137,7 +150,7 @@ struct place *wire_up_in_python(struct place *place)
     if (!place || !place->is_mpi4py)
         return place;
     pthread_once(&learning, learn_python);
-    if (!has_python || !python.is_initialized() || !python.this_thread())
+    if (!may_ask())
         return place;
     int lock = python.take();
     struct place *found = place_innermost();

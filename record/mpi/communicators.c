@@ -9,8 +9,10 @@ static struct communicator *communicators[BUCKETS];
 static pthread_mutex_t table = PTHREAD_MUTEX_INITIALIZER;
 static unsigned numbers;
 
+/* The group of the world: of MPI_COMM_WORLD, once it is noted, or of a session. */
 static MPI_Group world_group;
-static bool has_world;
+static bool has_world, has_group;
+static int sessions;
 
 /* --- the table --- */
 
@@ -243,12 +245,20 @@ static bool take_world(void)
 {
     pthread_mutex_lock(&table);
     bool is_first = !has_world;
-    if (is_first) {
-        mpi.comm_group(mpi.world, &world_group);
-        __atomic_store_n(&has_world, true, __ATOMIC_RELEASE);
-    }
+    if (is_first && !has_group)
+        has_group = mpi.comm_group(mpi.world, &world_group) == MPI_SUCCESS;
+    __atomic_store_n(&has_world, true, __ATOMIC_RELEASE);
     pthread_mutex_unlock(&table);
     return is_first;
+}
+
+/* Writes which process of the world this is. */
+static void write_world(int rank, int size)
+{
+    struct text what;
+    wire_up_text_open(&what);
+    wire_up_text_add(&what, "world %d %d", rank, size);
+    write_plain(&what);
 }
 
 void note_world(void)
@@ -258,11 +268,69 @@ void note_world(void)
         return;
     if (mpi.initialized(&is_there) != MPI_SUCCESS || !is_there || !take_world())
         return;
-    struct text what;
     mpi.comm_rank(mpi.world, &rank);
     mpi.comm_size(mpi.world, &size);
-    wire_up_text_open(&what);
-    wire_up_text_add(&what, "world %d %d", rank, size);
-    write_plain(&what);
+    write_world(rank, size);
     note_communicator(mpi.world, (struct making){.parent = 0, .how = "w", .nth = 0});
+}
+
+/* --- sessions --- */
+
+/* Keeps the group of the world, if there is none yet. */
+static bool keep_world(MPI_Group world)
+{
+    pthread_mutex_lock(&table);
+    bool is_first = !has_group;
+    if (is_first) {
+        world_group = world;
+        has_group = true;
+    }
+    sessions++;
+    pthread_mutex_unlock(&table);
+    return is_first;
+}
+
+void note_session(MPI_Group world)
+{
+    int rank = 0, size = 0;
+    if (!keep_world(world)) {
+        mpi.group_free(&world);
+        return;
+    }
+    mpi.group_rank(world, &rank);
+    mpi.group_size(world, &size);
+    write_world(rank, size);
+}
+
+void leave_session(void)
+{
+    pthread_mutex_lock(&table);
+    bool is_last = sessions > 0 && --sessions == 0 && has_group && !has_world;
+    if (is_last)
+        has_group = false;
+    pthread_mutex_unlock(&table);
+    if (is_last)
+        mpi.group_free(&world_group);
+}
+
+/* Makes a number of a tag. */
+static long number_tag(const char *tag)
+{
+    const unsigned long most = 999999999999999;
+    unsigned long number = 5381;
+    for (; *tag; tag++)
+        number = (number * 33 + (unsigned char)*tag) % most;
+    return (long)number;
+}
+
+void note_of_session(const struct call *call, int result, const MPI_Comm *made, const char *tag)
+{
+    if (result != MPI_SUCCESS)
+        return;
+    if (has_group && tag && *made != mpi.no_comm) {
+        note_communicator(*made, (struct making){.parent = 0, .how = "s", .nth = number_tag(tag)});
+    } else {
+        forget_communicator((uintptr_t)*made);
+        note_other(call->function);
+    }
 }

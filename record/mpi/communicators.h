@@ -38,6 +38,14 @@ void note_child(const struct communicator *parent, int result, const MPI_Comm *m
 void note_child_of_group(const struct communicator *parent, int result, const MPI_Comm *made,
                          int tag);
 
+/* Notes that a session is there, with the group of all processes of the world, which is kept until
+ * the last session is left. MPI_COMM_WORLD need not be there. */
+void note_session(MPI_Group world);
+void leave_session(void);
+
+/* Notes a communicator that the processes of a group made with a tag, and without a parent. */
+void note_of_session(const struct call *call, int result, const MPI_Comm *made, const char *tag);
+
 /* Notes a communicator that was made of a parent, and has the same processes. */
 void note_duplicate(const struct communicator *parent, MPI_Comm comm, const MPI_Comm *made);
 

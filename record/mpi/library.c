@@ -11,6 +11,7 @@ struct mpi_library mpi;
 char no_tool;
 
 static enum { UNKNOWN, FOUND, LACKING } state;
+static void *known_library;
 static pthread_mutex_t finding = PTHREAD_MUTEX_INITIALIZER;
 
 static const struct {
@@ -26,6 +27,7 @@ static const struct {
     {&mpi.comm_remote_group, "PMPI_Comm_remote_group"},
     {&mpi.group_translate_ranks, "PMPI_Group_translate_ranks"},
     {&mpi.group_free, "PMPI_Group_free"},
+    {&mpi.group_rank, "PMPI_Group_rank"},
     {&mpi.group_size, "PMPI_Group_size"},
     {&mpi.win_get_group, "PMPI_Win_get_group"},
     {&mpi.type_size, "PMPI_Type_size_x"},
@@ -70,6 +72,10 @@ static bool find_objects(void *library)
 }
 #endif
 
+/* Whether an object has the functions of MPI's standard interface, whose handles aren't those of the
+ * header that the recorder has. */
+static bool has_other_handles(const char *object) { return strstr(object, "libmpi_abi") != NULL; }
+
 bool is_mpi_found(void) { return __atomic_load_n(&state, __ATOMIC_ACQUIRE) == FOUND; }
 
 /* Finds all in the library that has `function`, once. */
@@ -82,17 +88,30 @@ static void find_library(const void *function)
     bool is_first = state == UNKNOWN && dladdr(function, &it);
     void *library = is_first ? dlopen(it.dli_fname, RTLD_LAZY | RTLD_NOLOAD) : NULL;
     if (library) {
-        bool are_there = find_functions(library) && find_objects(library);
+        __atomic_store_n(&known_library, library, __ATOMIC_RELEASE);
+        bool is_usable = !has_other_handles(it.dli_fname);
+        bool are_there = is_usable && find_functions(library) && find_objects(library);
         __atomic_store_n(&state, are_there ? FOUND : LACKING, __ATOMIC_RELEASE);
     }
     pthread_mutex_unlock(&finding);
 }
 
-/* Finds the function of a name that comes after the recorder's. */
+/* Answers the library of MPI: the one that was found, or else the one that has its usual name. */
+static void *get_library(void)
+{
+    void *library = __atomic_load_n(&known_library, __ATOMIC_ACQUIRE);
+    return library ? library : dlopen("libmpi.so.40", RTLD_LAZY | RTLD_NOLOAD);
+}
+
+/* Finds the function of a name that comes after the recorder's. Where a function ends with a call, the
+ * code at `caller` isn't its own: then the library is asked. */
 static void *find_next(const char *name, const void *wrapper, void *caller)
 {
     void *found = wire_up_dlsym()(RTLD_NEXT, name);
-    return found ? found : wire_up_find(name, caller, wrapper);
+    if (!found)
+        found = wire_up_find(name, caller, wrapper);
+    void *library = found ? NULL : get_library();
+    return library ? wire_up_dlsym()(library, name) : found;
 }
 
 void *look_up_function(void **known, const char *name, const void *wrapper, void *caller)

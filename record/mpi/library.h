@@ -20,9 +20,10 @@ struct mpi_library {
     __typeof__(&PMPI_Comm_remote_group) comm_remote_group;
     __typeof__(&PMPI_Group_translate_ranks) group_translate_ranks;
     __typeof__(&PMPI_Group_free) group_free;
+    __typeof__(&PMPI_Group_rank) group_rank;
     __typeof__(&PMPI_Group_size) group_size;
     __typeof__(&PMPI_Win_get_group) win_get_group;
-    __typeof__(&PMPI_Type_size_x) type_size;
+    int (*type_size)(MPI_Datatype type, MPI_Count *size);
     __typeof__(&PMPI_Test_cancelled) test_cancelled;
     MPI_Comm world, no_comm;
     MPI_Request no_request;

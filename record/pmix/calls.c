@@ -60,6 +60,20 @@ unsigned long note_fence(const struct call *call, const pmix_proc_t processes[],
     return write_begin(call, &what);
 }
 
+unsigned long note_group(const struct call *call, const char *verb, const char *group,
+                         const pmix_proc_t processes[], size_t count, const pmix_info_t info[],
+                         size_t infos)
+{
+    struct text what;
+    wire_up_text_open(&what);
+    wire_up_text_add(&what, "group %s :", verb);
+    wire_up_text_add_word(&what, group ? group : "");
+    wire_up_text_add(&what, " ");
+    add_processes(&what, processes, count);
+    add_directives(&what, info, infos);
+    return write_begin(call, &what);
+}
+
 unsigned long note_get(const struct call *call, const pmix_proc_t *process, const char *key,
                        const pmix_info_t info[], size_t infos)
 {

@@ -25,6 +25,9 @@ unsigned long note_put(const struct call *call, pmix_scope_t scope, const char *
 unsigned long note_commit(const struct call *call);
 unsigned long note_fence(const struct call *call, const pmix_proc_t processes[], size_t count,
                          const pmix_info_t info[], size_t infos);
+unsigned long note_group(const struct call *call, const char *verb, const char *group,
+                         const pmix_proc_t processes[], size_t count, const pmix_info_t info[],
+                         size_t infos);
 unsigned long note_get(const struct call *call, const pmix_proc_t *process, const char *key,
                        const pmix_info_t info[], size_t infos);
 unsigned long note_publish(const struct call *call, const pmix_info_t info[], size_t infos);

@@ -96,7 +96,17 @@ class Formed(NamedTuple):
     unsettled: bytes = b""
 
 
-Row = Union[Reported, Checked, Refused, Followed, Asked, Canonical, Large, Shown, Formed]
+class Placed(NamedTuple):
+    """A plan, the word that lists the ranks to be put on a node of their own, and the plan
+    with these there, or its fault."""
+
+    name: str
+    plan: bytes
+    ranks: str
+    answer: Union[bytes, Fault]
+
+
+Row = Union[Reported, Checked, Refused, Followed, Asked, Canonical, Large, Shown, Formed, Placed]
 
 # The findings of a plan in which there is nothing to find.
 NOTHING = b"findings 0\n"

@@ -7,10 +7,10 @@ use std::io::Read;
 use std::rt::Files;
 use std::sync::Wait;
 use std::thread::Threads;
-use wire_command_line::{CallPair, Command, PairOptions, ReplayOptions, Request};
+use wire_command_line::{CallPair, Command, Judged, PairOptions, ReplayOptions, Request};
 use wire_commands::{
-    Ended, Manner, Mode, PairAsked, Replaying, answer_question, check_plan, follow_plan,
-    migrate_plan, replay_plan, witness_pair, witness_races,
+    Ended, Manner, Mode, PairAsked, Replaying, answer_question, check_placements, check_plan,
+    check_replies, follow_plan, migrate_plan, place_plan, replay_plan, witness_pair, witness_races,
 };
 use wire_sched::OpenGate;
 use wire_types::{Fault, FromRead, Sink, Source};
@@ -46,11 +46,12 @@ fn manner_of<'a>(request: &Request<'a>) -> Manner<'a> {
 /// What a command does once it has read all.
 pub fn work_of(command: Command<'_>) -> Work {
     match command {
-        Command::Check => Work::Judging,
+        Command::Check(_) => Work::Judging,
         Command::Replay(_) => Work::Running,
         Command::Follow(_) => Work::Following,
         Command::Why(_) | Command::Witness(_) | Command::Witnesses(_) => Work::Searching,
         Command::Migrate => Work::Migrating,
+        Command::Place(_) => Work::Placing,
     }
 }
 
@@ -73,6 +74,14 @@ pub fn calls_of<'a>(command: Command<'a>) -> Option<CallPair<'a>> {
     }
 }
 
+/// The word that lists the ranks to be placed.
+pub fn ranks_of<'a>(command: Command<'a>) -> Option<&'a str> {
+    match command {
+        Command::Place(ranks) => Some(ranks),
+        _ => None,
+    }
+}
+
 /// What is noted while an order is read: how far that is, and what is kept of it.
 #[derive(Drop)]
 pub struct OrderWatch<'w> {
@@ -90,7 +99,7 @@ pub fn run_command<R: Read, W: Sink>(
 ) -> Result<u8, Fault> {
     let manner = manner_of(&request);
     match request.command {
-        Command::Check => status_of(check_plan(rt, rt.alloc(), manner, reader, writer)),
+        Command::Check(judged) => status_of(check(rt, manner, judged, reader, writer)),
         Command::Replay(options) => { replay(rt, manner, options, watch.progress, reader, writer) }
         Command::Follow(order) => {
             if request.plan.is_none() {
@@ -108,6 +117,10 @@ pub fn run_command<R: Read, W: Sink>(
             migrate_plan(rt.alloc(), request.size, reader, writer)?;
             Ok(DONE)
         }
+        Command::Place(ranks) => {
+            place_plan(rt.alloc(), request.size, reader, writer, ranks)?;
+            Ok(DONE)
+        }
         Command::Witness(options) => {
             let asked = asked_of(options);
             status_of(witness_pair(rt.alloc(), manner, reader, writer, asked))
@@ -115,6 +128,21 @@ pub fn run_command<R: Read, W: Sink>(
         Command::Witnesses(most) => {
             status_of(witness_races(rt, rt.alloc(), manner, reader, writer, most))
         }
+    }
+}
+
+/// Checks a plan on the placements that are asked for.
+fn check<S: Source, W: Sink>(
+    rt: &(impl AllocGlobal + Threads + Sync),
+    manner: Manner<'_>,
+    judged: Judged,
+    reader: &mut S,
+    writer: &mut W,
+) -> Result<Ended, Fault> {
+    match judged {
+        Judged::Written => check_plan(rt, rt.alloc(), manner, reader, writer),
+        Judged::Anywhere => check_placements(rt, rt.alloc(), manner, reader, writer),
+        Judged::Same => check_replies(rt, rt.alloc(), manner, reader, writer),
     }
 }
 

@@ -10,7 +10,7 @@ ghost use Rattle.std.specs.Thread.{IsSync};
 
 use clap::Error;
 use clap::error::ErrorKind;
-use commands::{DONE, OrderWatch, calls_of, length_of, name_of, run_command, work_of};
+use commands::{DONE, OrderWatch, calls_of, length_of, name_of, ranks_of, run_command, work_of};
 use kept::{Kept, KeptReader};
 use std::alloc::{AllocError, Global};
 use std::fs::File;
@@ -23,7 +23,7 @@ use std::time::Clock;
 use std::{env, io, thread};
 use terminal_line::{NotedReader, NotedWriter, Progress, Streams, start_line};
 use wire_command_line::{CallPair, Command, Refusal, Request, read_request};
-use wire_explain::{explain_order, explain_plan, explain_stop, explain_word};
+use wire_explain::{explain_order, explain_plan, explain_rank, explain_stop, explain_word};
 use wire_types::{Fault, FromRead, ToWrite, write_out};
 
 /// The exit status of a command line that can't be read.
@@ -101,6 +101,10 @@ fn refuse(rt: &(impl Print + Eprint + AllocGlobal), refusal: Refusal) -> Result<
             let _ = rt.eprintln("wire_up: usage --workers");
             Err(Failure::Usage)
         }
+        Refusal::Same => {
+            let _ = rt.eprintln("wire_up: usage --same");
+            Err(Failure::Usage)
+        }
         Refusal::Witness => {
             let _ = rt.eprintln("wire_up: usage witness");
             Err(Failure::Usage)
@@ -129,7 +133,12 @@ fn word_at<'a>(calls: CallPair<'a>, place: u64) -> Option<&'a str> {
     }
 }
 
-/// What explains a fault of an order, or of the words of a question.
+/// The rank at a place, from 1, of a word that lists ranks.
+fn rank_at(ranks: &str, place: u64) -> Option<&str> {
+    ranks.split(',').nth(place.saturating_sub(1) as usize)
+}
+
+/// What explains a fault of an order, of the words of a question, or of the ranks of a list.
 fn explain_place(
     alloc: Global,
     place: u64,
@@ -138,6 +147,12 @@ fn explain_place(
     if let Some(calls) = calls_of(watch.request.command) {
         return match word_at(calls, place) {
             Some(word) => Ok(Some(explain_word(alloc, place, word)?)),
+            None => Ok(None),
+        };
+    }
+    if let Some(ranks) = ranks_of(watch.request.command) {
+        return match rank_at(ranks, place) {
+            Some(rank) => Ok(Some(explain_rank(alloc, place, rank)?)),
             None => Ok(None),
         };
     }

@@ -70,6 +70,7 @@ pub enum Work {
     Following,
     Searching,
     Migrating,
+    Placing,
 }
 
 impl Work {
@@ -81,6 +82,7 @@ impl Work {
             Work::Following => "following",
             Work::Searching => "searching",
             Work::Migrating => "migrating",
+            Work::Placing => "placing",
         }
     }
 }

@@ -46,7 +46,7 @@ with_large line = with_plan (with_rule line (flag (codes "large")))
 
 -- the commands
 abbrev pub check_line : App
-check_line = with_large (with_forms (new_app (codes "check")))
+check_line = with_large (with_forms (with_rule (with_rule (new_app (codes "check")) (flag (codes "anywhere"))) (flag (codes "same"))))
 
 abbrev pub replay_line : App
 replay_line =
@@ -64,13 +64,16 @@ why_line =
 abbrev pub migrate_line : App
 migrate_line = with_large (new_app (codes "migrate"))
 
+abbrev pub place_line : App
+place_line = with_large (with_rule (new_app (codes "place")) (needed_word (codes "RANKS")))
+
 abbrev pub witness_line : App
 witness_line =
     with_plan (with_rule (with_rule (with_rule (with_rule (with_forms (with_rule (with_rule (with_rule (new_app (codes "witness"))
     (flag (codes "first"))) (flag (codes "second"))) (option_with_word (codes "most"))))
     (optional_word (codes "P"))) (optional_word (codes "N"))) (optional_word (codes "Q"))) (optional_word (codes "M")))
 
--- the program: it needs one of the six, and has a version
+-- the program: it needs one of the seven, and has a version
 abbrev pub program_alone : App
 program_alone = record (new_app (codes "wire_up")) {
   top = record (new_app (codes "wire_up")).top { has_version = true; subcommand_required = true };
@@ -78,18 +81,19 @@ program_alone = record (new_app (codes "wire_up")) {
 
 abbrev pub program_line : App
 program_line =
-    with_subcommand (with_subcommand (with_subcommand (with_subcommand (with_subcommand (with_subcommand program_alone
-    check_line.top) replay_line.top) follow_line.top) why_line.top) migrate_line.top) witness_line.top
+    with_subcommand (with_subcommand (with_subcommand (with_subcommand (with_subcommand (with_subcommand (with_subcommand program_alone
+    check_line.top) replay_line.top) follow_line.top) why_line.top) migrate_line.top) place_line.top) witness_line.top
 
 -- the words of a command's own that were given, in the order in which they stand
 abbrev pub words_given : List Row → List Text
 words_given rows = flat_map (λ name. option_to_list (first_of name rows))
-    (codes "ORDER" ∷ codes "P" ∷ codes "N" ∷ codes "Q" ∷ codes "M" ∷ codes "FILE" ∷ [])
+    (codes "ORDER" ∷ codes "RANKS" ∷ codes "P" ∷ codes "N" ∷ codes "Q" ∷ codes "M" ∷ codes "FILE" ∷ [])
 
 -- the words without which a command can't be
 abbrev pub needed_by : Text → List Text
 needed_by command =
     if bytes_eq command (codes "follow") then codes "ORDER" ∷ []
+    else if bytes_eq command (codes "place") then codes "RANKS" ∷ []
     else (if bytes_eq command (codes "why") then codes "P" ∷ codes "N" ∷ codes "Q" ∷ codes "M" ∷ [] else [])
 
 -- they are all given
@@ -114,6 +118,8 @@ pub record SaidBy (name : Text) (rows : List Row) (asked : Asked) : Type 0 where
   pub words : map (λ w. w.now) asked.words.items ≡ words_given rows
   pub workers : asked.workers.now ≡ workers_word rows
   pub most : asked.most.now ≡ most_word rows
+  pub anywhere : asked.anywhere ≡ is_set (codes "anywhere") rows
+  pub same : asked.same ≡ is_set (codes "same") rows
   pub lines : asked.lines ≡ is_set (codes "lines") rows
   pub json : asked.json ≡ is_set (codes "json") rows
   pub anyway : asked.anyway ≡ is_set (codes "anyway") rows

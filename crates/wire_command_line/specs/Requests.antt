@@ -18,11 +18,14 @@ use Rattle.wire_command_line.specs.Workers.{most_said, workers_said}
 use Rattle.wire_command_line.specs.declared.request.CallPair.{CallPair}
 use Rattle.wire_command_line.specs.declared.request.CallWords.{CallWords}
 use Rattle.wire_command_line.specs.declared.request.Command.{Command}
-use Rattle.wire_command_line.specs.declared.request.Command.TheVariants.{Check, Replay, Follow, Why, Migrate, Witness}
+use Rattle.wire_command_line.specs.declared.request.Command.TheVariants.{Check, Replay, Follow, Why, Migrate, Place, Witness}
 use Rattle.wire_command_line.specs.declared.request.Command.TheVariants.{Witnesses}
+use Rattle.wire_command_line.specs.declared.request.Judged.{Judged}
+use Rattle.wire_command_line.specs.declared.request.Judged.TheVariants.{Written, Anywhere, Same}
 use Rattle.wire_command_line.specs.declared.request.Request.{Request}
 use Rattle.wire_command_line.specs.declared.request.Refusal.{Refusal}
-use Rattle.wire_command_line.specs.declared.request.Refusal.TheVariants.{Usage, Workers, Witness as Misfit}
+use Rattle.wire_command_line.specs.declared.request.Refusal.TheVariants.{Usage, Workers, Same as SameAlone}
+use Rattle.wire_command_line.specs.declared.request.Refusal.TheVariants.{Witness as Misfit}
 
 -- the text of a word that may be left out
 abbrev pub text_of : Option (Bor Text) → Option Text
@@ -46,6 +49,16 @@ form_of true true = PlacedJson
 
 abbrev pub form_said : List Row → Form
 form_said rows = form_of (is_set (codes "lines") rows) (is_set (codes "json") rows)
+
+-- the placements that two flags ask for, nothing where the second is given alone
+abbrev pub judged_of : (anywhere same : Bool) → Option Judged
+judged_of false false = Some Written
+judged_of true false = Some Anywhere
+judged_of true true = Some Same
+judged_of false true = None
+
+abbrev pub judged_said : List Row → Option Judged
+judged_said rows = judged_of (is_set (codes "anywhere") rows) (is_set (codes "same") rows)
 
 -- the limits that a flag asks for
 abbrev pub size_of : Bool → Size
@@ -77,13 +90,14 @@ has_calls rows = has_both (codes "P") (codes "N") rows && has_both (codes "Q") (
 -- this is the command of this name, with the words that its matches have: each word is the one that was given by its
 -- name
 abbrev pub IsCommand : Text → List Row → Command → Type 0
-IsCommand name rows Check = name ≡ codes "check"
+IsCommand name rows (Check judged) = (name ≡ codes "check") × (Some judged ≡ judged_said rows)
 IsCommand name rows (Replay asked) =
     (name ≡ codes "replay") × (Some asked.workers ≡ workers_said (workers_word rows))
     × (asked.anyway ≡ is_set (codes "anyway") rows) × (asked.complete ≡ is_set (codes "complete") rows)
 IsCommand name rows (Follow order) = (name ≡ codes "follow") × (Some order.now ≡ first_of (codes "ORDER") rows)
 IsCommand name rows (Why calls) = (name ≡ codes "why") × NamesCalls rows calls
 IsCommand name rows Migrate = name ≡ codes "migrate"
+IsCommand name rows (Place ranks) = (name ≡ codes "place") × (Some ranks.now ≡ first_of (codes "RANKS") rows)
 IsCommand name rows (Witness asked) =
     (name ≡ codes "witness") × NamesCalls rows asked.calls × (Some asked.orders ≡ orders_said rows) × (first_of (codes "most") rows ≡ None)
 IsCommand name rows (Witnesses most) =
@@ -112,7 +126,9 @@ pub record IsRequestBy (command : Option (Text × List Row)) (request : Request)
 -- the name is that of one of the program's commands, and the words that it needs are given
 abbrev pub is_full : Text → List Row → Bool
 is_full name rows =
-    list_any (bytes_eq name) (codes "check" ∷ codes "replay" ∷ codes "follow" ∷ codes "why" ∷ codes "migrate" ∷ codes "witness" ∷ []) && has_needed name rows
+    list_any (bytes_eq name)
+    (codes "check" ∷ codes "replay" ∷ codes "follow" ∷ codes "why" ∷ codes "migrate" ∷ codes "place" ∷ codes "witness" ∷ [])
+    && has_needed name rows
 
 -- the words of `witness` are those of two calls; one order alone has no form, and no `--most` goes with them
 abbrev pub is_of_pair : List Row → Bool
@@ -137,6 +153,12 @@ pub record LacksWorkers (command : Option (Text × List Row)) : Type 0 where
   pub named : command ≡ Some (codes "replay", rows)
   pub none : workers_said (workers_word rows) ≡ None
 
+-- it is `check`, with `--same` and without `--anywhere`
+pub record LacksAnywhere (command : Option (Text × List Row)) : Type 0 where
+  pub rows : List Row
+  pub named : command ≡ Some (codes "check", rows)
+  pub none : judged_said rows ≡ None
+
 -- it is `witness`, and its words and options don't go together
 pub record LacksFit (command : Option (Text × List Row)) : Type 0 where
   pub rows : List Row
@@ -148,10 +170,11 @@ abbrev pub IsRequestOf : List Text → Request → Type 0
 IsRequestOf words request = (fault_of program_line words ≡ []) × IsRequestBy (subcommand_of program_line words) request
 
 -- why they request nothing: for a fault that `clap` finds, for want of memory or of a word, for the word of
--- `--workers`, or for what doesn't go together
+-- `--workers`, for `--same` alone, or for what doesn't go together
 abbrev pub IsRefusalOf : List Text → Refusal → Type 0
 IsRefusalOf words (Usage e) =
     HasKind (fault_of program_line words) e
     ⊎ ((fault_of program_line words ≡ []) × (kind_of e ≡ MissingRequiredArgument) × (is_command (subcommand_of program_line words) ≡ false))
 IsRefusalOf words Workers = (fault_of program_line words ≡ []) × LacksWorkers (subcommand_of program_line words)
+IsRefusalOf words SameAlone = (fault_of program_line words ≡ []) × LacksAnywhere (subcommand_of program_line words)
 IsRefusalOf words Misfit = (fault_of program_line words ≡ []) × LacksFit (subcommand_of program_line words)

@@ -84,6 +84,16 @@ fn check_command<'a>() -> Subcommand<'a>
         about: "Finds every race of a plan, and every key that a rank puts twice",
         arguments: &[
             Argument {
+                name: "anywhere",
+                kind: Kind::Flag,
+                help: "Finds those of every placement of the ranks on nodes, not only of the one that the plan has",
+            },
+            Argument {
+                name: "same",
+                kind: Kind::Flag,
+                help: "With --anywhere: where nothing is found, names each call that replies differently elsewhere",
+            },
+            Argument {
                 name: "lines",
                 kind: Kind::Flag,
                 help: "Groups findings that are alike, and tells where the calls of each group's first finding stand",
@@ -182,6 +192,25 @@ fn migrate_command<'a>() -> Subcommand<'a>
     }
 }
 
+fn place_command<'a>() -> Subcommand<'a>
+    ensures { line_said result ≡ spec.place_line }
+{
+    Subcommand {
+        name: "place",
+        about: "Writes the same plan with some ranks on one node, and all others on another",
+        arguments: &[
+            Argument {
+                name: "RANKS",
+                kind: Kind::NeededWord,
+                help: "The ranks on a node of their own, with commas between them, as app:0,app:3",
+            },
+            LARGE,
+            EXPLAIN,
+            PLAN,
+        ],
+    }
+}
+
 fn witness_command<'a>() -> Subcommand<'a>
     ensures { line_said result ≡ spec.witness_line }
 {
@@ -253,7 +282,7 @@ fn with_command<'a>(
 }
 
 /// The commands, in the order in which help lists them.
-fn commands<'a>() -> [Subcommand<'a>; 6]
+fn commands<'a>() -> [Subcommand<'a>; 7]
     ensures { with_commands spec.program_alone result ≡ spec.program_line }
 {
     [
@@ -262,6 +291,7 @@ fn commands<'a>() -> [Subcommand<'a>; 6]
         follow_command(),
         why_command(),
         migrate_command(),
+        place_command(),
         witness_command(),
     ]
 }

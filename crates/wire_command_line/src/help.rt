@@ -15,12 +15,12 @@ Faults, as one line on standard error, such as 'wire_up: fault 4 BadLine 7':
   10 Read              a file or standard input can't be opened or read
   11 Write BYTES       the output can't be written, after so many bytes
   12 NotReady STEP     a step of the order can't be taken when it comes
-  13 BadOrder N        line N of the order, or word N of the question, names nothing in the file
+  13 BadOrder N        line N of the order, word N of the question or rank N of 'place' names nothing in the file
 
 Exit statuses:
    0  done, and nothing was found
    1  'check' or 'replay' found something, 'witness' showed something, or with --complete a call didn't succeed
-   2  the file, the order, the question or the number of workers is refused (faults 2 to 9, 12 and 13)
+   2  the file, the order, the question, a rank or the number of workers is refused (faults 2 to 9, 12 and 13)
    3  out of memory (fault 1)
    4  reading or writing failed (faults 10 and 11)
    5  the command line can't be read";

@@ -13,5 +13,7 @@ pub mod wanted;
 pub use matching::asked;
 pub use number::workers_of;
 pub use reading::read_request;
-pub use request::{CallPair, CallWords, Command, PairOptions, Refusal, ReplayOptions, Request};
+pub use request::{
+    CallPair, CallWords, Command, Judged, PairOptions, Refusal, ReplayOptions, Request,
+};
 pub use wanted::Asked;

@@ -60,6 +60,9 @@ fn has_needed(command: &str, found: &ArgMatches<'_>) -> bool
     if is_same(command, "follow") {
         return has_word(found, "ORDER");
     }
+    if is_same(command, "place") {
+        return has_word(found, "RANKS");
+    }
     if is_same(command, "why") {
         return has_calls(found);
     }
@@ -86,7 +89,7 @@ fn words_given<'a>(alloc: Global, found: &ArgMatches<'a>) -> Result<Vec<&'a str>
     ensures { IfOk result (λ v. map (λ w. w.now) v.items ≡ spec.words_given (rows_of (found_of found.now))) }
 {
     let mut words = Vec::new(alloc);
-    for name in &["ORDER", "P", "N", "Q", "M", "FILE"] {
+    for name in &["ORDER", "RANKS", "P", "N", "Q", "M", "FILE"] {
         add_word(&mut words, found, name)?;
     }
     Ok(words)
@@ -128,6 +131,8 @@ fn parse_command<'a>(
         command,
         workers: workers_given(found),
         most: most_given(found),
+        anywhere: is_set(found, "anywhere"),
+        same: is_set(found, "same"),
         lines: is_set(found, "lines"),
         json: is_set(found, "json"),
         anyway: is_set(found, "anyway"),

@@ -10,7 +10,9 @@ use crate::matching::{
     find_word, has_word, is_same, is_set, match_words, most_given, tell_missing, workers_given,
 };
 use crate::number::{most_of, workers_of};
-use crate::request::{CallPair, CallWords, Command, PairOptions, Refusal, ReplayOptions, Request};
+use crate::request::{
+    CallPair, CallWords, Command, Judged, PairOptions, Refusal, ReplayOptions, Request,
+};
 use clap::ArgMatches;
 use std::alloc::Global;
 use wire_script::Size;
@@ -23,6 +25,8 @@ enum Lack {
     Word,
     /// A number of workers.
     Workers,
+    /// `--anywhere`, beside `--same`.
+    Anywhere,
     /// Words and options of `witness` that go together.
     Fit,
 }
@@ -79,6 +83,28 @@ fn size_of(large: bool) -> Size
     ensures { result ≡ spec.size_of large }
 {
     if large { Size::Large } else { Size::OfVersion }
+}
+
+/// Which placements two flags ask for: nothing where the second is given alone.
+fn judged_of(anywhere: bool, same: bool) -> Option<Judged>
+    ensures { result ≡ spec.judged_of anywhere same }
+{
+    match (anywhere, same) {
+        (false, false) => Some(Judged::Written),
+        (true, false) => Some(Judged::Anywhere),
+        (true, true) => Some(Judged::Same),
+        (false, true) => None,
+    }
+}
+
+/// Which placements `check` is to judge, where `--same` isn't given alone.
+fn read_check<'a>(found: &ArgMatches<'a>) -> Result<Command<'a>, Lack>
+    ensures { IsReadAs (codes "check") (rows_of (found_of found.now)) result }
+{
+    match judged_of(is_set(found, "anywhere"), is_set(found, "same")) {
+        Some(judged) => Ok(Command::Check(judged)),
+        None => Err(Lack::Anywhere),
+    }
 }
 
 /// How `replay` is to run a plan, where the word of `--workers` is a number.
@@ -174,7 +200,7 @@ fn read_command<'a>(name: &str, found: &ArgMatches<'a>) -> Result<Command<'a>, L
     ensures { IsReadAs name.now (rows_of (found_of found.now)) result }
 {
     if is_same(name, "check") {
-        return Ok(Command::Check);
+        return read_check(found);
     }
     if is_same(name, "replay") {
         return read_replay(found);
@@ -189,6 +215,11 @@ fn read_command<'a>(name: &str, found: &ArgMatches<'a>) -> Result<Command<'a>, L
     }
     if is_same(name, "migrate") {
         return Ok(Command::Migrate);
+    }
+    if is_same(name, "place") {
+        return find_word(found, "RANKS")
+            .map(Command::Place)
+            .ok_or(Lack::Word);
     }
     if is_same(name, "witness") {
         return read_witness(found);
@@ -233,8 +264,9 @@ fn read_matches<'a>(matches: &ArgMatches<'a>) -> Result<Request<'a>, Lack>
 /// What the words of a command line request. The first of them is the program's name.
 ///
 /// Where it is `Ok`, `clap` finds no fault in the words, and each word of the request is the one that its matches have
-/// by that name. `Workers` comes only for a `replay` whose word of `--workers` isn't one or more digits, `Witness` only
-/// for a `witness` whose words and options don't go together. Any other error is one of those that `clap` has for the
+/// by that name. `Workers` comes only for a `replay` whose word of `--workers` isn't one or more digits, `Same` only
+/// for a `check` with `--same` and without `--anywhere`, `Witness` only for a `witness` whose words and options don't
+/// go together. Any other error is one of those that `clap` has for the
 /// words, want of memory among them, or `MissingRequiredArgument` where `clap` finds no fault and a word is missing all
 /// the same (no words are known for which that is so).
 pub fn read_request<'a>(alloc: Global, words: &'a [&'a str]) -> Result<Request<'a>, Refusal>
@@ -247,6 +279,7 @@ pub fn read_request<'a>(alloc: Global, words: &'a [&'a str]) -> Result<Request<'
     match read {
         Ok(request) => Ok(request),
         Err(Lack::Workers) => Err(Refusal::Workers),
+        Err(Lack::Anywhere) => Err(Refusal::Same),
         Err(Lack::Fit) => Err(Refusal::Witness),
         Err(Lack::Word) => Err(Refusal::Usage(tell_missing(alloc)?)),
     }

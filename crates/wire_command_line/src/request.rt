@@ -31,6 +31,17 @@ pub struct ReplayOptions {
     pub complete: bool,
 }
 
+/// Which placements of a plan `check` is to judge.
+#[derive(Clone, Copy, Debug, PartialEq, Eq)]
+pub enum Judged {
+    /// The one that the plan has.
+    Written,
+    /// Every one.
+    Anywhere,
+    /// Every one, and if nothing is found whether each call replies the same on all of them.
+    Same,
+}
+
 /// Whose race `witness` is to show by two runs, and what it is to write of them.
 #[derive(Clone, Copy)]
 pub struct PairOptions<'a> {
@@ -42,8 +53,8 @@ pub struct PairOptions<'a> {
 /// A command, with all that it alone needs.
 #[derive(Clone, Copy)]
 pub enum Command<'a> {
-    /// To find the races of a plan.
-    Check,
+    /// To find the races of a plan, on these placements.
+    Check(Judged),
     /// To run a plan.
     Replay(ReplayOptions),
     /// To run a plan in the order of this file.
@@ -52,6 +63,8 @@ pub enum Command<'a> {
     Why(CallPair<'a>),
     /// To write a plan under version 2 of the format.
     Migrate,
+    /// To write a plan with these ranks on one node, and all others on another.
+    Place(&'a str),
     /// `witness` with two calls: to show their race by two runs.
     Witness(PairOptions<'a>),
     /// `witness` without calls: to tell which races two runs show. So many are tried, 1,000,000,000 for every greater
@@ -78,6 +91,8 @@ pub enum Refusal {
     Usage(Error),
     /// The word of `--workers` isn't one or more digits.
     Workers,
+    /// `--same` is given without `--anywhere`.
+    Same,
     /// The words of `witness` aren't those of a file, or of two calls and a file; an option doesn't go with them; or
     /// the word of `--most` isn't one or more digits.
     Witness,

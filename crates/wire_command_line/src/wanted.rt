@@ -9,6 +9,8 @@ pub struct Asked<'a> {
     pub workers: &'a str,
     /// The word of `--most`, `1000` where none was given.
     pub most: &'a str,
+    pub anywhere: bool,
+    pub same: bool,
     pub lines: bool,
     pub json: bool,
     pub anyway: bool,

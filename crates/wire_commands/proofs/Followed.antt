@@ -122,7 +122,7 @@ followed_err json coming order_coming old new s order shown text out kept failed
     )
 
 -- an order has no fault but a bad line
-abbrev IsBad : Result (List ℕ) Fault → Type 0
+abbrev pub IsBad : Result (List ℕ) Fault → Type 0
 IsBad r = IfErr r (λ e. (n : ℕ) × (e ≡ BadOrder n))
 
 with_bad : (line : ℕ) (step : Option ℕ) (later : Result (List ℕ) Fault) → IsBad later → IsBad (with_step line step later)
@@ -130,7 +130,7 @@ with_bad line None later bad = (line, refl)
 with_bad line (Some step) (Ok steps) bad = tt
 with_bad line (Some step) (Err fault) bad = bad
 
-all_bad : (s : Scripts) (lines : List Statement) → IsBad (order_of s lines)
+pub all_bad : (s : Scripts) (lines : List Statement) → IsBad (order_of s lines)
 all_bad s [] = tt
 all_bad s (line ∷ later) = with_bad line.0 (step_of s line.1) (order_of s later) (all_bad s later)
 

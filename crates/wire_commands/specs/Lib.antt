@@ -3,6 +3,8 @@ pub mod Plain
 pub mod Answer
 pub mod CallsJson
 pub mod Check
+pub mod CheckAnywhere
+pub mod CheckSame
 pub mod Chains
 pub mod Why
 pub mod Witness
@@ -11,3 +13,4 @@ pub mod Replay
 pub mod Complete
 pub mod Follow
 pub mod Migrate
+pub mod Place

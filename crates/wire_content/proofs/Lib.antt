@@ -4,6 +4,7 @@ pub mod Listed
 pub mod SameCalls
 pub mod Same
 pub mod Migrated
+pub mod Moved
 pub mod PlannedCalls
 mod Broken
 mod Lines

@@ -10,3 +10,4 @@ pub mod Planned
 pub mod Canonical
 pub mod Same
 pub mod Apart
+pub mod Placed

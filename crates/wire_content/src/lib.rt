@@ -2,6 +2,7 @@
 #![tactic(auto)]
 
 mod canonical;
+pub mod laws;
 mod process;
 mod scripts;
 mod set_word;

@@ -75,6 +75,13 @@ impl Process {
     }
 }
 
+/// Puts a process on the node of this number.
+pub(crate) fn move_to(process: &mut Process, node: u32)
+    ensures { process.new ≡ record process.old { node = node } }
+{
+    process.node = node;
+}
+
 impl PartialEq for Process {
     ghost use Rattle.wire_content.specs.Same.{same_process, processes_alike};
 

@@ -1,15 +1,19 @@
 //! The scripts of all processes.
 
-ghost use Rattle.std.specs.Prelude.{◌≡◌};
-ghost use Rattle.wire_content.specs.Scripts.{IsSound, under_version_2};
+ghost use Rattle.std.specs.Prelude.{◌≡◌, false, slice_index_or, if◌then◌else◌, OnOk, IfOk, IfErr};
+ghost use Rattle.wire_runs.specs.Placings.{IsPlacing};
+ghost use Rattle.wire_content.specs.Scripts.{IsSound, numbers_of, under_version_2};
+ghost use Rattle.wire_content.specs.Placed.{AreAloneTogether, moved_from, node_beside, placed};
 ghost use Rattle.wire_content.specs.Planned.{plan_of};
 ghost use Rattle.wire_content.specs.Tabled.{scripts_from_parts};
 
-use crate::process::Process;
+use crate::process::{Process, move_to};
+use crate::set_word::presence;
 use crate::sets::Sets;
 use crate::texts::Texts;
+use std::alloc::{AllocError, Global};
 use std::marker::Model;
-use wire_types::Version;
+use wire_types::{Fault, Proc, Version};
 
 /// What calls name, numbered as first seen: keys of puts and gets, published names, values of puts and
 /// publishes, and the sets of processes of fences.
@@ -63,6 +67,34 @@ impl Model for Scripts {
     ghost invariant = { λ s. spec.IsSound (scripts_from_parts s.format s.nodes s.jobs s.tables s.processes.items) };
 }
 
+/// Puts the processes for which this is true on the second node, and all others on the first.
+fn place_each(processes: &mut Vec<Process>, named: &[bool])
+    ensures { processes.new.items ≡ moved_from 0 (λ p. if slice_index_or named.now p false then 1 else 0) processes.old.items }
+{
+    for number in 0..processes.len() {
+        move_to(&mut processes[number], node_for(named, number));
+    }
+}
+
+/// Puts these ranks on the second node, and all others on the first.
+fn place_all(alloc: Global, processes: &mut Vec<Process>, ranks: &[Proc]) -> Result<(), AllocError>
+    ensures { OnOk result (processes.new.items ≡ moved_from 0 (node_beside (numbers_of ranks.now)) processes.old.items) }
+{
+    let named = presence(alloc, ranks, processes.len())?;
+    place_each(processes, named.as_slice());
+    Ok(())
+}
+
+/// The number of the node of a process.
+fn node_for(named: &[bool], number: usize) -> u32
+    ensures { result ≡ (if slice_index_or named.now number false then 1 else 0) }
+{
+    match named.get(number) {
+        Some(true) => 1,
+        _ => 0,
+    }
+}
+
 impl Scripts {
     /// Scripts of these parts.
     pub fn new(
@@ -107,6 +139,32 @@ impl Scripts {
             tables,
             processes,
         }
+    }
+
+    /// The same jobs and calls, with these ranks on the second node and all others on the first. Where there is only
+    /// one node, a second one gets a name that the first doesn't have. The only fault is `Memory`.
+    pub fn place(self, alloc: Global, ranks: &[Proc]) -> Result<Scripts, Fault>
+        ensures scripts { IfOk result (λ s. s ≡ placed self (numbers_of ranks.now)) }
+        ensures plan { IfOk result (λ s. IsPlacing (plan_of self) (plan_of s)) }
+        ensures alone { IfOk result (λ s. AreAloneTogether (plan_of s) (numbers_of ranks.now)) }
+        ensures err { IfErr result (λ e. e ≡ Fault.Memory) }
+    {
+        let Scripts {
+            format: header,
+            nodes,
+            jobs,
+            tables,
+            mut processes,
+        } = self;
+        place_all(alloc, &mut processes, ranks)?;
+        let nodes = nodes.into_two(alloc)?;
+        Ok(Scripts {
+            format: header,
+            nodes,
+            jobs,
+            tables,
+            processes,
+        })
     }
 
     /// The version of the format.

@@ -27,7 +27,7 @@ pub fn job_and_rank(scripts: &Scripts, proc: Proc) -> (u32, u32)
 }
 
 /// Whether each process, by its number, is in a set.
-fn presence(alloc: Global, set: &[Proc], count: usize) -> Result<Vec<bool>, AllocError>
+pub(crate) fn presence(alloc: Global, set: &[Proc], count: usize) -> Result<Vec<bool>, AllocError>
     ensures len { IfOk result (λ v. vec_len v ≡ count) }
     ensures present { IfOk result (λ v. (p : ℕ) → p < count
         → slice_index_or v.items p false ≡ is_member (numbers_of set.now) p) }

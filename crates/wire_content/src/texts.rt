@@ -3,7 +3,10 @@
 ghost use Rattle.std.specs.Prelude.{◌≡◌, ◌==◌, ◌<◌, ◌^◌, [], length, slice_index_or};
 ghost use Rattle.wire_types.specs.Texts.{lists_of};
 ghost use Rattle.wire_content.specs.Apart.{AreApart};
+ghost use Rattle.wire_content.specs.Placed.{another_name, with_second};
+ghost use Rattle.std.specs.Prelude.{IfOk, ◌++◌, ◌∷◌, OnOk};
 
+use std::alloc::{AllocError, Global};
 use std::marker::Model;
 
 /// Texts, each once, with its place as its number, from 0.
@@ -64,11 +67,34 @@ impl Texts {
         }
     }
 
+    /// The same texts, with a second one where there is only one.
+    pub(crate) fn into_two(self, alloc: Global) -> Result<Texts, AllocError>
+        ensures { IfOk result (λ texts. texts ≡ with_second self) }
+    {
+        let Texts { mut list } = self;
+        if let [only] = list.as_slice() {
+            let second = other_name(alloc, only.as_slice())?;
+            list.push(second)?;
+        }
+        Ok(Texts { list })
+    }
+
     /// No text is there twice.
     pub fn are_apart(&self)
         ensures { AreApart self.now }
     {
         let _ = &self.list;
+    }
+}
+
+/// A name of a node that this isn't.
+fn other_name(alloc: Global, name: &[u8]) -> Result<Vec<u8>, AllocError>
+    ensures { IfOk result (λ other. other.items ≡ another_name name.now) }
+{
+    if name == b"n1".as_slice() {
+        Vec::from_slice(alloc, b"n2".as_slice())
+    } else {
+        Vec::from_slice(alloc, b"n1".as_slice())
     }
 }
 

@@ -4,7 +4,7 @@ use Rattle.wire_types.specs.declared.Fault.{Fault}
 use Rattle.wire_explain.specs.Hint.{IsHintFor, known, doubtful}
 use Rattle.wire_explain.specs.Quote.{shown_byte, labelled}
 use Rattle.wire_explain.specs.Explained.{Explains, explanation, line_part, plan_line, expected, hint_part}
-use Rattle.wire_explain.specs.Order.{word_line, expected_word, word_explanation}
+use Rattle.wire_explain.specs.Order.{word_line, explained_word}
 
 pub built : (first second second' third zero one two three : List ℕ) → zero ≡ [] → one ≡ zero ++ first → two ≡ one ++ second' → second' ≡ second → three ≡ two ++ third
     → three ≡ (first ++ second) ++ third
@@ -21,7 +21,7 @@ laid_out bytes fault hint text zero one two three none a b same c =
     built (line_part bytes (plan_line fault)) (labelled (codes "  expected: ") (expected bytes fault)) (labelled (codes "  expected: ") text) (hint_part hint) zero one two three
     none a b (ap (labelled (codes "  expected: ")) same) c
 
-pub worded : (number : ℕ) (word text zero one two : List ℕ) → zero ≡ [] → one ≡ zero ++ word_line number word → two ≡ one ++ labelled (codes "  expected: ") text
-    → text ≡ expected_word number → two ≡ word_explanation number word
-worded number word text zero one two none a b same =
-    b ∙ ap (λ t. one ++ labelled (codes "  expected: ") t) same ∙ ap (λ t. t ++ labelled (codes "  expected: ") (expected_word number)) (a ∙ ap (λ t. t ++ word_line number word) none)
+pub worded : (what : List ℕ) (number : ℕ) (word wanted text zero one two : List ℕ) → zero ≡ [] → one ≡ zero ++ word_line what number word →
+    two ≡ one ++ labelled (codes "  expected: ") text → text ≡ wanted → two ≡ explained_word what number word wanted
+worded what number word wanted text zero one two none a b same =
+    b ∙ ap (λ t. one ++ labelled (codes "  expected: ") t) same ∙ ap (λ t. t ++ labelled (codes "  expected: ") wanted) (a ∙ ap (λ t. t ++ word_line what number word) none)

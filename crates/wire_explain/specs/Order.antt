@@ -1,4 +1,4 @@
--- What is told of the fault of an order, and of the words of a question.
+-- What is told of the fault of an order, of the words of a question, and of the ranks of a list.
 use Rattle.std.specs.Prelude.{ℕ, ◌==◌, ◌||◌, List, ◌++◌, codes, decimal, if◌then◌else◌}
 use Rattle.wire_explain.specs.Quote.{shown_bytes, front_of, quoted, labelled}
 
@@ -11,15 +11,23 @@ order_explanation bytes line =
 abbrev pub in_line : ℕ → ℕ
 in_line byte = if byte == 10 then 63 else byte
 
--- a word of a question by its number, from 1
-abbrev pub word_line : ℕ → List ℕ → List ℕ
-word_line number word = codes "  word " ++ decimal number ++ codes " | " ++ front_of shown_bytes word ++ codes "\n"
+-- a word by its number, from 1, behind what it is
+abbrev pub word_line : List ℕ → ℕ → List ℕ → List ℕ
+word_line what number word = what ++ decimal number ++ codes " | " ++ front_of shown_bytes word ++ codes "\n"
 
--- what is expected there: the words are a rank and a number, twice
+-- the word, and what was expected there
+abbrev pub explained_word : (what : List ℕ) → ℕ → (word wanted : List ℕ) → List ℕ
+explained_word what number word wanted = word_line what number word ++ labelled (codes "  expected: ") wanted
+
+-- what is expected of a question: the words are a rank and a number, twice
 abbrev pub expected_word : ℕ → List ℕ
 expected_word number =
     if (number == 1) || (number == 3) then codes "a rank of the plan, such as app:0" else codes "the number of a call of this rank, from 1"
 
--- the word, and what was expected there
+-- a word of a question
 abbrev pub word_explanation : ℕ → List ℕ → List ℕ
-word_explanation number word = word_line number word ++ labelled (codes "  expected: ") (expected_word number)
+word_explanation number word = explained_word (codes "  word ") number word (expected_word number)
+
+-- a rank of a list
+abbrev pub rank_explanation : ℕ → List ℕ → List ℕ
+rank_explanation number word = explained_word (codes "  rank ") number word (codes "a rank of the plan, such as app:0")

@@ -18,7 +18,7 @@ mod wait_words;
 pub use law::{choices_are_words, lines_have_usages, usages_are_lines, waits_are_reasons};
 pub use line_places::Place;
 pub use near::{find_nearest, is_within};
-pub use order_faults::{explain_order, explain_word};
+pub use order_faults::{explain_order, explain_rank, explain_word};
 pub use plan_faults::explain_plan;
 pub use quote::{push_quoted, shown_text};
 pub use stop::explain_stop;

@@ -1,4 +1,4 @@
-//! Explanations of the faults of an order, and of the words of a question.
+//! Explanations of the faults of an order, of the words of a question, and of the ranks of a list.
 
 ghost use Rattle.std.specs.Prelude.{◌≡◌, ◌++◌, true, map, IfOk, OnOk};
 ghost use Rattle.wire_explain.specs.Quote.{shown_byte, is_printable_text};
@@ -43,29 +43,31 @@ fn expected_word(number: u64) -> &'static str
     }
 }
 
-/// Appends a word of a question, with its number before it.
-fn push_word(out: &mut Vec<u8>, number: u64, word: &[u8]) -> Result<(), AllocError>
-    ensures { OnOk result (out.new.items ≡ out.old.items ++ spec.word_line number word.now) }
+/// Appends a word, with what it is and its number before it.
+fn push_word(out: &mut Vec<u8>, what: &[u8], number: u64, word: &[u8]) -> Result<(), AllocError>
+    ensures { OnOk result (out.new.items ≡ out.old.items ++ spec.word_line what.now number word.now) }
 {
     let mut digits = Buffer::new();
-    out.extend_from_slice(b"  word ")?;
+    out.extend_from_slice(what)?;
     out.extend_from_slice(digits.format(number).as_bytes())?;
     out.extend_from_slice(b" | ")?;
     push_front(out, word, SHOWN_BYTES)?;
     out.extend_from_slice(b"\n")
 }
 
-/// The lines about a word of a question, as its bytes stand there.
-fn word_explanation(alloc: Global, number: u64, word: &[u8]) -> Result<Vec<u8>, AllocError>
-    ensures { IfOk result (λ explanation. explanation.items ≡ spec.word_explanation number word.now) }
+/// The lines about a word, as its bytes stand there.
+fn explained_word(
+    alloc: Global,
+    what: &[u8],
+    number: u64,
+    word: &[u8],
+    wanted: &str,
+) -> Result<Vec<u8>, AllocError>
+    ensures { IfOk result (λ explanation. explanation.items ≡ spec.explained_word what.now number word.now wanted.now) }
 {
     let mut explanation = Vec::new(alloc);
-    push_word(&mut explanation, number, word)?;
-    push_labelled(
-        &mut explanation,
-        b"  expected: ",
-        expected_word(number).as_bytes(),
-    )?;
+    push_word(&mut explanation, what, number, word)?;
+    push_labelled(&mut explanation, b"  expected: ", wanted.as_bytes())?;
     Ok(explanation)
 }
 
@@ -94,6 +96,19 @@ pub fn explain_word(alloc: Global, number: u64, word: &str) -> Result<Vec<u8>, A
     ensures printable { IfOk result (λ text. is_printable_text text.items ≡ true) }
 {
     let flat = flat_word(alloc, word.as_bytes())?;
-    let explanation = word_explanation(alloc, number, flat.as_slice())?;
+    let wanted = expected_word(number);
+    let explanation = explained_word(alloc, b"  word ", number, flat.as_slice(), wanted)?;
+    shown_text(alloc, explanation.as_slice())
+}
+
+/// The explanation of a rank of a list that the plan doesn't have: the rank, its number in the list, from 1, and what
+/// was expected there. Only printable ASCII and line feeds are in it, and a line feed of the rank is shown as `?`.
+pub fn explain_rank(alloc: Global, number: u64, rank: &str) -> Result<Vec<u8>, AllocError>
+    ensures explains { IfOk result (λ text. text.items ≡ map shown_byte (spec.rank_explanation number (map spec.in_line rank.now))) }
+    ensures printable { IfOk result (λ text. is_printable_text text.items ≡ true) }
+{
+    let flat = flat_word(alloc, rank.as_bytes())?;
+    let wanted = "a rank of the plan, such as app:0";
+    let explanation = explained_word(alloc, b"  rank ", number, flat.as_slice(), wanted)?;
     shown_text(alloc, explanation.as_slice())
 }

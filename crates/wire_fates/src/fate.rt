@@ -56,7 +56,7 @@ fn live_fate(marked: &MarkedPlan<'_>, event: Event) -> Fate
 }
 
 /// The fate of an event of a settled plan.
-pub(crate) fn fate_of(marked: &MarkedPlan<'_>, event: Event) -> Fate
+pub fn fate_of(marked: &MarkedPlan<'_>, event: Event) -> Fate
     requires { IsSettled (plan_of marked.now) }
     ensures { IsFateOf (plan_of marked.now) (event_of event) result }
 {

@@ -40,7 +40,7 @@ fn end_of(plan: &Plan, arrival: Event) -> Event
 }
 
 /// The arrivals at the fence of an arrival, in process order.
-fn all_arrivals(plan: &Plan, arrival: Event) -> &[Event]
+pub fn all_arrivals(plan: &Plan, arrival: Event) -> &[Event]
     requires { Arrives (plan_of plan.now) (event_of arrival) }
     ensures { (members : List ℕ) (j : ℕ) → IsArrival (plan_of plan.now) members j (event_of arrival) →
         AreArrivals (plan_of plan.now) members j (map event_of result.now) }

@@ -9,7 +9,9 @@ mod key_fates;
 mod name_fates;
 mod settled;
 
-pub use fate::Fate;
-pub use fence_deliveries::{KeyRead, comes_surely, late_source, may_be_late, next_arrival};
+pub use fate::{Fate, fate_of};
+pub use fence_deliveries::{
+    KeyRead, all_arrivals, comes_surely, late_source, may_be_late, next_arrival,
+};
 pub use get_deliveries::process_end;
 pub use settled::{Settled, Unsettled};

@@ -20,7 +20,7 @@ use Rattle.wire_findings.specs.Findings.{shown, all_shown, lower_name, AreFindin
 use Rattle.wire_findings.specs.declared.finding.Finding.{Finding as Told}
 use Rattle.wire_findings.specs.declared.finding.Finding.TheVariants as told_as
 use Rattle.wire_findings.proofs.Calls.{low_of, high_of, longer}
-use Rattle.wire_findings.proofs.Told.{low_call, high_call, shown_low, shown_high}
+use Rattle.wire_findings.proofs.Told.{IsLike, found_like, low_call, high_call, shown_low, shown_high}
 
 -- a call is an event at least
 some_event : (call : Call) → 0 < call_size call
@@ -69,14 +69,14 @@ same_call plan v w a b e =
     let n = same_number (calls_of plan w.proc.number) v.call w.call there b start in
     λ t. record { proc = record { number = p t }; call = n t }
 
-same_low : (plan : Plan) (f g : Told) → IsFound plan (shown plan f) → IsFound plan (shown plan g) → first_event plan (low_call f) ≡ first_event plan (low_call g) → low_call f ≡ low_call g
+same_low : (plan : Plan) (f g : Told) → IsLike plan (shown plan f) → IsLike plan (shown plan g) → first_event plan (low_call f) ≡ first_event plan (low_call g) → low_call f ≡ low_call g
 same_low plan f g a b = same_call plan (low_call f) (low_call g) (shown_low plan f f refl a) (shown_low plan g g refl b)
 
-same_high : (plan : Plan) (f g : Told) → IsFound plan (shown plan f) → IsFound plan (shown plan g) → first_event plan (high_call f) ≡ first_event plan (high_call g) → high_call f ≡ high_call g
+same_high : (plan : Plan) (f g : Told) → IsLike plan (shown plan f) → IsLike plan (shown plan g) → first_event plan (high_call f) ≡ first_event plan (high_call g) → high_call f ≡ high_call g
 same_high plan f g a b = same_call plan (high_call f) (high_call g) (shown_high plan f f refl a) (shown_high plan g g refl b)
 
 -- what is shown tells the finding
-same_told : (plan : Plan) (f g : Told) → IsFound plan (shown plan f) → IsFound plan (shown plan g) → shown plan f ≡ shown plan g → f ≡ g
+pub same_told : (plan : Plan) (f g : Told) → IsLike plan (shown plan f) → IsLike plan (shown plan g) → shown plan f ≡ shown plan g → f ≡ g
 same_told plan (told_as.Rewrite v w) (told_as.Rewrite x y) a b e =
     let low = same_low plan (told_as.Rewrite v w) (told_as.Rewrite x y) a b (ap low_of e) in
     let high = same_high plan (told_as.Rewrite v w) (told_as.Rewrite x y) a b (ap high_of e) in
@@ -107,7 +107,7 @@ same_list plan (x ∷ xs) [] a b e = cc
 same_list plan (x ∷ xs) (y ∷ ys) a b e =
     let first : shown plan x ≡ shown plan y = cc in
     let rest : all_shown plan xs ≡ all_shown plan ys = cc in
-    let heads = same_told plan x y (a (shown plan x) (inl refl)) (b (shown plan y) (inl refl)) first in
+    let heads = same_told plan x y (found_like plan (shown plan x) (a (shown plan x) (inl refl))) (found_like plan (shown plan y) (b (shown plan y) (inl refl))) first in
     let tails = same_list plan xs ys (λ f h. a f (inr h)) (λ f h. b f (inr h)) rest in
     cc (heads, tails)
 
@@ -117,7 +117,7 @@ is_less Equal e = absurd (true≢false (sym e))
 is_less Greater e = absurd (true≢false (sym e))
 
 -- of two names at most one is the lower one
-one_way : (names : List (List ℕ)) → IsOneWay (lower_name names)
+pub one_way : (names : List (List ℕ)) → IsOneWay (lower_name names)
 one_way names a b e f =
     let there = is_less (slice_cmp nat_cmp (text_at names a) (text_at names b)) e in
     let back = is_less (slice_cmp nat_cmp (text_at names b) (text_at names a)) f in

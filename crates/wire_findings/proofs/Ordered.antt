@@ -26,7 +26,7 @@ use Rattle.wire_content.specs.Scripts.{text_at}
 use Rattle.wire_findings.specs.Findings.{shown, all_shown, lower_name}
 use Rattle.wire_findings.specs.Collected.{Tells, AreFound}
 use Rattle.wire_findings.specs.Standings.{standing, race_name, call_cmp, standing_cmp, told_cmp, AreNamesOf}
-use Rattle.wire_findings.proofs.Told.{low_call, high_call, shown_low, shown_high, one_first, never_both, one_standing}
+use Rattle.wire_findings.proofs.Told.{IsLike, found_like, low_call, high_call, shown_low, shown_high, one_first, never_both, one_standing}
 use Rattle.wire_findings.proofs.OneList.{rising}
 
 call_total : IsTotalOrder call_cmp
@@ -90,7 +90,7 @@ call_lower plan v w within e = elim (less_either (nat_cmp v.proc.number w.proc.n
 ]
 
 module _ (plan : Plan) (names : List (List ℕ)) (of : AreNamesOf plan names) where
-  pair_lower : (f g : Told) → IsFound plan (shown plan f) → ordering_then (call_cmp (low_call f) (low_call g)) (call_cmp (high_call f) (high_call g)) ≡ Less →
+  pair_lower : (f g : Told) → IsLike plan (shown plan f) → ordering_then (call_cmp (low_call f) (low_call g)) (call_cmp (high_call f) (high_call g)) ≡ Less →
       IsPairLower (first_event plan (low_call f)) (first_event plan (high_call f)) (first_event plan (low_call g)) (first_event plan (high_call g))
   pair_lower f g a e = elim (less_either (call_cmp (low_call f) (low_call g)) (call_cmp (high_call f) (high_call g)) e) [
     | inl l ↦ inl (call_lower plan (low_call f) (low_call g) (shown_low plan f f refl a) l)
@@ -98,13 +98,13 @@ module _ (plan : Plan) (names : List (List ℕ)) (of : AreNamesOf plan names) wh
   ]
 
   -- rewrites stand by the later put: it has one first put
-  rewrite_lower : (v w x y : CallAt) → IsFound plan (shown plan (Rewrite v w)) → IsFound plan (shown plan (Rewrite x y)) → ordering_then (call_cmp w y) (call_cmp v x) ≡ Less →
+  rewrite_lower : (v w x y : CallAt) → IsLike plan (shown plan (Rewrite v w)) → IsLike plan (shown plan (Rewrite x y)) → ordering_then (call_cmp w y) (call_cmp v x) ≡ Less →
       IsLower (first_event plan w) (first_event plan y)
   rewrite_lower v w x y a b e = elim (less_either (call_cmp w y) (call_cmp v x) e) [
     | inl l ↦ call_lower plan w y (shown_high plan (Rewrite v w) (Rewrite v w) refl a) l
     | inr l ↦ (
         let later = call_one w y l.0 in
-        let there = subst (λ c. IsFound plan (shown plan (Rewrite x c))) (sym later) b in
+        let there = subst (λ c. IsLike plan (shown plan (Rewrite x c))) (sym later) b in
         absurd (lower_not_same (first_event plan v) (first_event plan x) (call_lower plan v x (shown_low plan (Rewrite v w) (Rewrite v w) refl a) l.1)
         (sym (one_first plan (first_event plan v) (first_event plan x) (first_event plan w) a there))))
   ]
@@ -115,7 +115,7 @@ module _ (plan : Plan) (names : List (List ℕ)) (of : AreNamesOf plan names) wh
   unnamed_less Equal e = e
   unnamed_less Greater e = let d = ap ordering_index e in absurd (omega (arith, d))
 
-  by_name : (v w x y : CallAt) (m n : ℕ) → IsFound plan (shown plan (NameRace v w m)) → told_cmp names (NameRace v w m) (NameRace x y n) ≡ Less →
+  by_name : (v w x y : CallAt) (m n : ℕ) → IsLike plan (shown plan (NameRace v w m)) → told_cmp names (NameRace v w m) (NameRace x y n) ≡ Less →
       IsSooner (lower_name names) (shown plan (NameRace v w m)) (shown plan (NameRace x y n))
   by_name v w x y m n a e = elim (less_either (standing_cmp (standing (NameRace v w m)) (standing (NameRace x y n))) (slice_cmp nat_cmp (text_at names m) (text_at names n)) e) [
     | inl l ↦ inl (pair_lower (NameRace v w m) (NameRace x y n) a l)
@@ -124,21 +124,21 @@ module _ (plan : Plan) (names : List (List ℕ)) (of : AreNamesOf plan names) wh
         inr (ap (λ (p : Standing). first_event plan p.by) one, ap (λ (p : Standing). first_event plan p.then) one, ap is_lt l.1))
   ]
 
-  key_first : (v w x y : CallAt) (p : Proc) (k n : ℕ) → IsFound plan (shown plan (KeyRace v w p k)) → IsFound plan (shown plan (NameRace x y n)) →
+  key_first : (v w x y : CallAt) (p : Proc) (k n : ℕ) → IsLike plan (shown plan (KeyRace v w p k)) → IsLike plan (shown plan (NameRace x y n)) →
       told_cmp names (KeyRace v w p k) (NameRace x y n) ≡ Less → IsPairLower (first_event plan v) (first_event plan w) (first_event plan x) (first_event plan y)
   key_first v w x y p k n a b e = elim (less_either (standing_cmp (standing (KeyRace v w p k)) (standing (NameRace x y n))) (slice_cmp nat_cmp [] (text_at names n)) e) [
     | inl l ↦ pair_lower (KeyRace v w p k) (NameRace x y n) a l
     | inr l ↦ never_both plan v w x y p k n (standing_same (standing (KeyRace v w p k)) (standing (NameRace x y n)) l.0) a b
   ]
 
-  name_first : (v w x y : CallAt) (p : Proc) (k n : ℕ) → IsFound plan (shown plan (NameRace v w n)) → IsFound plan (shown plan (KeyRace x y p k)) →
+  name_first : (v w x y : CallAt) (p : Proc) (k n : ℕ) → IsLike plan (shown plan (NameRace v w n)) → IsLike plan (shown plan (KeyRace x y p k)) →
       told_cmp names (NameRace v w n) (KeyRace x y p k) ≡ Less → IsPairLower (first_event plan v) (first_event plan w) (first_event plan x) (first_event plan y)
   name_first v w x y p k n a b e = elim (less_either (standing_cmp (standing (NameRace v w n)) (standing (KeyRace x y p k))) (slice_cmp nat_cmp (text_at names n) []) e) [
     | inl l ↦ pair_lower (NameRace v w n) (KeyRace x y p k) a l
     | inr l ↦ never_both plan x y v w p k n (sym (standing_same (standing (NameRace v w n)) (standing (KeyRace x y p k)) l.0)) b a
   ]
 
-  sooner : (f g : Told) → IsFound plan (shown plan f) → IsFound plan (shown plan g) → told_cmp names f g ≡ Less → IsSooner (lower_name names) (shown plan f) (shown plan g)
+  pub sooner : (f g : Told) → IsLike plan (shown plan f) → IsLike plan (shown plan g) → told_cmp names f g ≡ Less → IsSooner (lower_name names) (shown plan f) (shown plan g)
   sooner (Rewrite v w) (Rewrite x y) a b e = rewrite_lower v w x y a b (unnamed_less (standing_cmp (standing (Rewrite v w)) (standing (Rewrite x y))) e)
   sooner (Rewrite v w) (KeyRace x y q l) a b e = tt
   sooner (Rewrite v w) (NameRace x y m) a b e = tt
@@ -153,7 +153,7 @@ module _ (plan : Plan) (names : List (List ℕ)) (of : AreNamesOf plan names) wh
       IsSooner (lower_name names) (shown plan f) g
   first_sooner f [] a found all g h = absurd h
   first_sooner f (x ∷ fs) a found all g (inl is) =
-      subst (λ t. IsSooner (lower_name names) (shown plan f) t) (sym is) (sooner f x a (found (shown plan x) (inl refl)) all.0)
+      subst (λ t. IsSooner (lower_name names) (shown plan f) t) (sym is) (sooner f x (found_like plan (shown plan f) a) (found_like plan (shown plan x) (found (shown plan x) (inl refl))) all.0)
   first_sooner f (x ∷ fs) a found all g (inr h) = first_sooner f fs a (λ t i. found t (inr i)) all.1 g h
 
   all_sorted : (fs : List Told) → AreFound plan fs → IsStrictlySortedBy (told_cmp names) fs → IsSorted (lower_name names) (all_shown plan fs)
@@ -184,7 +184,7 @@ equal_is Equal e = refl
 equal_is Greater e = cc
 
 module _ (plan : Plan) (names : List (List ℕ)) (of : AreNamesOf plan names) where
-  one_there : (x k : Told) → same_place names x k ≡ true → IsFound plan (shown plan x) → IsFound plan (shown plan k) → shown plan x ≡ shown plan k
+  pub one_there : (x k : Told) → same_place names x k ≡ true → IsLike plan (shown plan x) → IsLike plan (shown plan k) → shown plan x ≡ shown plan k
   one_there x k e a b =
       let both = equal_both (standing_cmp (standing x) (standing k)) (slice_cmp nat_cmp (race_name names x) (race_name names k)) (equal_is (told_cmp names x k) e) in
       one_standing plan names of x k (standing_same (standing x) (standing k) both.0) (text_one (race_name names x) (race_name names k) both.1) a b
@@ -199,7 +199,7 @@ module _ (plan : Plan) (names : List (List ℕ)) (of : AreNamesOf plan names) wh
       (λ t. kept k xs f without (elim h [
         | inl e ↦ inl e
         | inr i ↦ elim i [
-          | inl e ↦ inl (e ∙ one_there x k t (found (shown plan x) (inr (inl refl))) (found (shown plan k) (inl refl)))
+          | inl e ↦ inl (e ∙ one_there x k t (found_like plan (shown plan x) (found (shown plan x) (inr (inl refl)))) (found_like plan (shown plan k) (found (shown plan k) (inl refl))))
           | inr j ↦ inr j
         ]
       ]))

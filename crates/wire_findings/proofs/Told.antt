@@ -19,7 +19,7 @@ use Rattle.wire_findings.specs.Standings.{standing, race_name, AreNamesOf}
 use Rattle.wire_findings.specs.declared.found.Standing.{Standing}
 use Rattle.wire_findings.specs.declared.finding.Finding.{Finding as Told}
 use Rattle.wire_findings.specs.declared.finding.Finding.TheVariants as told_as
-use Rattle.wire_findings.proofs.Calls.{call_within, low_starts, high_starts, ArrivesOrGets, Arriving, Getting, node_commit, delivery_source}
+use Rattle.wire_findings.proofs.Calls.{Starts, call_within, low_starts, high_starts, ArrivesOrGets, Arriving, Getting, node_commit, delivery_source}
 
 -- the name that an event is a call on
 abbrev pub name_of : Option Kind → ℕ
@@ -47,7 +47,7 @@ named plan x y v w name (Some (GetNow owner key)) p h i = absurd (true≢false (
 named plan x y v w name _ p h i = named_by plan x y w _ name p i
 
 -- the events tell which race it is
-by_events : (plan : Plan) (x y : Event) (a b : Option Kind) (f : Finding) → kind plan x ≡ a → kind plan y ≡ b → told x y a b ≡ f → told x y (kind plan x) (kind plan y) ≡ f
+pub by_events : (plan : Plan) (x y : Event) (a b : Option Kind) (f : Finding) → kind plan x ≡ a → kind plan y ≡ b → told x y a b ≡ f → told x y (kind plan x) (kind plan y) ≡ f
 by_events plan x y a b f e h t = ap (λ (o : Option Kind). told x y o (kind plan y)) e ∙ (ap (told x y a) h ∙ t)
 
 key_told : (plan : Plan) (x y : Event) (p k : ℕ) → IsFound plan (KeyRace x y p k) → told x y (kind plan x) (kind plan y) ≡ KeyRace x y p k
@@ -69,6 +69,25 @@ name_told : (plan : Plan) (x y : Event) (n : ℕ) → IsFound plan (NameRace x y
 name_told plan x y n (low, inl r) = named plan x y x y n (kind plan x) (kind plan y) (writes_calls plan n x (kind plan x) r.x_writes) r.y_calls
 name_told plan x y n (low, inr r) = named plan x y x y n (kind plan x) (kind plan y) r.y_calls (writes_calls plan n y (kind plan y) r.x_writes)
 
+-- what the list takes for granted of a race on a key, on whatever nodes its processes are: both events are the first of their calls, and
+-- they tell the owner and the key
+pub record IsKeyLike (plan : Plan) (x y : Event) (p k : ℕ) : Type 0 where
+  pub low_starts : Starts plan x
+  pub high_starts : Starts plan y
+  pub tells : told x y (kind plan x) (kind plan y) ≡ KeyRace x y p k
+
+-- what the list takes for granted of a finding
+abbrev pub IsLike : Plan → Finding → Type 0
+IsLike plan (findings.Rewrite x y) = IsRewrite plan x y
+IsLike plan (KeyRace x y p k) = IsKeyLike plan x y p k
+IsLike plan (NameRace x y n) = IsFound plan (NameRace x y n)
+
+pub found_like : (plan : Plan) (f : Finding) → IsFound plan f → IsLike plan f
+found_like plan (findings.Rewrite x y) h = h
+found_like plan (KeyRace x y p k) h =
+    record { low_starts = low_starts plan (KeyRace x y p k) h; high_starts = high_starts plan (KeyRace x y p k) h; tells = key_told plan x y p k h }
+found_like plan (NameRace x y n) h = h
+
 -- the race of the calls of a standing
 abbrev told_there : Plan → Standing → Finding
 told_there plan p = told (first_event plan p.by) (first_event plan p.then) (kind plan (first_event plan p.by)) (kind plan (first_event plan p.then))
@@ -78,9 +97,9 @@ apart a b e t f = absurd (true≢false (sym t ∙ ap (λ (p : Standing). p.is_ra
 
 -- two calls don't race on a key and on a name
 pub never_both : {A : Type 0} (plan : Plan) (v w x y : CallAt) (p : Proc) (k n : ℕ) → standing (told_as.KeyRace v w p k) ≡ standing (told_as.NameRace x y n) →
-    IsFound plan (shown plan (told_as.KeyRace v w p k)) → IsFound plan (shown plan (told_as.NameRace x y n)) → A
+    IsLike plan (shown plan (told_as.KeyRace v w p k)) → IsLike plan (shown plan (told_as.NameRace x y n)) → A
 never_both plan v w x y p k n e a b =
-    let one = sym (key_told plan _ _ p.number k a) ∙ (ap (told_there plan) e ∙ name_told plan _ _ n b) in
+    let one = sym a.tells ∙ (ap (told_there plan) e ∙ name_told plan _ _ n b) in
     cc one
 
 -- races on names whose texts are the same are on one name
@@ -89,10 +108,10 @@ same_name : (plan : Plan) (names : List (List ℕ)) → AreNamesOf plan names �
 same_name plan names of x y v w m n a b e = of.apart m n (of.within x y m a) (of.within v w n b) e
 
 -- a standing has one finding, or one for each name
-pub one_standing : (plan : Plan) (names : List (List ℕ)) → AreNamesOf plan names → (f g : Told) → standing f ≡ standing g → race_name names f ≡ race_name names g → IsFound plan (shown plan f) →
-    IsFound plan (shown plan g) → shown plan f ≡ shown plan g
+pub one_standing : (plan : Plan) (names : List (List ℕ)) → AreNamesOf plan names → (f g : Told) → standing f ≡ standing g → race_name names f ≡ race_name names g → IsLike plan (shown plan f) →
+    IsLike plan (shown plan g) → shown plan f ≡ shown plan g
 one_standing plan names of (told_as.Rewrite v w) (told_as.Rewrite x y) e t a b = ap (λ (p : Standing). findings.Rewrite (first_event plan p.then) (first_event plan p.by)) e
-one_standing plan names of (told_as.KeyRace v w p k) (told_as.KeyRace x y q l) e t a b = sym (key_told plan _ _ p.number k a) ∙ (ap (told_there plan) e ∙ key_told plan _ _ q.number l b)
+one_standing plan names of (told_as.KeyRace v w p k) (told_as.KeyRace x y q l) e t a b = sym a.tells ∙ (ap (told_there plan) e ∙ b.tells)
 one_standing plan names of (told_as.KeyRace v w p k) (told_as.NameRace x y n) e t a b = never_both plan v w x y p k n e a b
 one_standing plan names of (told_as.NameRace v w m) (told_as.KeyRace x y q l) e t a b = never_both plan x y v w q l m (sym e) b a
 one_standing plan names of (told_as.NameRace v w m) (told_as.NameRace x y n) e t a b =
@@ -143,19 +162,19 @@ high_call (told_as.Rewrite v w) = w
 high_call (told_as.KeyRace v w owner key) = w
 high_call (told_as.NameRace v w name) = w
 
-told_low : (plan : Plan) (f : Told) → IsFound plan (shown plan f) → (low_call f).call < length (calls_of plan (low_call f).proc.number)
+told_low : (plan : Plan) (f : Told) → IsLike plan (shown plan f) → (low_call f).call < length (calls_of plan (low_call f).proc.number)
 told_low plan (told_as.Rewrite v w) h = call_within plan v (low_starts plan (shown plan (told_as.Rewrite v w)) h)
-told_low plan (told_as.KeyRace v w owner key) h = call_within plan v (low_starts plan (shown plan (told_as.KeyRace v w owner key)) h)
+told_low plan (told_as.KeyRace v w owner key) h = call_within plan v h.low_starts
 told_low plan (told_as.NameRace v w name) h = call_within plan v (low_starts plan (shown plan (told_as.NameRace v w name)) h)
 
-told_high : (plan : Plan) (f : Told) → IsFound plan (shown plan f) → (high_call f).call < length (calls_of plan (high_call f).proc.number)
+told_high : (plan : Plan) (f : Told) → IsLike plan (shown plan f) → (high_call f).call < length (calls_of plan (high_call f).proc.number)
 told_high plan (told_as.Rewrite v w) h = call_within plan w (high_starts plan (shown plan (told_as.Rewrite v w)) h)
-told_high plan (told_as.KeyRace v w owner key) h = call_within plan w (high_starts plan (shown plan (told_as.KeyRace v w owner key)) h)
+told_high plan (told_as.KeyRace v w owner key) h = call_within plan w h.high_starts
 told_high plan (told_as.NameRace v w name) h = call_within plan w (high_starts plan (shown plan (told_as.NameRace v w name)) h)
 
 -- its calls are those of the plan
-pub shown_low : (plan : Plan) (f g : Told) → f ≡ g → IsFound plan (shown plan f) → (low_call g).call < length (calls_of plan (low_call g).proc.number)
-shown_low plan f g e h = told_low plan g (subst (λ t. IsFound plan (shown plan t)) e h)
+pub shown_low : (plan : Plan) (f g : Told) → f ≡ g → IsLike plan (shown plan f) → (low_call g).call < length (calls_of plan (low_call g).proc.number)
+shown_low plan f g e h = told_low plan g (subst (λ t. IsLike plan (shown plan t)) e h)
 
-pub shown_high : (plan : Plan) (f g : Told) → f ≡ g → IsFound plan (shown plan f) → (high_call g).call < length (calls_of plan (high_call g).proc.number)
-shown_high plan f g e h = told_high plan g (subst (λ t. IsFound plan (shown plan t)) e h)
+pub shown_high : (plan : Plan) (f g : Told) → f ≡ g → IsLike plan (shown plan f) → (high_call g).call < length (calls_of plan (high_call g).proc.number)
+shown_high plan f g e h = told_high plan g (subst (λ t. IsLike plan (shown plan t)) e h)

@@ -8,7 +8,7 @@ ghost use Rattle.wire_runs.specs.Findings.{IsSorted};
 ghost use Rattle.wire_findings.specs.Findings.{shown, all_shown, lower_name};
 ghost use Rattle.wire_findings.specs.Collected.{Tells, AreFound, IsAdded};
 ghost use Rattle.wire_findings.specs.Packing.{told_by, all_told_by};
-ghost use Rattle.wire_findings.specs.Standings.{standing, race_name, entry_cmp, AreInOrder, AreNamesOf};
+ghost use Rattle.wire_findings.specs.Standings.{standing, race_name, told_cmp, entry_cmp, AreInOrder, AreNamesOf};
 
 use crate::finding::Finding;
 use crate::list::FindingList;
@@ -42,12 +42,42 @@ fn standing_of(subjects: &[Subject], entry: &Packed) -> Standing
 }
 
 /// The bytes of the name of a race on a name, none for other findings.
+fn name_in(names: &Texts, finding: Finding) -> &[u8]
+    ensures { result.now ≡ race_name names.now finding }
+{
+    match finding {
+        Finding::NameRace(_, _, name) => names.text(name),
+        _ => b"".as_slice(),
+    }
+}
+
+/// The same of the finding that an entry stands for.
 fn name_of<'a>(names: &'a Texts, subjects: &[Subject], entry: &Packed) -> &'a [u8]
     ensures { result.now ≡ race_name names.now (told_by subjects.now entry.now) }
 {
-    match unpack(subjects, *entry) {
-        Finding::NameRace(_, _, name) => names.text(name),
-        _ => b"".as_slice(),
+    name_in(names, unpack(subjects, *entry))
+}
+
+/// The standing of a finding.
+fn standing_in(finding: Finding) -> Standing
+    ensures { result ≡ standing finding }
+{
+    let (is_race, by, then) = match finding {
+        Finding::Rewrite(first, later) => (false, later, first),
+        Finding::KeyRace(lower, higher, _, _) => (true, lower, higher),
+        Finding::NameRace(lower, higher, _) => (true, lower, higher),
+    };
+    Standing { is_race, by, then }
+}
+
+/// How two findings stand in the list: rewrites by the later put, then races by their calls, the lower first, and those
+/// of one pair by the bytes of their names. Names are looked at only where all else is the same.
+pub fn compare_findings(names: &Texts, x: Finding, y: Finding) -> Ordering
+    ensures { result ≡ told_cmp names.now x y }
+{
+    match standing_in(x).cmp(&standing_in(y)) {
+        Ordering::Equal => name_in(names, x).cmp(name_in(names, y)),
+        apart => apart,
     }
 }
 

@@ -9,6 +9,6 @@ mod word;
 
 pub use call::CallLine;
 pub use line::{Line, header_version, read_line, says_once};
-pub use sets::{Item, Set};
+pub use sets::{Item, Set, cut_parts};
 pub use text::{cut_piece, cut_words, line_past, trim_return};
 pub use word::{ProcName, number_of};

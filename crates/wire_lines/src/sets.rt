@@ -57,7 +57,7 @@ fn item_of(word: &[u8]) -> Option<Item<'_>>
 }
 
 /// The parts of a word between its commas.
-fn parts(alloc: Global, word: &[u8]) -> Result<Vec<&[u8]>, AllocError>
+pub fn cut_parts(alloc: Global, word: &[u8]) -> Result<Vec<&[u8]>, AllocError>
     ensures { IfOk result (λ v. texts_of v.items ≡ slice_split (λ b. b == 44) word.now) }
 {
     word.split(
@@ -95,7 +95,7 @@ pub fn set_of(alloc: Global, word: &[u8]) -> Result<Option<Set<'_>>, AllocError>
     if is_text(word, b"all") {
         return Ok(Some(Set::Own));
     }
-    let parts = parts(alloc, word)?;
+    let parts = cut_parts(alloc, word)?;
     match items_of(alloc, &parts)? {
         Some(items) => Ok(Some(Set::Listed(items))),
         None => Ok(None),

@@ -1,5 +1,5 @@
 -- The three kinds are all findings.
-use Rattle.std.proofs.Common.{◌↔◌, refl, List, inl, inr}
+use Rattle.std.proofs.Common.{◌≡◌, ◌↔◌, refl, subst, List, [], inl, inr}
 use Rattle.wire_runs.specs.Plan.{Plan}
 use Rattle.wire_runs.specs.Findings.{Finding, Rewrite, KeyRace, NameRace, IsFound, IsSorted}
 use Rattle.wire_content.specs.Scripts.{Scripts}
@@ -7,7 +7,7 @@ use Rattle.wire_content.specs.Planned.{plan_of}
 use Rattle.wire_findings.specs.Findings.{all_shown, lower_name, AreFindings}
 use Rattle.wire_findings.specs.declared.finding.Finding.{Finding as Told}
 use Rattle.wire_findings.specs.Collected.{Tells, AreFound}
-use Rattle.wire_races.specs.FindingKinds.{IsOfRewrite, IsOfKey, IsOfName, AllAdded}
+use Rattle.wire_races.specs.FindingKinds.{IsOfRewrite, IsOfKey, IsOfName, AllAdded, ArePlaceless}
 
 each_kind : (plan : Plan) (a b c d : List Told) → AllAdded plan IsOfRewrite a b → AllAdded plan IsOfKey b c → AllAdded plan IsOfName c d → (f : Finding) → IsFound plan f → Tells plan d f
 each_kind plan a b c d r k n (Rewrite x y) h =
@@ -24,3 +24,19 @@ all_kinds s a b c d found r k n only is sorted = record {
   those = λ f. ((λ h. only f ((is f).0 h)), (λ h. (is f).1 (each_kind (plan_of s) a b c d r k n f h)));
   sorted = sorted;
 }
+
+-- the two kinds that no placement changes
+pub placeless : (plan : Plan) (a b c : List Told) → a ≡ [] → AllAdded plan IsOfRewrite a b → AllAdded plan IsOfName b c → ArePlaceless plan c
+placeless plan a b c empty r n = λ f. (
+  (λ h. elim ((n f).0 h) [
+    | inr named ↦ (inr named.0, named.1)
+    | inl before ↦ elim ((r f).0 before) [
+      | inr put ↦ (inl put.0, put.1)
+      | inl none ↦ absurd (subst (λ l. Tells plan l f) empty none)
+    ]
+  ]),
+  (λ k. elim k.0 [
+    | inl put ↦ (n f).1 (inl ((r f).1 (inr (put, k.1))))
+    | inr named ↦ (n f).1 (inr (named, k.1))
+  ]),
+)

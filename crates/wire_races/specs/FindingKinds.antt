@@ -17,3 +17,7 @@ IsOfName f = (x : Event) × (y : Event) × (name : ℕ) × (f ≡ NameRace x y n
 -- the same findings, and all of the plan that are of this kind
 abbrev pub AllAdded : Plan → (Finding → Type 0) → List Told → List Told → Type 0
 AllAdded plan kind old new = (f : Finding) → Tells plan new f ↔ (Tells plan old f ⊎ (kind f × IsFound plan f))
+
+-- the rewrites and the races on names of the plan, and nothing else
+abbrev pub ArePlaceless : Plan → List Told → Type 0
+ArePlaceless plan found = (f : Finding) → Tells plan found f ↔ ((IsOfRewrite f ⊎ IsOfName f) × IsFound plan f)

@@ -4,6 +4,7 @@ ghost use Rattle.std.specs.Prelude.{IfOk, IsOkUnless};
 ghost use Rattle.wire_content.specs.Planned.{plan_of};
 ghost use Rattle.wire_marks.specs.Clocks.{AreMarks};
 ghost use Rattle.wire_findings.specs.Findings.{AreFindings};
+ghost use Rattle.wire_races.specs.FindingKinds.{ArePlaceless};
 
 use crate::key_races::add_key_races;
 use crate::name_races::add_name_races;
@@ -32,6 +33,21 @@ fn all_findings(
     names.are_apart();
     let list = found.into_list(names);
     Ok(list)
+}
+
+/// The rewrites and the races on names of a plan, as they are met: what is found wherever its processes stand. The one
+/// error is that memory ran out.
+pub fn placeless_findings(
+    rt: &(impl Threads + Sync),
+    alloc: Global,
+    marked: &MarkedPlan<'_>,
+) -> Result<FindingList, AllocError>
+    ensures { IfOk result (ArePlaceless (plan_of marked.now)) }
+{
+    let mut found = Found::new(alloc);
+    add_rewrites(marked.plan(), &mut found)?;
+    add_name_races(rt, alloc, marked, &mut found)?;
+    Ok(found.as_met())
 }
 
 /// All findings of a plan, in their order, one by one in a `Vec`.

@@ -29,14 +29,14 @@ use wire_plan::{Kind, Plan};
 use wire_types::{Event, Proc};
 
 /// Whether an event stands before another in process order, or earlier in the same process.
-fn is_lower(x: Event, y: Event) -> bool
+pub fn is_lower(x: Event, y: Event) -> bool
     ensures { IsTrue result ↔ IsLower (event_of x) (event_of y) }
 {
     x.proc.number < y.proc.number || (x.proc.number == y.proc.number && x.at < y.at)
 }
 
 /// Whether two events are live and neither is before the other.
-pub(crate) fn are_unordered(marked: &MarkedPlan<'_>, x: Event, y: Event) -> bool
+pub fn are_unordered(marked: &MarkedPlan<'_>, x: Event, y: Event) -> bool
     ensures { IsTrue result ↔ IsUnordered (plan_of marked.now) (event_of x) (event_of y) }
 {
     marked.live(x) && marked.live(y) && !marked.before(x, y) && !marked.before(y, x)
@@ -165,7 +165,7 @@ fn add_delivery_races(
 }
 
 /// Whether a get that is answered at once is live, and of a key that another process puts once.
-fn is_open(marked: &MarkedPlan<'_>, asked: KeyRead) -> bool
+pub fn is_open(marked: &MarkedPlan<'_>, asked: KeyRead) -> bool
     requires get { kind (plan_of marked.now) (event_of asked.get_now) ≡ Some (GetNow asked.owner.number asked.key) }
     ensures { IsTrue result ↔ IsOpen (plan_of marked.now) (event_of asked.get_now) asked.owner.number asked.key }
 {
@@ -239,7 +239,7 @@ fn make_piece(alloc: Global, marked: &MarkedPlan<'_>, proc: Proc) -> Result<Foun
 
 /// The least number of processes for a thread: as many as have some 4,096 events on average. To start a
 /// thread takes as long as to look at several hundred gets.
-fn least_processes(plan: &Plan) -> usize
+pub fn least_processes(plan: &Plan) -> usize
     ensures { result ≡ process_count (plan_of plan.now) * 4096 / max (event_total (plan_of plan.now)) 1 }
 {
     plan.process_count() as usize * 4096 / plan.event_total().max(1)

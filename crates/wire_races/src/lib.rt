@@ -13,7 +13,8 @@ mod rewrites;
 mod search_pieces;
 mod sweep_races;
 
-pub use finding_search::{finding_list, findings};
+pub use finding_search::{finding_list, findings, placeless_findings};
+pub use key_races::{are_unordered, is_lower, is_open, least_processes};
 pub use racing::are_racing;
 pub use reported::race_calls;
 pub use wire_fates::{Fate, Settled, Unsettled};

@@ -3,9 +3,9 @@ pub mod Chains
 pub mod Counts
 mod Distinct
 mod GroupLaws
-mod Grouped
+pub mod Grouped
 mod Groups
-mod Labels
+pub mod Labels
 mod LabelLaws
 pub mod LinesLeft
 mod Noted
@@ -14,5 +14,5 @@ mod Parted
 pub mod Parts
 pub mod Room
 pub mod Rows
-mod SameLabels
+pub mod SameLabels
 pub mod Streams

@@ -76,7 +76,7 @@ fn push_findings(
 }
 
 /// Appends the last line, which says how many findings there are. Fails only where there is no room for it.
-pub(crate) fn push_count(out: &mut Vec<u8>, count: usize) -> Result<(), AllocError>
+pub fn push_count(out: &mut Vec<u8>, count: usize) -> Result<(), AllocError>
     ensures ok { OnOk result (out.new.items ≡ out.old.items ++ spec.count_line count) }
     ensures capacity { vec_capacity out.old ≤ vec_capacity out.new }
     ensures full { OnErr result (vec_capacity out.old < length out.old.items + length (spec.count_line count)) }

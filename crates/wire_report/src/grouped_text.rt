@@ -70,7 +70,7 @@ fn push_counted_findings(
 }
 
 /// Appends the first line of a group of so many findings.
-fn push_first(
+pub fn push_first(
     out: &mut Vec<u8>,
     places: Places<'_>,
     scripts: &Scripts,
@@ -136,7 +136,7 @@ fn push_group(
 }
 
 /// Appends the last line: how many findings and groups there are.
-fn push_last(out: &mut Vec<u8>, findings: usize, groups: usize) -> Result<(), AllocError>
+pub fn push_last(out: &mut Vec<u8>, findings: usize, groups: usize) -> Result<(), AllocError>
     ensures { OnOk result (out.new.items ≡ out.old.items ++ spec.last_line findings groups) }
 {
     out.extend_from_slice(b"findings ")?;

@@ -114,7 +114,7 @@ fn label_with(subject: Subject, x: Option<Verb>, y: Option<Verb>) -> Label
 }
 
 /// The label of a finding.
-pub(crate) fn label_of(scripts: &Scripts, finding: Finding) -> Label
+pub fn label_of(scripts: &Scripts, finding: Finding) -> Label
     ensures { result ≡ spec.label_of scripts.now finding }
 {
     let pair = pair_of(finding);

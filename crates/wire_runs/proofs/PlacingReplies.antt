@@ -31,7 +31,7 @@ use Rattle.wire_runs.proofs.Anywhere.{placing_is, pair_node, first_of_pair, seco
 use Rattle.wire_runs.proofs.PlacingRuns.{run_alike}
 
 -- the state in which a process has come to an event that is done later
-record CameTo (plan : Plan) (s : State) (x : Event) : Type 0 where
+pub record CameTo (plan : Plan) (s : State) (x : Event) : Type 0 where
   pub then_ : State
   pub known : Known plan then_
   pub there : then_.done x.proc ≡ x.at
@@ -128,7 +128,7 @@ module _ (plan : Plan) (settled : IsSettled plan) where
       let lt : c.0 < s.done t = k.sound.closed x get e (done get refl) in
       true≢false (sym (stored_stays plan t key (suc c.0) (s.done t) lt c.2.something_after) ∙ ap is_some none)
 
-abbrev value_at : ℕ → ℕ → Answer
+abbrev pub value_at : ℕ → ℕ → Answer
 value_at p put = Value (record { proc = p; at = put })
 
 served_reply : (plan : Plan) (p put : ℕ) (same : Bool) → sight_reply p (served plan p same (Some put)) ≡ cond (admits (scope_of plan p put) same) (value_at p put) ExistsOutside
@@ -152,19 +152,19 @@ even Global p put e = refl
 admits_all : (scope : Scope) (same : Bool) → scope ≡ Global → admits scope same ≡ true
 admits_all scope same e = ap (λ s. admits s same) e
 
-reflexive : (plan : Plan) → IsPlacing plan plan
+pub reflexive : (plan : Plan) → IsPlacing plan plan
 reflexive plan = record { same_keep = refl; same_count = refl; same_calls = λ p. refl }
 
 -- p and q on one node
-near_is : (plan : Plan) (p q : ℕ) → p < process_count plan → q < process_count plan → same_node (paired plan p q) p q ≡ true
+pub near_is : (plan : Plan) (p q : ℕ) → p < process_count plan → q < process_count plan → same_node (paired plan p q) p q ≡ true
 near_is plan p q a b = eq-eqb _ _ (first_of_pair plan p q a ∙ sym (second_of_pair plan p q b))
 
 -- q alone on its node
-alone_is : (plan : Plan) (p q : ℕ) → q < process_count plan → (q ≡ p → ⊥) → same_node (paired plan q q) p q ≡ false
+pub alone_is : (plan : Plan) (p q : ℕ) → q < process_count plan → (q ≡ p → ⊥) → same_node (paired plan q q) p q ≡ false
 alone_is plan p q a ne = ne_eqb _ _ (λ e. ⊎_elim (λ i. ne (sym i)) (λ i. ne (sym i)) (of_pair plan q q p (e ∙ first_of_pair plan q q a)))
 
 -- a process that stores a key is one of the plan's
-owner_within : (plan : Plan) (p key put : ℕ) → stored plan p key (event_count plan p) ≡ Some put → p < process_count plan
+pub owner_within : (plan : Plan) (p key put : ℕ) → stored plan p key (event_count plan p) ≡ Some put → p < process_count plan
 owner_within plan p key put e = let c = first_stores plan p key (event_count plan p) (ap is_some e) in process_within plan p c.0 _ (stores_commit plan (record { proc = p; at = c.0 }) key c.2)
 
 came_admitted : (plan : Plan) (s : State) → Known plan s → (t key node u : ℕ) → (node_of plan t ≡ node → ⊥) → Came plan s t key node u → admits (scope_of plan t u) false ≡ true
@@ -201,7 +201,7 @@ module _ (plan : Plan) (everywhere : IsSettledAnywhere plan) where
     put_there : (p key put : ℕ) → stored plan p key (event_count plan p) ≡ Some put → stored other p key (event_count other p) ≡ Some put
     put_there p key put e = sym (ap (stored plan p key) (counts plan other same p) ∙ stored_same plan other same p key (event_count other p)) ∙ e
 
-  own_done : (x : Event) → is_some (plain_reply plan x) ≡ true → IsDone (plain_end plan) x
+  pub own_done : (x : Event) → is_some (plain_reply plan x) ≡ true → IsDone (plain_end plan) x
   own_done x h = elim (cases_lt x.at ((plain_end plan).done x.proc)) [
     | inl lt ↦ lt
     | inr ge ↦ absurd (
@@ -210,7 +210,7 @@ module _ (plan : Plan) (everywhere : IsSettledAnywhere plan) where
   ]
 
   -- the answer to a get of another's key
-  get_there : (other : Plan) → IsPlacing plan other → (x : Event) (p key put : ℕ) → kind plan x ≡ Some (Get p key) → (x.proc ≡ p → ⊥) → IsDone (plain_end plan) x →
+  pub get_there : (other : Plan) → IsPlacing plan other → (x : Event) (p key put : ℕ) → kind plan x ≡ Some (Get p key) → (x.proc ≡ p → ⊥) → IsDone (plain_end plan) x →
       stored plan p key (event_count plan p) ≡ Some put → plain_reply other x ≡ Some (cond (admits (scope_of plan p put) (same_node other p x.proc)) (value_at p put) ExistsOutside)
   get_there other same x p key put is ne d e =
       (end_known other (there other same)).answered x p key (done_there other same x d) (kind_kept plan other same x (Get p key) refl is) ne
@@ -250,7 +250,7 @@ module _ (plan : Plan) (everywhere : IsSettledAnywhere plan) where
     on_node : same_node other p x.proc ≡ true → plain_reply other x ≡ Some (sight_reply p (served other p true (stored other p key (c.then_.done p))))
     on_node b = now_said ∙ ap (λ v. Some (sight_reply p v)) (cond-false _ _ _ (ne_eqb x.proc p ne) ∙ cond-true _ _ _ b)
 
-    off_node : same_node other p x.proc ≡ false → plain_reply other x ≡ Some (sight_reply p (held (brought other c.then_ p key (node_of other x.proc))))
+    pub off_node : same_node other p x.proc ≡ false → plain_reply other x ≡ Some (sight_reply p (held (brought other c.then_ p key (node_of other x.proc))))
     off_node b = now_said ∙ ap (λ v. Some (sight_reply p v)) (cond-false _ _ _ (ne_eqb x.proc p ne) ∙ cond-false _ _ _ b)
 
     is_next : next_event c.then_ x.proc ≡ x
@@ -279,7 +279,7 @@ module _ (plan : Plan) (everywhere : IsSettledAnywhere plan) where
           let some = stored_stays other p key (suc commit_at) (c.then_.done p) d there_stores.something_after in
           sym (stored_fixed other (there other same) p key (c.then_.done p) (event_count other p) (c.known.sound.within p) some) ∙ put_there other same p key put e
 
-      now_near : same_node other p x.proc ≡ true → plain_reply other x ≡ Some (cond (admits (scope_of plan p put) true) (value_at p put) ExistsOutside)
+      pub now_near : same_node other p x.proc ≡ true → plain_reply other x ≡ Some (cond (admits (scope_of plan p put) true) (value_at p put) ExistsOutside)
       now_near b =
           on_node b ∙ ap (λ o. Some (sight_reply p (served other p true o))) stored_now
           ∙ ap Some (served_reply other p put true ∙ ap (λ s. cond (admits s true) (value_at p put) ExistsOutside) (sym (scope_same plan other same p put)))
@@ -288,17 +288,21 @@ module _ (plan : Plan) (everywhere : IsSettledAnywhere plan) where
       put_is u away k =
           same_Some _ _ (sym (came_value other (there other same) c.then_ c.known.answered p key (node_of other x.proc) (apart away) u k) ∙ put_there other same p key put e)
 
-      -- a sure delivery shows it wherever the scope is for all
+      -- on another node than the owner's a sure delivery shows it
+      pub sure_away : same_node other p x.proc ≡ false → HasSurely plan p key x.proc x → plain_reply other x ≡ Some (value_at p put)
+      sure_away away sure =
+          let h = surely_kept plan other same p key x.proc x sure in
+          let node = node_of other x.proc in
+          let w = came_of other (there other same) c.then_ c.known p key node (apart away) h.delivery (to_node other p key node x.proc h.delivery refl h.carries) (λ z a. done_here z (h.all_before z a)) in
+          off_node away
+          ∙ ap (λ o. Some (sight_reply p (held o))) (came_is other (there other same) c.then_ c.known.answered p key node (apart away) w.0 w.1)
+          ∙ ap (λ u. Some (value_at p u)) (put_is w.0 away w.1)
+
+      -- and everywhere where the scope is for all
       now_sure : scope_of plan p put ≡ Global → HasSurely plan p key x.proc x → plain_reply other x ≡ Some (value_at p put)
       now_sure global sure = elim (cases_Bool (same_node other p x.proc)) [
         | inl b ↦ now_near b ∙ ap Some (cond-true _ _ _ (admits_all _ _ global))
-        | inr away ↦
-            (let h = surely_kept plan other same p key x.proc x sure in
-            let node = node_of other x.proc in
-            let w = came_of other (there other same) c.then_ c.known p key node (apart away) h.delivery (to_node other p key node x.proc h.delivery refl h.carries) (λ z a. done_here z (h.all_before z a)) in
-            off_node away
-            ∙ ap (λ o. Some (sight_reply p (held o))) (came_is other (there other same) c.then_ c.known.answered p key node (apart away) w.0 w.1)
-            ∙ ap (λ u. Some (value_at p u)) (put_is w.0 away w.1))
+        | inr away ↦ sure_away away sure
       ]
 
       -- where it isn't on the owner's node, alone on its own, and finds something
@@ -307,7 +311,7 @@ module _ (plan : Plan) (everywhere : IsSettledAnywhere plan) where
         it_came : Came other c.then_ p key (node_of other x.proc) u
         it_came = came other c.then_ p key (node_of other x.proc) u found
 
-        alone_sure : HasSurely plan p key x.proc x
+        pub alone_sure : HasSurely plan p key x.proc x
         alone_sure =
             let w = came_by other (there other same) c.then_ c.known p key (node_of other x.proc) u (apart away) it_came in
             let m = to_process other p key (node_of other x.proc) w.0 (apart away) w.1 in
@@ -363,7 +367,7 @@ module _ (plan : Plan) (everywhere : IsSettledAnywhere plan) where
               let w = came_by other (there other same) c.then_ c.known p key node u (apart away) (came other c.then_ p key node u e) in
               absurd (none_came other (there other same) c.then_ c.known p key node (apart away) none_stored w.0 w.1 w.2)
 
-  came_there : (other : Plan) → (same : IsPlacing plan other) → (x : Event) → IsDone (plain_end plan) x → CameTo other (plain_end other) x
+  pub came_there : (other : Plan) → (same : IsPlacing plan other) → (x : Event) → IsDone (plain_end plan) x → CameTo other (plain_end other) x
   came_there other same x d = came_to other (there other same) x (done_there other same x d)
 
   now_replies : (commit x : Event) (key put : ℕ) → kind plan x ≡ Some (GetNow commit.proc key) → (x.proc ≡ commit.proc → ⊥) → is_some (plain_reply plan x) ≡ true → Stores plan commit key →

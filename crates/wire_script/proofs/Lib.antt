@@ -25,5 +25,6 @@ pub mod ReadBack
 pub mod Migrated
 pub mod ProcTable
 pub mod OrderSteps
+pub mod RankParts
 pub mod OrderLimited
 pub mod QuestionRead

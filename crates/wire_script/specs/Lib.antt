@@ -11,4 +11,5 @@ pub mod Targets
 pub mod Back
 pub mod ProcWords
 pub mod Order
+pub mod Ranks
 pub mod Question

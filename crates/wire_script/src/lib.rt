@@ -16,6 +16,7 @@ mod numbers;
 mod order;
 mod proc_words;
 mod question;
+mod ranks;
 mod reader;
 mod second_pass;
 
@@ -24,6 +25,7 @@ pub use lines::{Cursor, Statement};
 pub use located::read_located;
 pub use order::read_order_sized;
 pub use question::{Question, question_reads_once, read_question};
+pub use ranks::read_ranks;
 pub use reader::{migrated_reads_back, one_canonical, read, read_sized, reads_back, reads_once};
 pub use wire_content::{Process, Scripts, Sets, Texts};
 pub use wire_types::Version;

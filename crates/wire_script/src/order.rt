@@ -62,7 +62,7 @@ fn read_steps(
 }
 
 /// Appends a step.
-fn add_step(order: &mut Vec<Proc>, step: Proc) -> Result<(), AllocError>
+pub(crate) fn add_step(order: &mut Vec<Proc>, step: Proc) -> Result<(), AllocError>
     ensures { OnOk result (order.new.items ≡ order.old.items ++ step ∷ []) }
 {
     order.push(step)?;

@@ -12,6 +12,7 @@ ghost use Rattle.wire_collect.specs.Collect.{MayWork};
 ghost use Rattle.wire_commands.specs.declared.ended.Ended.TheVariants.{Clean};
 ghost use Rattle.wire_commands.specs.Answer.{BreaksOff, Writes};
 ghost use Rattle.wire_commands.specs.Check.{EndsInOneState, IsVerdict, StopsBeforeFindings};
+ghost use Rattle.wire_commands.specs.CheckAnywhere.{EndsInOneStateAnywhere, IsVerdictAnywhere};
 ghost use Rattle.wire_commands.specs.Follow.{BreaksOffFollowed, StopsBefore, WritesFollowed};
 ghost use Rattle.wire_commands.specs.Migrate.{BreaksOffMigrated, StopsBeforeMigrated, WritesMigrated};
 ghost use Rattle.wire_commands.specs.Plain.{BreaksOffReport, ReadAs, Refuses, WritesReport};
@@ -22,12 +23,13 @@ use std::alloc::Global;
 use std::sync::Wait;
 use std::thread::Threads;
 pub use wire_command_line::{
-    Asked, CallPair, CallWords, Command, PairOptions, Refusal, ReplayOptions, Request, asked,
-    read_request, workers_of,
+    Asked, CallPair, CallWords, Command, Judged, PairOptions, Refusal, ReplayOptions, Request,
+    asked, read_request, workers_of,
 };
 pub use wire_commands::{
-    Ended, Manner, Mode, PairAsked, Replayed, Replaying, answer_question, check_plan, follow_plan,
-    migrate_plan, replay_plan, run_plainly, witness_pair, witness_races,
+    Ended, Manner, Mode, PairAsked, Replayed, Replaying, answer_question, check_placements,
+    check_plan, check_replies, follow_plan, migrate_plan, replay_plan, run_plainly, witness_pair,
+    witness_races,
 };
 use wire_sched::Gate;
 pub use wire_script::Size;
@@ -64,6 +66,32 @@ pub fn check<R: Source, W: Sink>(
     ensures unfailed { IfErr result (λ e. e ≢ Memory → e ≢ Read → R.failures reader.new ≡ R.failures reader.old) }
 {
     check_plan(rt, alloc, IN_LINES, reader, writer)
+}
+
+/// Checks a plan on every placement of its ranks, as [`check_placements`] says.
+pub fn check_anywhere<R: Source, W: Sink>(
+    rt: &(impl Threads + Sync),
+    alloc: Global,
+    reader: &mut R,
+    writer: &mut W,
+) -> Result<Ended, Fault>
+    ensures ok { IfOk result (λ ended. Writes Size.OfVersion Form.Lines (R.coming reader.old) (IsVerdictAnywhere Form.Lines []) ended
+        (W.written writer.old) (W.written writer.new)) }
+    ensures quiet { OnOk result ((R.failures reader.new ≡ R.failures reader.old) × (W.failures writer.new ≡ W.failures writer.old)) }
+
+    // The headline: where it finds nothing, on each placement every interleaving that can't go on ends in one state.
+    ensures one_end { result ≡ Ok Clean → EndsInOneStateAnywhere Size.OfVersion (R.coming reader.old) }
+
+    // Either nothing was written, or the front of the findings that the fault counts.
+    ensures err { IfErr result (λ e. (StopsBeforeFindings Size.OfVersion (R.coming reader.old) e × (writer.new ≡ writer.old))
+        ⊎ (BreaksOff Size.OfVersion Form.Lines (R.coming reader.old) (IsVerdictAnywhere Form.Lines []) (W.written writer.old) (W.written writer.new) e
+        × (W.failures writer.new ≡ one_more (W.failures writer.old)))) }
+
+    // A failed read is answered only where the reader failed.
+    ensures read_failed { result ≡ Err Read → R.failures reader.new ≡ one_more (R.failures reader.old) }
+    ensures unfailed { IfErr result (λ e. e ≢ Memory → e ≢ Read → R.failures reader.new ≡ R.failures reader.old) }
+{
+    check_placements(rt, alloc, IN_LINES, reader, writer)
 }
 
 /// Replays a plan by so many workers at most, as [`replay_plan`] says. Its name is that of the requirements.

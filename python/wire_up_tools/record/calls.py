@@ -114,6 +114,17 @@ class Fence:
 
 
 @dataclass(frozen=True)
+class Group:
+    """The making of a group of processes, or its end, which names none."""
+
+    verb: ClassVar[str] = "group"
+    is_made: bool
+    name: bytes
+    names: tuple[ProcessName, ...]
+    directives: Directives
+
+
+@dataclass(frozen=True)
 class Get:
     """A get of keys of a process; of every key, or of no process, where that is None."""
 
@@ -194,7 +205,7 @@ class Collective:
     communicator: int
 
 
-PmixCall = Union[Put, Commit, Fence, Get, Publish, Lookup, Unpublish]
+PmixCall = Union[Put, Commit, Fence, Group, Get, Publish, Lookup, Unpublish]
 MpiCall = Union[Send, Receive, Probe, Collective]
 Action = Union[PmixCall, MpiCall]
 MPI_CALLS = (Send, Receive, Probe, Collective)

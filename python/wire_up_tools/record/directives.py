@@ -15,6 +15,14 @@ COLLECT, WAIT = b"pmix.collect", b"pmix.wait"
 # Directives of a get that doesn't wait.
 AT_ONCE = (b"pmix.immediate", b"pmix.optional")
 KNOWN = (COLLECT, WAIT, *AT_ONCE)
+# Directives of a group with which all its processes still wait for all.
+OF_GROUPS = (
+    b"pmix.grp.actxid",
+    b"pmix.grp.endpt",
+    b"pmix.grp.info",
+    b"pmix.grp.lclid",
+    b"pmix.timeout",
+)
 
 
 def has_directive(directives: Directives, *keys: bytes) -> bool:

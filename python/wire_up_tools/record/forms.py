@@ -32,6 +32,9 @@ KEPT_RECORDS = 1 << 17
 
 Groups = Sequence[str]
 
+# What a call without processes names.
+ALL_OF_JOB = (ProcessName(b"", AnyRank.ALL),)
+
 
 # --- words of recordings ---
 
@@ -117,9 +120,14 @@ def read_wanted(text: Optional[str]) -> Optional[int]:
 
 def read_fence(groups: Groups) -> Action:
     """A fence; `all` are the processes of the caller's job."""
-    all_of_job = (ProcessName(b"", AnyRank.ALL),)
-    names = all_of_job if groups[1] == "all" else read_process_names(groups[1])
+    names = ALL_OF_JOB if groups[1] == "all" else read_process_names(groups[1])
     return calls.Fence(Ending(groups[0]), names, read_pairs(groups[2]))
+
+
+def read_group(groups: Groups) -> Action:
+    """The making or the end of a group."""
+    names = ALL_OF_JOB if groups[2] == "all" else read_process_names(groups[2])
+    return calls.Group(groups[0] == "construct", decode(groups[1]), names, read_pairs(groups[3]))
 
 
 def read_get(groups: Groups) -> Action:
@@ -149,6 +157,9 @@ BEGINS = {
     ),
     "commit": Form(re.compile(r"commit"), lambda it: calls.Commit()),
     "fence": Form(re.compile(rf"fence (blocks|nb|own) ({WORD}) ({WORD})"), read_fence),
+    "group": Form(
+        re.compile(rf"group (construct|destruct) :({WORD}) ({WORD}) ({WORD})"), read_group
+    ),
     "get": Form(
         re.compile(rf"get (blocks|nb|own) ({WORD}) (every|:{WORD}) ({WORD})"), read_get
     ),

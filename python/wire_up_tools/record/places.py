@@ -9,7 +9,7 @@ from dataclasses import dataclass
 from typing import Optional
 
 from wire_up_tools.failures import Refused
-from wire_up_tools.plan import read_lines, split_lines
+from wire_up_tools.plan import read_calls
 from wire_up_tools.record.draft import Draft, Line
 from wire_up_tools.record.forms import WORD, decode_text
 from wire_up_tools.record.processes import Process
@@ -137,7 +137,7 @@ def find_call_place(process: str, number: int, plan: bytes) -> Optional[str]:
     Calls of a process such as `app:0` are counted from 1.
     """
     try:
-        calls = read_lines(split_lines(plan)).calls
+        calls = read_calls(plan)
     except LookupError:
         return None
     found = (it for it in calls if (it.rank.name, it.number) == (process, number))

@@ -13,6 +13,7 @@ from wire_up_tools.record.calls import (
     Fence,
     Get,
     GetEnd,
+    Group,
     Lookup,
     LookupEnd,
     Publish,
@@ -267,7 +268,7 @@ def make_lines(processes: Processes, spelling: Spelling, with_mpi: bool) -> Pmix
         in_plan = [
             it
             for it in noted
-            if not it.is_of_pmix or isinstance(it.action, Fence) or it in with_lines
+            if not it.is_of_pmix or isinstance(it.action, (Fence, Group)) or it in with_lines
         ]
         note_overlaps(in_plan, notes)
         note_unawaited(in_plan, notes)

@@ -1,10 +1,14 @@
-"""Makes lines of the fences of PMIx: the n-th of each member over one set meet."""
+"""Makes lines of the fences of PMIx: the n-th of each member over one set meet.
+
+The making of a group and its end are fences of its processes too, where all of them make the same
+calls over its set in the same order.
+"""
 from collections.abc import Mapping, Sequence
 from dataclasses import dataclass, field
 from typing import Optional
 
-from wire_up_tools.record.calls import Call, Fence
-from wire_up_tools.record.directives import COLLECT, has_directive
+from wire_up_tools.record.calls import Call, Fence, Group, ProcessName
+from wire_up_tools.record.directives import COLLECT, OF_GROUPS, has_directive
 from wire_up_tools.record.draft import Line, Part
 from wire_up_tools.record.meetings import (
     MOST_NAMED,
@@ -17,6 +21,9 @@ from wire_up_tools.record.meetings import (
 from wire_up_tools.record.names import Spelling
 from wire_up_tools.record.notes import Notes
 from wire_up_tools.record.processes import NEVER_BEGAN, Process
+from wire_up_tools.words import show
+
+OTHER_GROUPS = "calls that make or end groups, and aren't known to be fences of their processes"
 
 
 @dataclass(frozen=True)
@@ -35,15 +42,65 @@ def is_collecting(call: Call) -> bool:
     return isinstance(action, Fence) and has_directive(action.directives, COLLECT)
 
 
-def find_fences(sets: Sets, notes: Notes) -> dict[Members, dict[Process, list[Call]]]:
+CallsBySet = dict[Members, dict[Process, list[Call]]]
+
+
+def say_kind(call: Call) -> str:
+    """What a fence is: one of those of a group has its name."""
+    action = call.action
+    if not isinstance(action, Group):
+        return "fence"
+    return f"{'construct' if action.is_made else 'destruct'} {show(action.name)}"
+
+
+class OpenGroups:
+    """The processes of the groups that a process has made."""
+
+    def __init__(self) -> None:
+        self.found: dict[bytes, tuple[ProcessName, ...]] = {}
+
+    def find(self, call: Call) -> Optional[tuple[ProcessName, ...]]:
+        """The processes that a fence or a call of a group waits for; None where it isn't known
+        that it waits for all of them."""
+        action = call.action
+        if isinstance(action, Fence):
+            return action.names
+        assert isinstance(action, Group), "it is a fence or of a group"
+        is_plain = all(it.key in OF_GROUPS for it in action.directives) and not call.has_failed
+        before = self.found.pop(action.name, None)
+        names = (action.names if action.is_made else before) if is_plain else None
+        if names and action.is_made:
+            self.found[action.name] = names
+        return names
+
+
+def leave_out_groups(found: CallsBySet, notes: Notes) -> None:
+    """Leaves out the calls of groups over a set over which its members make other calls, or the
+    same in another order."""
+    for members, calls in found.items():
+        meetings = list(join_calls(members, calls))
+        are_alike = all(len(set(map(say_kind, it.calls.values()))) == 1 for it in meetings)
+        is_whole = all(it.is_whole for it in meetings)
+        for process, them in calls.items():
+            fences = [it for it in them if isinstance(it.action, Fence)]
+            if len(fences) < len(them) and not (are_alike and is_whole):
+                notes.left_out[OTHER_GROUPS] += len(them) - len(fences)
+                calls[process] = fences
+
+
+def find_fences(sets: Sets, notes: Notes) -> CallsBySet:
     """The fences over each set, by their processes and in their order."""
-    found: dict[Members, dict[Process, list[Call]]] = {}
+    found: CallsBySet = {}
     for process in sets.processes.all:
+        groups = OpenGroups()
         for call in process.recording.calls_of_pmix:
-            if not isinstance(call.action, Fence):
+            if not isinstance(call.action, (Fence, Group)):
                 continue
-            members = sets.find_members(process, call.action.names)
-            if members is None:
+            names = groups.find(call)
+            members = sets.find_members(process, names) if names else None
+            if members is None and isinstance(call.action, Group):
+                notes.left_out[OTHER_GROUPS] += 1
+            elif members is None:
                 notes.left_out[
                     "fences with processes that aren't recorded, or without the caller"
                 ] += 1
@@ -51,6 +108,7 @@ def find_fences(sets: Sets, notes: Notes) -> dict[Members, dict[Process, list[Ca
                 notes.left_out["fences that failed"] += 1
             else:
                 found.setdefault(members, {}).setdefault(process, []).append(call)
+    leave_out_groups(found, notes)
     return found
 
 
@@ -107,7 +165,9 @@ def make_meeting(meeting: JointCalls, sets: Sets) -> Part:
     for process, call in meeting.calls.items():
         collect = " collect" if is_collecting(call) else ""
         words = f"fence {sets.find_word(process, meeting.members)}{collect}"
-        lines.append(Line(process, call.begins, words, call, None, None, None))
+        is_fence = isinstance(call.action, Fence)
+        remark = None if is_fence else f"# PMIx: {say_kind(call)}"
+        lines.append(Line(process, call.begins, words, call, None, None, remark))
     if meeting.is_whole:
         part.add_meeting(lines)
     else:

@@ -114,7 +114,7 @@ PLAIN = {
     "other": re.compile(r"other (.+)"),
     "unseen": re.compile(rf"unseen (call|object) ({WORD})"),
     "world": re.compile(r"world (\d{1,9}) (\d{1,9})"),
-    "comm": re.compile(r"comm (\d{1,9}) (\d{1,9}) ([wcgv]-?\d{1,18}) ([\d,-]+)"),
+    "comm": re.compile(r"comm (\d{1,9}) (\d{1,9}) ([wcgvs]-?\d{1,18}) ([\d,-]+)"),
     "inter": re.compile(r"inter (\d{1,9}) (\d{1,9}) (c-?\d{1,18}) ([\d,-]+) ([\d,-]+)"),
     "place": re.compile(rf"place (\d{{1,9}}) ({WORD}) ([0-9a-f]{{1,16}})"),
     "line": re.compile(rf"line (\d{{1,9}}) ({WORD}) (\d{{1,9}}) ({WORD})"),

@@ -5,7 +5,7 @@ from datetime import datetime, timezone
 from typing import Optional
 
 from wire_up_tools.limits import VERSION_1
-from wire_up_tools.record.calls import LookupEnd
+from wire_up_tools.record.calls import Collective, LookupEnd, MessageEnd, Probe, Receive, Send
 from wire_up_tools.record.draft import Line
 from wire_up_tools.record.places import Places
 from wire_up_tools.record.planning import Plan
@@ -16,6 +16,7 @@ from wire_up_tools.words import (
     LEFT_OUT,
     LEFT_TO_LUCK,
     MORE_ORDERED,
+    MPI_COMMENT,
     PARTED,
     PLACE_COMMENT,
     RECORDED_BY,
@@ -46,6 +47,8 @@ STATUSES = {
     -61: "PMIX_ERR_LOST_CONNECTION",
     -62: "PMIX_ERR_EXISTS_OUTSIDE_SCOPE",
 }
+# The comments for which there may be no room.
+LEFT_AWAY = (PLACE_COMMENT, f"{MPI_COMMENT}send", f"{MPI_COMMENT}receive")
 # The statuses of lookups that found a name at least.
 SUCCEEDED, NOT_FOUND = (0, -52), -46
 SUCCESS, WAITING, UNREACHED = STATUSES[0], "waiting", "unreached"
@@ -135,6 +138,22 @@ def find_texts(process: Process, places: Optional[Places]) -> dict[Optional[str]
     return {number: text for number, text in found if text}
 
 
+def say_order(line: Line) -> Optional[str]:
+    """The comment above a line that stands for a message or a collective; None for another."""
+    action, end = line.call.action, line.call.end
+    if line.order is None or line.is_of_program:
+        return None
+    if isinstance(action, Collective):
+        return f"{MPI_COMMENT}{action.name}"
+    if isinstance(action, Send):
+        return f"{MPI_COMMENT}send, tag {action.tag}"
+    if not isinstance(action, (Receive, Probe)):
+        return None
+    of_any = " from any source" if action.source is None else ""
+    tag = f", tag {end.tag}" if isinstance(end, MessageEnd) else ""
+    return f"{MPI_COMMENT}receive{of_any}{tag}"
+
+
 def write_script(lines: Iterable[Line], texts: dict[Optional[str], str]) -> Iterator[str]:
     """The lines of one process. Where another place of the program begins, a comment says so."""
     place = UNKNOWN_PLACE
@@ -143,8 +162,9 @@ def write_script(lines: Iterable[Line], texts: dict[Optional[str], str]) -> Iter
         if here != place:
             yield f"{PLACE_COMMENT}{here}"
             place = here
-        if line.remark:
-            yield line.remark
+        remark = line.remark or say_order(line)
+        if remark:
+            yield remark
         yield line.words
 
 
@@ -179,7 +199,7 @@ def write_plan(plan: Plan, places: Optional[Places] = None) -> str:
     head, body = say_head(plan), write_body(plan, places)
     text = join_lines(head, body, is_large)
     if len(text) > (most if is_large else VERSION_1).plan_bytes:
-        body = [it for it in body if not it.startswith(PLACE_COMMENT)]
+        body = [it for it in body if not it.startswith(LEFT_AWAY)]
         text = join_lines(head, body, is_large)
     refuse_past(most.plan_bytes, "bytes", len(text))
     return text

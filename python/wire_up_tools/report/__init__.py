@@ -2,7 +2,9 @@
 
 - `command_line` begins. `contents` gathers all that a report says, whatever its form.
 - `asking` asks the checker; `findings`, `chains`, `runs` and `replies` read what it answers.
+- `language` has what calls are called, and `messages` finds the message that would order a race.
 - `causes` puts the groups of the checker that have one cause into one mistake.
+- `placements` tells what is found on other placements of the ranks.
 - `uses` says who puts which key, `orders` what waits for what, and `waits` why ranks wait for
   ever.
 - `race_diagram`, `wire_up_diagram` and `node_diagram` choose what stands in a `diagram`.

@@ -38,6 +38,13 @@ class Asker:
         except OSError as why:
             raise Refused(f"{self.checker.path}: {why.strerror}") from None
 
+    def takes(self, command: str, option: str) -> bool:
+        """Whether a command of the checker takes an option. Raises Refused if it can't be run."""
+        try:
+            return self.checker.takes(command, option)
+        except OSError as why:
+            raise Refused(f"{self.checker.path}: {why.strerror}") from None
+
     def ask(self, command: str, *words: str) -> Answer:
         """Asks a command. Raises Refused if the checker can't be run."""
         try:
@@ -104,11 +111,11 @@ def cut_into_lines(source: Optional[IO[bytes]]) -> Iterator[bytes]:
         yield rest
 
 
-def stream_check(asker: Asker) -> Generator[str, None, None]:
-    """The lines that `check` writes, one after another.
+def stream_lines(asker: Asker, command: str, *options: str) -> Generator[str, None, None]:
+    """The lines that a command writes, one after another.
 
     Raises Refused, before the first, if the plan is refused.
     """
-    with contextlib.closing(stream_blocks(asker, "check")) as blocks:
+    with contextlib.closing(stream_blocks(asker, command, *options)) as blocks:
         for block in blocks:
             yield from block.decode("utf-8", "replace").splitlines()

@@ -1,5 +1,6 @@
 """All that a report says, whatever its form."""
 import os
+import time
 from collections.abc import Sequence
 from dataclasses import dataclass
 from typing import Optional
@@ -9,9 +10,10 @@ from wire_up_tools.plan import Plan, read_plan
 from wire_up_tools.report.asking import CLEAN, FOUND, Asker
 from wire_up_tools.report.causes import Cause, find_causes
 from wire_up_tools.report.diagram import Diagram
-from wire_up_tools.report.findings import find_groups, group_lines, has_many
+from wire_up_tools.report.findings import find_groups
 from wire_up_tools.report.orders import Order, find_order
 from wire_up_tools.report.partial import find_reasons, find_verdicts
+from wire_up_tools.report.placements import Elsewhere, find_elsewhere
 from wire_up_tools.report.race_diagram import make_race_diagram
 from wire_up_tools.report.replies import Failure, find_replies
 from wire_up_tools.report.runs import Runs, Search, begin_search, find_runs
@@ -45,7 +47,8 @@ class WireUp:
 
 @dataclass(frozen=True, eq=False)
 class Report:
-    """What is found in a plan: causes, of which the first are told in full, or else its wire-up.
+    """What is found in a plan: causes, of which the first are told in full, or else its wire-up;
+    and what is found on other placements only, if the checker can tell.
 
     `path` is that of the plan as it was given, and `version` that of the checker.
     """
@@ -56,6 +59,7 @@ class Report:
     causes: Sequence[Cause] = ()
     details: Sequence[Detail] = ()
     wire_up: Optional[WireUp] = None
+    elsewhere: Optional[Elsewhere] = None
 
     @property
     def plan(self) -> Plan:
@@ -108,21 +112,22 @@ def make_report(path: str, asker: Asker) -> Report:
 
     Raises Refused where the checker can't be run, refuses the plan, or isn't `wire_up`.
     """
-    version = asker.version()
-    search = begin_search(asker)
-    is_long = has_many(asker)
-    order = find_order(read_plan(asker.data))
-    groups = (group_lines if is_long else find_groups)(asker, order.plan)
-    if not groups:
-        return Report(path, version, order, wire_up=find_wire_up(asker, order))
+    version, plan = asker.version(), read_plan(asker.data)
+    start = time.monotonic()
+    groups = find_groups(asker, plan)
+    search, order = begin_search(asker, time.monotonic() - start), find_order(plan)
     causes = find_causes(groups)
+    elsewhere = find_elsewhere(search, order, causes)
+    if not causes:
+        wire_up = find_wire_up(asker, order)
+        return Report(path, version, order, wire_up=wire_up, elsewhere=elsewhere)
     details = [find_detail(search, order, it) for it in causes[:CAUSES]]
-    return Report(path, version, order, causes, details)
+    return Report(path, version, order, causes, details, elsewhere=elsewhere)
 
 
 def find_detail(search: Search, order: Order, cause: Cause) -> Detail:
     """What is told of a cause in full."""
-    diagram = make_race_diagram(cause.first, search.asker, order)
+    diagram = make_race_diagram(cause.first, search, order)
     return Detail(cause, diagram, find_runs(search, cause.first))
 
 

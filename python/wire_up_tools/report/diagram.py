@@ -9,6 +9,7 @@ from dataclasses import dataclass
 from typing import Optional
 
 from wire_up_tools.plan import Call, Meeting
+from wire_up_tools.report.language import name_call
 from wire_up_tools.report.orders import Order
 from wire_up_tools.report.phrases import count_of, pick
 
@@ -70,11 +71,13 @@ class Item:
 
 @dataclass(frozen=True)
 class Mark:
-    """The call of a fence in a lane: its label, its line in the plan, and its number."""
+    """The call of a fence in a lane: its label, its line in the plan, and its number; and of fences
+    that are drawn as one, the number of the last."""
 
     label: str
     line: Optional[int] = None
     number: int = 0
+    last: int = 0
 
 
 @dataclass(frozen=True)
@@ -134,8 +137,8 @@ class Diagram:
         spots = {Spot(it.row, it.first, it.last) for it in self.items if it.lane == lane}
         for bar in self.bars:
             if lane in bar.marks:
-                number = bar.marks[lane].number
-                spots.add(Spot(bar.row, number, number))
+                mark = bar.marks[lane]
+                spots.add(Spot(bar.row, mark.number, max(mark.number, mark.last)))
         return sorted(spots, key=lambda it: (it.row, it.last))
 
 
@@ -151,24 +154,49 @@ def row_of_meeting(order: Order, meeting: Meeting) -> Row:
 
 def label_call(call: Call) -> str:
     """What stands beside a call."""
-    what = " collect" if call.collects else f" {call.about}" if call.about else ""
-    return f"{call.number} {call.verb}{what}"
+    return f"{call.number} {name_call(call)}"
 
 
 def make_bars(order: Order, lanes: Mapping[str, int], meetings: Iterable[Meeting]) -> list[Bar]:
     """The bars of fences over the lanes of their members, by the names of the ranks."""
     rows = {row_of_meeting(order, it): it for it in meetings}
-    bars = [Bar(row, make_marks(rows[row], lanes)) for row in sorted(rows)]
+    runs: list[list[Meeting]] = []
+    for row in sorted(rows):
+        if runs and is_next(runs[-1][-1], rows[row], lanes):
+            runs[-1].append(rows[row])
+        else:
+            runs.append([rows[row]])
+    bars = [Bar(row_of_meeting(order, it[0]), make_marks(it, lanes)) for it in runs]
     return [it for it in bars if it.marks]
 
 
-def make_marks(meeting: Meeting, lanes: Mapping[str, int]) -> dict[int, Mark]:
-    """The marks of the calls of a fence, by their lanes."""
+def is_next(one: Meeting, other: Meeting, lanes: Mapping[str, int]) -> bool:
+    """Whether in each lane a fence comes right after another of the same name."""
+    calls = {it.rank.name: it for it in one.calls if it.rank.name in lanes}
+    after = {it.rank.name: it for it in other.calls if it.rank.name in lanes}
+    return calls.keys() == after.keys() and all(
+        it.number + 1 == after[name].number and name_call(it) == name_call(after[name])
+        for name, it in calls.items()
+    )
+
+
+def make_marks(meetings: Sequence[Meeting], lanes: Mapping[str, int]) -> dict[int, Mark]:
+    """The marks of the calls of a fence, or of several that are drawn as one, by their lanes."""
+    more = len(meetings) - 1
     return {
-        lanes[call.rank.name]: Mark(label_call(call), call.line, call.number)
-        for call in meeting.calls
+        lanes[call.rank.name]: Mark(
+            label_fences(call, more), call.line, call.number, call.number + more
+        )
+        for call in meetings[0].calls
         if call.rank.name in lanes
     }
+
+
+def label_fences(call: Call, more: int) -> str:
+    """What stands beside the call of a fence that so many more of its name follow."""
+    if not more:
+        return label_call(call)
+    return f"{call.number}–{call.number + more} {name_call(call)} ×{more + 1}"
 
 
 def leave_out_implied(diagram: Diagram) -> Diagram:
@@ -186,7 +214,7 @@ def is_said(bar: Bar, link: Link) -> bool:
     before, after = bar.marks.get(link.source.lane), bar.marks.get(link.target.lane)
     if before is None or after is None:
         return False
-    return link.source.last < before.number and after.number < link.target.last
+    return link.source.last < before.number and after.last < link.target.last
 
 
 def say_not_drawn(count: int, noun: str, plural: Optional[str] = None) -> list[str]:

@@ -16,10 +16,14 @@ CHARACTER, SIDE, LANE_GAP = 7.3, 16, 36
 HEAD_HEIGHT, ROW_HEIGHT, BAR_HEIGHT, GAP_HEIGHT = 52, 38, 48, 18
 # Pixels from a lane to the names above it, and to the labels of calls and of fences.
 NAME_LEFT, LABEL_RIGHT, MARK_RIGHT = 6, 11, 9
+# Pixels between a label and what stands next in its row.
+MARGIN = 16
 # A diagram of at most so many pixels is made to fit a narrow page, and a wider one can be moved
 # there. Past the other width the page is broad.
 NARROW, BROAD = 460, 1100
 
+# Makes the diagram larger, without a script.
+ZOOM = '<label class="zoom"><input type="checkbox"> larger</label>'
 HINT = '<span class="hint">The diagram is wider than this page: move it sideways.</span>'
 
 
@@ -46,6 +50,18 @@ class Point:
 
 
 @dataclass(frozen=True)
+class Label:
+    """A text, its kind, the line of the plan to which it leads, and its lane and row if it stands
+    beside a call."""
+
+    text: str
+    kind: str
+    line: Optional[int] = None
+    lane: int = 0
+    row: Optional[Row] = None
+
+
+@dataclass(frozen=True)
 class Layout:
     """Where the lanes and rows of a diagram stand, in pixels, and what isn't drawn between."""
 
@@ -66,7 +82,7 @@ def draw_figure(diagram: Diagram, about: str) -> str:
     layout = lay_out(diagram)
     hint = HINT if layout.width > NARROW else ""
     svg = draw_svg(layout, about)
-    caption = f"<figcaption>{hint}{draw_legend(diagram)}</figcaption>"
+    caption = f"<figcaption>{hint}{ZOOM}{draw_legend(diagram)}</figcaption>"
     return f'<figure><div class="wide" tabindex="0">{svg}</div>{caption}</figure>'
 
 
@@ -140,14 +156,14 @@ def draw_lane(layout: Layout, lane: int) -> str:
     bottom = f"{layout.height - 6:.0f}"
     line = f'x1="{x:.1f}" x2="{x:.1f}" y1="{HEAD_HEIGHT - 8}" y2="{bottom}"'
     parts = [
-        draw_text(Point(x - NAME_LEFT, 18), names.name, "lane-name"),
-        draw_text(Point(x - NAME_LEFT, 34), names.below, "lane-node"),
+        draw_text(layout, Point(x - NAME_LEFT, 18), Label(names.name, "lane-name", lane=lane)),
+        draw_text(layout, Point(x - NAME_LEFT, 34), Label(names.below, "lane-node", lane=lane)),
         f'<line class="lane" {line}/>',
     ]
     for gap in layout.gaps:
         if gap.lane == lane:
             at = Point(x + LABEL_RIGHT, layout.rows[gap.row] + 32)
-            parts.append(draw_text(at, gap.label, "gap"))
+            parts.append(draw_text(layout, at, Label(gap.label, "gap", lane=lane)))
     return "\n".join(parts)
 
 
@@ -161,7 +177,8 @@ def draw_bar(layout: Layout, bar: Bar) -> str:
     for lane, mark in sorted(bar.marks.items(), key=lambda it: it[0]):
         x = layout.lanes[lane]
         parts.append(f'<circle class="met" cx="{x:.1f}" cy="{y:.1f}" r="5"/>')
-        parts.append(draw_text(Point(x + MARK_RIGHT, y - 8), mark.label, "call", mark.line))
+        at = Point(x + MARK_RIGHT, y - 8)
+        parts.append(draw_text(layout, at, Label(mark.label, "call", mark.line, lane, bar.row)))
     return "\n".join(parts)
 
 
@@ -216,7 +233,8 @@ def draw_item(layout: Layout, item: Item) -> str:
         radius = 6 if style is Style.RACING else 4
         middle = f'cx="{at.x:.1f}" cy="{at.y:.1f}"'
         mark = f'<circle class="dot {style.value}" {middle} r="{radius}"/>'
-    return mark + draw_text(label_at, item.label, f"call {style.value}", item.line)
+    label = Label(item.label, f"call {style.value}", item.line, item.lane, item.row)
+    return mark + draw_text(layout, label_at, label)
 
 
 def choose_side(layout: Layout, item: Item) -> int:
@@ -231,11 +249,23 @@ def choose_side(layout: Layout, item: Item) -> int:
     return -8 if leads_down else 16
 
 
-def draw_text(at: Point, text: str, kind: str, line: Optional[int] = None) -> str:
-    """A text of one line. Where it is long it is cut, and has its whole as a title."""
-    shown = escape(cut(text, LABEL_WIDTH))
-    markup = f'<text class="{kind}" x="{at.x:.1f}" y="{at.y:.1f}">{shown}</text>'
-    return link_to_line(markup, line, text if len(text) > LABEL_WIDTH else None)
+def draw_text(layout: Layout, at: Point, label: Label) -> str:
+    """A text of one line. Where there is no room for it it is cut, and has its whole as a title."""
+    text, width = label.text, find_room(layout, at, label)
+    shown = escape(cut(text, width))
+    markup = f'<text class="{label.kind}" x="{at.x:.1f}" y="{at.y:.1f}">{shown}</text>'
+    return link_to_line(markup, label.line, text if len(text) > width else None)
+
+
+def find_room(layout: Layout, at: Point, label: Label) -> int:
+    """How many characters a label has: up to what stands next in its row, or to the edge."""
+    diagram, beside = layout.diagram, set(range(len(layout.lanes)))
+    if label.row is not None:
+        items = {it.lane for it in diagram.items if it.row == label.row}
+        beside = items.union(*(bar.marks for bar in diagram.bars if bar.row == label.row))
+    right = [layout.lanes[it] for it in beside if it > label.lane]
+    edge = min(right) - MARGIN if right else layout.width - NAME_LEFT
+    return max(LABEL_WIDTH, int((edge - at.x) / CHARACTER))
 
 
 # --- the legend ---

@@ -2,11 +2,28 @@
 from collections.abc import Sequence
 
 from wire_up_tools.report.findings import Finding, Kind
+from wire_up_tools.report.language import name_verb
 from wire_up_tools.report.uses import Uses
 
 LOOKUPS = ("lookup", "lookup-wait")
 # How many keys or names a title has.
 SHOWN = 3
+
+# The words of a plan that was written by hand, and those of a program that was recorded.
+BY_HAND = {
+    "get_now": "get-now",
+    "lookup": "lookup",
+    "lookup_wait": "lookup-wait",
+    "use_get": "Use get in place of get-now",
+    "use_wait": "wait for it, by lookup-wait in place of lookup",
+}
+IN_PROGRAM = {
+    "get_now": "PMIx_Get with PMIX_IMMEDIATE or PMIX_OPTIONAL",
+    "lookup": "PMIx_Lookup",
+    "lookup_wait": "PMIx_Lookup with PMIX_WAIT",
+    "use_get": "Leave out PMIX_IMMEDIATE and PMIX_OPTIONAL",
+    "use_wait": "wait for it with PMIX_WAIT",
+}
 
 MEANING_OF_REWRITE = (
     "When a rank puts a key again, its next commit replaces the old value. "
@@ -15,18 +32,18 @@ MEANING_OF_REWRITE = (
 # What a race on a key means, by the verb of the call that brings the key.
 MEANING_OF_KEY = {
     "fence": (
-        "get-now doesn't wait. The key comes to the node of the reader by this fence, "
+        "{get_now} doesn't wait. The key comes to the node of the reader by this fence, "
         "and nothing makes the get wait for it. "
         "If the fence is over, the get finds the value; if not, it replies PMIX_ERR_NOT_FOUND."
     ),
     "get": (
-        "get-now doesn't wait. The plan keeps what gets bring, so the key comes to the node of the "
-        "reader by this get of another rank there, and nothing makes the get-now wait for it. "
-        "If the get comes first, the get-now finds the value; "
+        "{get_now} doesn't wait. The plan keeps what gets bring, so the key comes to the node of "
+        "the reader by this get of another rank there, and nothing makes the reader wait for it. "
+        "If the get comes first, the reader finds the value; "
         "if not, it replies PMIX_ERR_NOT_FOUND."
     ),
     "commit": (
-        "get-now doesn't wait: it sees what the owner of the key has committed so far, "
+        "{get_now} doesn't wait: it sees what the owner of the key has committed so far, "
         "and nothing makes it wait for the commit. "
         "If the commit comes first, the get finds the value; if not, it replies PMIX_ERR_NOT_FOUND."
     ),
@@ -40,12 +57,12 @@ MEANING_OF_TWO_PUBLISHES = (
     "Which of the two is first depends on timing, and so does the value that others find."
 )
 MEANING_OF_LOOKUP = (
-    "lookup doesn't wait, and nothing makes it wait for the publish. "
+    "{lookup} doesn't wait, and nothing makes it wait for the publish. "
     "If the publish comes first, it finds the value; if not, it replies PMIX_ERR_NOT_FOUND."
 )
 MEANING_OF_LOOKUP_WAIT = (
     "The name is published more than once or taken away again, "
-    "so lookup-wait may find one value or another, or wait for ever."
+    "so {lookup_wait} may find one value or another, or wait for ever."
 )
 
 FIX_OF_REWRITE = "Use a key of its own for each value."
@@ -56,18 +73,17 @@ FIX_OF_KEY = {
         "make its rank a member, and let it ask after the fence."
     ),
     "get": (
-        "Use get in place of get-now; or let both ranks of the node meet in a fence after the get, "
+        "{use_get}; or let both ranks of the node meet in a fence after the get, "
         "and let the reader ask after it."
     ),
     "commit": (
-        "Let the reader wait for something that can't come before the commit: "
-        "use get in place of get-now; or a fence of both ranks; "
-        "or first a get of another key of the same commit."
+        "Let the reader wait for something that can't come before the commit. {use_get}; "
+        "or put a fence of both ranks between them; "
+        "or get another key of the same commit first."
     ),
 }
 FIX_BY_WAITING = (
-    "Wait for the name: use lookup-wait in place of lookup. "
-    "It is published once and never taken away, so this orders the two calls."
+    "The name is published once and never taken away: {use_wait}. This orders the two calls."
 )
 FIX_BY_FENCE = (
     "Put a fence between the two calls, of both ranks: "
@@ -79,18 +95,22 @@ def title(finding: Finding, abouts: Sequence[str] = ()) -> str:
     """What findings of one cause are, in one line, by the first, and by all keys or names if they
     have several."""
     (one, other), what = finding.verbs, say_what(finding, abouts)
+    recorded = finding.first.rank.is_recorded
+    said, said_too = name_verb(one, recorded), name_verb(other, recorded)
     has_many = len(abouts) > 1
     if finding.kind is Kind.REWRITE:
         return f"{what[0].upper()}{what[1:]} {'are' if has_many else 'is'} put again"
     if finding.kind is Kind.KEY:
-        brings = f"the {finding.bringer} that brings {'them' if has_many else 'it'}"
-        return f"A get-now of {what} can come before {brings}"
+        bringer, get = (name_verb(it, recorded) for it in (finding.bringer, "get-now"))
+        brings = f"the {bringer} that brings {'them' if has_many else 'it'}"
+        return f"A {get} of {what} can come before {brings}"
     if one in LOOKUPS and other == "publish":
         article = "the" if one == "lookup" else "a"
-        return f"A {one} of {what} can come before {article} publish"
+        return f"A {said} of {what} can come before {article} {said_too}"
     if one == other:
-        return f"Two {one}es of {what} can come in either order"
-    return f"A {one} and an {other} of {what} can come in either order"
+        return f"Two calls of {said}, of {what}, can come in either order"
+    article = "a" if recorded else "an"
+    return f"A {said} and {article} {said_too} of {what} can come in either order"
 
 
 def say_what(finding: Finding, abouts: Sequence[str]) -> str:
@@ -103,6 +123,16 @@ def say_what(finding: Finding, abouts: Sequence[str]) -> str:
 
 
 def explain(finding: Finding) -> str:
+    """What a finding means."""
+    return say(choose_meaning(finding), finding)
+
+
+def say(text: str, finding: Finding) -> str:
+    """A text in the words of the plan that has a finding."""
+    return text.format(**(IN_PROGRAM if finding.first.rank.is_recorded else BY_HAND))
+
+
+def choose_meaning(finding: Finding) -> str:
     """What a kind of finding means."""
     if finding.kind is Kind.REWRITE:
         return MEANING_OF_REWRITE
@@ -116,6 +146,11 @@ def explain(finding: Finding) -> str:
 
 
 def fix(finding: Finding, uses: Uses) -> str:
+    """How a finding is mended."""
+    return say(choose_fix(finding, uses), finding)
+
+
+def choose_fix(finding: Finding, uses: Uses) -> str:
     """How a kind of finding is mended."""
     if finding.kind is Kind.REWRITE:
         return FIX_OF_REWRITE

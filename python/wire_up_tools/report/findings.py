@@ -1,26 +1,38 @@
 """What the checker finds in a plan: its findings in groups, of which each is one mistake.
 
-They are taken from `wire_up check --lines --json`. That has of each group its first finding and
-how many there are: the others of a group are the findings of the same mistake.
+They are taken from `wire_up check --lines`, and unless there are too many from its JSON. That has
+of each group its first finding and how many there are: the others of a group are the findings of
+the same mistake.
 """
 import collections
 import contextlib
+import dataclasses
 import enum
 import itertools
 import json
+import re
 from collections.abc import Iterable, Sequence
 from dataclasses import dataclass, field
 from typing import Any, Optional
 
 from wire_up_tools.plan import Call, Plan
-from wire_up_tools.report.asking import Asker, stream_check
+from wire_up_tools.report.asking import Asker, stream_lines
 
 # How many pairs of a group are listed besides its first.
 PAIRS = 40
-# How many findings are counted. The JSON is read of no more than the second number: the checker
-# makes all of it in memory, some 400 bytes for each finding.
-COUNTED, READ_AS_JSON = 3_000_000, 200_000
-BEGINNINGS = ("race ", "rewrite ", "findings ")
+# The JSON is read of no more findings than this. Of more, the groups are read as lines, and pairs
+# are taken from the first findings.
+READ_AS_JSON, PAIRED = 20_000, 20_000
+# How many groups are read.
+MOST_GROUPS = 20_000
+# The two lines of a group, and the last line.
+CALL = r"(?P<rank>\S+) (?P<call>\d+) \S+"
+COUNTED = re.compile(
+    r".*:\d+: (?P<count>\d+) (?:races? on (?P<kind>key|name)|rewrites? of key) (?P<about>\S+): "
+    + CALL
+)
+NOTE = re.compile(rf".*:\d+: note: {CALL}")
+LAST = re.compile(r"findings (\d+)(?: in \d+ groups?)?")
 
 
 class Kind(enum.Enum):
@@ -71,13 +83,13 @@ class Group:
     """Findings that are one mistake.
 
     The first of them stands for all, and `others` are the next. `count` is the number of all, and
-    `rank_count` that of the ranks that make their calls.
+    `rank_count` that of the ranks that make their calls, if it is known.
     """
 
     first: Finding
     others: Sequence[Finding]
     count: int
-    rank_count: int
+    rank_count: Optional[int]
 
 
 @dataclass
@@ -102,13 +114,20 @@ class Tally:
 
 
 def find_groups(asker: Asker, plan: Plan) -> list[Group]:
-    """The findings of a plan in their groups, the largest first, by the JSON of the checker.
+    """The findings of a plan in their groups, the largest first.
 
-    Raises Refused if the checker ends with a fault, or doesn't write findings.
+    Raises Refused if the checker refuses the plan, ends with a fault, or doesn't write findings.
     """
-    answer = asker.ask("check", "--lines", "--json")
-    asker.judge(answer.status, answer.stderr)
+    with contextlib.closing(stream_lines(asker, "check", "--lines")) as lines:
+        said = list(itertools.islice(lines, 2 * MOST_GROUPS))
     try:
+        groups, total = read_counted(plan, said)
+        if not total:
+            return []
+        if total > READ_AS_JSON or len(groups) >= MOST_GROUPS:
+            return add_pairs(asker, plan, groups)
+        answer = asker.ask("check", "--lines", "--json")
+        asker.judge(answer.status, answer.stderr)
         return read_groups(plan, json.loads(answer.stdout))
     except (ValueError, LookupError, TypeError):
         raise asker.refuse("finding") from None
@@ -150,25 +169,43 @@ def tally_up(findings: Iterable[Finding]) -> dict[str, Tally]:
 # --- a plan with so many findings that the JSON isn't asked for ---
 
 
-def has_many(asker: Asker) -> bool:
-    """Whether the checker finds more than the JSON is read of.
+def read_counted(plan: Plan, said: Sequence[str]) -> tuple[list[Group], int]:
+    """The groups that the checker wrote in lines, two for each, and how many findings there are.
 
-    Raises Refused if it refuses the plan, or doesn't write findings.
+    Raises ValueError or LookupError for what has another form.
     """
-    with contextlib.closing(stream_check(asker)) as lines:
-        if not next(lines, "").startswith(BEGINNINGS):
-            raise asker.refuse("finding")
-        return any(True for _ in itertools.islice(lines, READ_AS_JSON, None))
+    groups = [read_counted_group(plan, *it) for it in zip(said[::2], said[1::2])]
+    if len(groups) >= MOST_GROUPS:
+        return groups, sum(it.count for it in groups)
+    return groups, int(read_form(LAST, said[-1] if said else "")[1])
 
 
-def group_lines(asker: Asker, plan: Plan) -> list[Group]:
-    """The first COUNTED findings in their groups, by the lines that `check` writes."""
-    with contextlib.closing(stream_check(asker)) as lines:
-        counted = itertools.islice(lines, COUNTED)
-        findings = (read_line(plan, it) for it in counted if not it.startswith("findings "))
-        tallies = tally_up(findings)
-    groups = [tally.close(tally.count) for tally in tallies.values()]
-    return sorted(groups, key=lambda group: -group.count)
+def read_counted_group(plan: Plan, one: str, other: str) -> Group:
+    """A group by its two lines."""
+    found, note = read_form(COUNTED, one), read_form(NOTE, other)
+    first, second = (plan.find_call(it["rank"], int(it["call"])) for it in (found, note))
+    kind = KINDS[found["kind"]] if found["kind"] else Kind.REWRITE
+    owner = first.rank.name if kind is Kind.REWRITE else None
+    if kind is Kind.KEY:
+        owner = next(it.target for it in (first, second) if it.verb == "get-now")
+    finding = Finding(kind, found["about"], owner, first, second)
+    return Group(finding, (), int(found["count"]), None)
+
+
+def read_form(form: "re.Pattern[str]", line: str) -> "re.Match[str]":
+    """A line of this form. Raises ValueError for any other."""
+    found = form.fullmatch(line)
+    if not found:
+        raise ValueError(line)
+    return found
+
+
+def add_pairs(asker: Asker, plan: Plan, groups: Sequence[Group]) -> list[Group]:
+    """The groups with those of their pairs that are among the first findings."""
+    with contextlib.closing(stream_lines(asker, "check")) as lines:
+        first = [it for it in itertools.islice(lines, PAIRED) if not it.startswith("findings ")]
+    tallies = tally_up(read_line(plan, it) for it in first)
+    return [dataclasses.replace(it, others=tallies[it.first.mistake].shown[1:]) for it in groups]
 
 
 def read_line(plan: Plan, line: str) -> Finding:

@@ -13,9 +13,12 @@ from wire_up_tools.report.causes import Cause
 from wire_up_tools.report.contents import ENDINGS, Detail, Report, WireUp
 from wire_up_tools.report.drawing import draw_figure
 from wire_up_tools.report.findings import PAIRS, Finding, Group, Kind
+from wire_up_tools.report.language import name_kind
 from wire_up_tools.report.markup import escape, escape_lines
+from wire_up_tools.report.messages import explain_late, find_late, say_place
 from wire_up_tools.report.page_style import STYLE
 from wire_up_tools.report.phrases import VALUE_WIDTH, count_of, cut, describe_circle, pick
+from wire_up_tools.report.placements import Placed
 from wire_up_tools.report.runs import Outcome, Run, Runs
 
 # How many more causes are told in a line each, and how many steps of an order are shown.
@@ -43,10 +46,12 @@ LISTS_ALL = "<code>wire_up check</code> lists all."
 def write_page(report: Report) -> str:
     """The whole page."""
     title = escape(f"{report.name}: {verdict.say_found(report)}")
+    elsewhere = report.elsewhere
     parts = [write_header(report)]
     parts += [write_detail(report, number, it) for number, it in enumerate(report.details, 1)]
     parts += [write_others(report)] if report.others else []
     parts += [write_wire_up(report.wire_up)] if report.wire_up else []
+    parts += [write_placed(report, it) for it in (elsewhere.placed if elsewhere else ())]
     parts.append(write_plan(report))
     return HEAD.format(title=title, style=STYLE) + "\n".join(parts) + FOOT
 
@@ -70,6 +75,7 @@ def write_header(report: Report) -> str:
     ]
     if report.verdicts:
         parts.append(f"<p>The recorder's verdicts: {escape(report.verdicts)}.</p>")
+    parts += [f'<p class="part">{escape(it)}</p>' for it in verdict.say_placements(report)]
     parts += [write_recording(report)] if report.plan.is_recorded else []
     parts += [write_contents(report)] if len(report.causes) > 1 else []
     return "\n".join([*parts, "</header>"])
@@ -82,6 +88,8 @@ def choose_badge(report: Report) -> tuple[str, str]:
         return "found", "races found" if has_race else "keys put again"
     if report.reasons:
         return "partly", "in part"
+    if report.elsewhere and (report.elsewhere.causes or report.elsewhere.fault):
+        return "partly", "as placed here"
     if report.waits:
         return "waits", "ranks wait for ever"
     return ("fails", "calls fail") if report.failed else ("quiet", "no race")
@@ -123,18 +131,43 @@ def write_detail(report: Report, number: int, detail: Detail) -> str:
     cause, one = detail.cause, detail.cause.first
     title = f"{number}. {write_title(cause)} {write_count(verdict.say_count(cause))}"
     fix = escape(explaining.fix(one, report.order.uses))
-    calls = " and ".join(f"{it.name} {it.verb}" for it in one.calls)
+    calls = " and ".join(f"{it.name} {name_kind(it)}" for it in one.calls)
     figure = draw_figure(detail.diagram, f"Diagram: {calls}")
     parts = [
         f'<section id="cause-{number}" class="found"><h2>{title}</h2>',
         write_calls(report, one.calls),
         f"<p>{escape(explaining.explain(one))}</p>",
+        *write_late(report, one),
         f'<p class="fix"><strong>Fix:</strong> {fix}</p>',
         f'<div class="both">{figure}{write_runs(report, one, detail.runs)}</div>',
     ]
     parts += [write_pairs(cause.group)] if cause.group.count > 1 else []
     parts += [write_alike(cause)] if len(cause.groups) > 1 else []
     return "\n".join([*parts, "</section>"])
+
+
+def write_placed(report: Report, placed: Placed) -> str:
+    """A cause that is found on another placement only, with its diagram there."""
+    cause, one = placed.cause, placed.cause.first
+    count = write_count(verdict.say_count(cause))
+    where, fix = escape(verdict.say_ranks(placed)), escape(explaining.fix(one, report.order.uses))
+    figure = draw_figure(placed.diagram, f"Diagram: {verdict.say_ranks(placed)}")
+    command = escape(f"wire_up place {','.join(placed.ranks)} {report.name}")
+    parts = [
+        f'<section class="found"><h2>{where}: {write_title(cause)} {count}</h2>',
+        write_calls(report, one.calls),
+        f"<p>{escape(explaining.explain(one))}</p>",
+        f'<p class="fix"><strong>Fix:</strong> {fix}</p>',
+        f'<div class="both">{figure}{write_runs(report, one, placed.runs)}</div>',
+        f"<p>This placement as a plan: <code>{command}</code></p></section>",
+    ]
+    return "\n".join(parts)
+
+
+def write_late(report: Report, finding: Finding) -> list[str]:
+    """The message that would order the calls of a finding, if there is one."""
+    late = find_late(report.plan, finding) if finding.kind is not Kind.REWRITE else None
+    return [f"<p>{escape(explain_late(late))}</p>"] if late else []
 
 
 def write_calls(report: Report, calls: Sequence[Call]) -> str:
@@ -144,9 +177,11 @@ def write_calls(report: Report, calls: Sequence[Call]) -> str:
     head += "<th>in the program</th></tr>" if has_places else "</tr>"
     rows = []
     for call in calls:
-        place = f"<td>{escape(call.place or words.UNKNOWN_PLACE)}</td>" if has_places else ""
+        said = escape(say_place(report.plan, call) or words.UNKNOWN_PLACE)
+        place = f"<td>{said}</td>" if has_places else ""
         link = link_to_call(call, f"{report.name}:{call.line}")
-        rows.append(f"<tr><td>{escape(f'{call.name} {call.verb}')}</td><td>{link}</td>{place}</tr>")
+        named = escape(f"{call.name} {name_kind(call)}")
+        rows.append(f"<tr><td>{named}</td><td>{link}</td>{place}</tr>")
     return f'<div class="wide" tabindex="0"><table>{head}{"".join(rows)}</table></div>'
 
 
@@ -158,7 +193,7 @@ def link_to_call(call: Call, said: str) -> str:
 def link_with_place(call: Call) -> str:
     """A call as a link to its line, with its place in the program."""
     place = f" ({escape(call.place)})" if call.place else ""
-    return link_to_call(call, f"{call.name} {call.verb}") + place
+    return link_to_call(call, f"{call.name} {name_kind(call)}") + place
 
 
 def write_runs(report: Report, finding: Finding, runs: Runs) -> str:
@@ -178,7 +213,7 @@ def write_runs(report: Report, finding: Finding, runs: Runs) -> str:
 def write_ends(run: Run) -> list[str]:
     """How the calls end that end otherwise in the other run."""
     call = run.starts_with
-    title = f"If the {escape(call.verb)} ({escape(call.name)}) comes first"
+    title = f"If the {escape(name_kind(call))} ({escape(call.name)}) comes first"
     ends = [
         f"<dd class=mono>{escape(it.call)} {escape(it.verb)}: {write_end(it.said)}</dd>"
         for it in run.ends[:ENDINGS]
@@ -210,8 +245,8 @@ def write_pairs(group: Group) -> str:
     pairs = [" and ".join(map(link_with_place, it.calls)) for it in group.others]
     rest = group.count - 1 - len(pairs)
     more = f"<p>{rest:,} more: {LISTS_ALL}</p>" if rest else ""
-    ranks = count_of(group.rank_count, "rank")
-    title = f"{count_of(group.count - 1, 'other pair')}, {ranks} in all"
+    ranks = f", {count_of(group.rank_count, 'rank')} in all" if group.rank_count else ""
+    title = f"{count_of(group.count - 1, 'other pair')}{ranks}"
     rows = "".join(f"<li>{it}</li>" for it in pairs)
     return f'<details><summary>{title}</summary><ul class="mono">{rows}</ul>{more}</details>'
 
@@ -313,6 +348,9 @@ def find_named(report: Report) -> set[int]:
         group, alike = detail.cause.group, detail.cause.groups[: PAIRS + 1]
         findings = (*(it.first for it in alike), *group.others)
         calls += (call for it in findings for call in it.calls)
+    for placed in report.elsewhere.placed if report.elsewhere else ():
+        calls += placed.cause.first.calls
+        found |= placed.diagram.lines
     calls += (call for it in report.others[:MORE_CAUSES] for call in it.first.calls)
     return found.union(it.line for it in calls)
 

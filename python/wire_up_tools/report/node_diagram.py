@@ -6,7 +6,7 @@ import bisect
 import collections
 from collections.abc import Sequence
 
-from wire_up_tools.plan import Meeting
+from wire_up_tools.plan import Call, Entry, Meeting, Run
 from wire_up_tools.report.diagram import (
     LANES,
     Bar,
@@ -19,6 +19,7 @@ from wire_up_tools.report.diagram import (
     row_of_meeting,
     say_not_drawn,
 )
+from wire_up_tools.report.language import name_kind
 from wire_up_tools.report.orders import Order
 from wire_up_tools.report.phrases import count_of
 
@@ -52,15 +53,24 @@ def make_items(order: Order, lanes: dict[str, int], fences: Sequence[Row]) -> li
     """How many calls of each verb the ranks of each lane make, by the last fence above them."""
     depths = [row.depth for row in fences]
     verbs: dict[tuple[int, int], collections.Counter[str]] = {}
-    for call in order.plan.calls:
-        if call.verb != "fence" and call.rank.node in lanes:
-            above = bisect.bisect_right(depths, order.depth_of(call))
-            at = (lanes[call.rank.node], above)
-            verbs.setdefault(at, collections.Counter())[call.verb] += 1
+    entries = (it for rank in order.plan.ranks for it in order.plan.list_outline(rank))
+    for entry in entries:
+        if entry.verb != "fence" and entry.rank.node in lanes:
+            first, count = find_first(entry)
+            above = bisect.bisect_right(depths, order.depth_of(first))
+            at = (lanes[entry.rank.node], above)
+            verbs.setdefault(at, collections.Counter())[name_kind(first)] += count
     return [
         Item(lane, Row(depths[above - 1], Part.BETWEEN) if above else TOP, list_verbs(count))
         for (lane, above), count in verbs.items()
     ]
+
+
+def find_first(entry: Entry) -> tuple[Call, int]:
+    """The first call of an entry, and how many it has."""
+    if isinstance(entry, Run):
+        return entry.find_call(entry.first), entry.count
+    return entry, 1
 
 
 def list_verbs(count: "collections.Counter[str]") -> str:
@@ -71,6 +81,6 @@ def list_verbs(count: "collections.Counter[str]") -> str:
 def make_bar(order: Order, lanes: dict[str, int], meeting: Meeting) -> Bar:
     """The bar of a fence, which says of each lane how many calls meet there."""
     count = collections.Counter(it.rank.node for it in meeting.calls if it.rank.node in lanes)
-    verb = "fence collect" if all(it.collects for it in meeting.calls) else "fence"
+    verb = name_kind(meeting.calls[0]) + " collect" * all(it.collects for it in meeting.calls)
     marks = {lanes[node]: Mark(f"{many} {verb}") for node, many in count.items()}
     return Bar(row_of_meeting(order, meeting), marks)

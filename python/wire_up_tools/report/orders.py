@@ -2,180 +2,277 @@
 
 A call is one event, and a fence is two: to arrive and to leave. What all that leave a fence wait
 for is one event more. The depth of an event is the length of the longest chain that leads to it.
+
+Only the *stops* of a rank are kept, which are the calls at which it waits for others: what stands
+between two of them comes one after another. So a plan may have millions of calls.
 """
-from collections.abc import Mapping, Sequence
+import bisect
+import collections
+from collections.abc import Iterable, Mapping, Sequence
 from dataclasses import dataclass, field
 from typing import Optional
 
-from wire_up_tools.plan import Call, Meeting, Plan, Rank
+from wire_up_tools.plan import Call, Entry, Meeting, Plan, Rank, last_of
 from wire_up_tools.report.uses import Uses, find_uses
 
 
-@dataclass(frozen=True, eq=False)
-class Events:
-    """The events of a plan, numbered from 0: first those of the calls, then a fence's meeting.
+@dataclass(frozen=True)
+class Stop:
+    """A call at which a rank waits, by its number: for a call of another rank, or in a fence."""
 
-    `of_calls` is the first event of each call and `first_meeting` the event of the first meeting.
-    `sources` are the events for which each waits, and `before` the one before it in its rank.
-    """
+    number: int
+    awaited: Optional[Call]
+    meeting: Optional[Meeting]
 
-    of_calls: Sequence[int]
-    first_meeting: int
-    sources: Sequence[Sequence[int]]
-    before: Mapping[int, Optional[int]]
+
+@dataclass(frozen=True)
+class Reach:
+    """How far a rank has come: up to a call, and whether it has left it, if that is a fence."""
+
+    number: int
+    has_left: bool
+
+    def passes(self, other: "Reach") -> bool:
+        """Whether it is further than another."""
+        return (self.number, self.has_left) > (other.number, other.has_left)
+
+
+START = Reach(0, True)
 
 
 @dataclass(frozen=True, eq=False)
 class Order:
-    """What waits for what in a plan, and the depth of each event."""
+    """What waits for what in a plan: the stops of each rank with the depths of their last events,
+    and the depth of each fence by its number."""
 
     plan: Plan
     uses: Uses
-    events: Events
-    depths: Sequence[int]
+    stops: Mapping[Rank, Sequence[Stop]]
+    depths: Mapping[Rank, Sequence[int]]
+    meeting_depths: Sequence[int]
 
     def depth_of(self, call: Call) -> int:
         """How deep a call stands; a fence by the arrival at it."""
-        return self.depths[self.event_of(call)]
+        stops = self.stops[call.rank]
+        at = bisect.bisect_left(stops, call.number, key=lambda it: it.number)
+        if at < len(stops) and stops[at].number == call.number and not stops[at].meeting:
+            return self.depths[call.rank][at]
+        number, depth = (stops[at - 1].number, self.depths[call.rank][at - 1]) if at else (0, -1)
+        return depth + call.number - number
 
     def depth_of_meeting(self, meeting: Meeting) -> int:
         """How deep a fence stands: below all arrivals at it."""
-        return self.depths[self.events.first_meeting + meeting.number]
+        return self.meeting_depths[meeting.number]
 
-    def event_of(self, call: Call) -> int:
-        """The first event of a call."""
-        return self.events.of_calls[call.index]
+    def is_before(self, one: Call, other: Call) -> bool:
+        """Whether a chain leads from one call to another; from and to a fence by the arrival."""
+        reached = self.find_earlier(other).get(one.rank, START)
+        return one is not other and reached.number >= one.number
 
-    def find_earlier(self, event: int) -> set[int]:
-        """All events from which a chain leads to this one."""
-        found: set[int] = set()
-        ends = [event]
-        while ends:
-            fresh = [it for it in self.events.sources[ends.pop()] if it not in found]
-            found.update(fresh)
-            ends += fresh
-        return found
+    def find_earlier(self, call: Call) -> dict[Rank, Reach]:
+        """How far each rank has surely come when a call comes."""
+        return Backwards(self).find(call)
 
     def find_nearest(self, rank: Rank, call: Call) -> Optional[Call]:
         """The last call of a rank from which a chain leads to a call."""
-        earlier = self.find_earlier(self.event_of(call))
-        calls = reversed(self.plan.calls_of[rank.name])
-        return next((it for it in calls if self.event_of(it) in earlier), None)
+        reached = self.find_earlier(call).get(rank, START)
+        number = reached.number - (call.rank is rank)
+        return self.plan.find_call(rank.name, number) if number > 0 else None
+
+
+class Backwards:
+    """Goes back from a call to all that is before it."""
+
+    def __init__(self, order: Order) -> None:
+        self.order = order
+        self.reached: dict[Rank, Reach] = {}
+        # What of each rank is still to be looked at: from where, and to where.
+        self.waiting: list[tuple[Rank, Reach, Reach]] = []
+
+    def find(self, call: Call) -> dict[Rank, Reach]:
+        """How far each rank has surely come when a call comes."""
+        self.reach(call.rank, Reach(call.number, False))
+        while self.waiting:
+            self.look(*self.waiting.pop())
+        return self.reached
+
+    def reach(self, rank: Rank, reach: Reach) -> None:
+        """Notes that a rank has come so far."""
+        before = self.reached.get(rank, START)
+        if reach.passes(before):
+            self.reached[rank] = reach
+            self.waiting.append((rank, before, reach))
+
+    def look(self, rank: Rank, start: Reach, end: Reach) -> None:
+        """Looks for what a rank waited on its way from one call to another."""
+        stops = self.order.stops[rank]
+        at = bisect.bisect_left(stops, start.number, key=lambda it: it.number)
+        while at < len(stops) and stops[at].number <= end.number:
+            stop = stops[at]
+            has_left = stop.number < end.number or end.has_left
+            if stop.awaited:
+                self.reach(stop.awaited.rank, Reach(stop.awaited.number, True))
+            elif stop.meeting and has_left:
+                for it in stop.meeting.calls:
+                    self.reach(it.rank, Reach(it.number, False))
+            at += 1
 
 
 def find_order(plan: Plan) -> Order:
     """What waits for what in a plan."""
     uses = find_uses(plan)
-    events = find_events(plan, uses)
-    return Order(plan, uses, events, measure_depths(events))
+    stops = {rank: find_stops(plan, uses, rank) for rank in plan.ranks}
+    sweep = Sweep(plan, stops)
+    sweep.go()
+    return Order(plan, uses, stops, sweep.depths, sweep.meeting_depths)
 
 
-def find_events(plan: Plan, uses: Uses) -> Events:
-    """The events of a plan with their sources."""
-    of_calls, count = [], 0
-    for call in plan.calls:
-        of_calls.append(count)
-        count += 2 if call.verb == "fence" else 1
-    sources: list[list[int]] = [[] for _ in range(count + len(plan.meetings))]
-    draft = EventsDraft(plan, uses, of_calls, count, sources)
-    for rank in plan.ranks:
-        draft.add_rank(rank)
-    return draft.close()
+# --- where ranks wait ---
 
 
-@dataclass
-class EventsDraft:
-    """The events of a plan, whose sources are added rank by rank."""
-
-    plan: Plan
-    uses: Uses
-    of_calls: Sequence[int]
-    first_meeting: int
-    sources: list[list[int]]
-    before: dict[int, Optional[int]] = field(default_factory=dict)
-
-    def add_rank(self, rank: Rank) -> None:
-        """Adds the sources of the events of a rank."""
-        last = None
-        for call in self.plan.calls_of[rank.name]:
-            last = self.add_call(call, last)
-
-    def add_call(self, call: Call, last: Optional[int]) -> int:
-        """Adds the sources of a call, after the last event of its rank. Answers its last event."""
-        event, awaited = self.of_calls[call.index], self.uses.find_awaited(call)
-        self.before[event] = last
-        self.sources[event] += [] if last is None else [last]
-        self.sources[event] += [self.of_calls[awaited.index]] if awaited else []
-        meeting = self.plan.meeting_of.get(call)
-        return self.add_fence(event, meeting) if meeting else event
-
-    def add_fence(self, arrival: int, meeting: Meeting) -> int:
-        """Adds the sources of a fence after the arrival at it. Answers the event of leaving."""
-        leaving, all_arrived = arrival + 1, self.first_meeting + meeting.number
-        self.sources[all_arrived].append(arrival)
-        self.before[leaving] = arrival
-        self.sources[leaving] += [arrival, all_arrived]
-        return leaving
-
-    def close(self) -> Events:
-        """The events with all their sources."""
-        return Events(self.of_calls, self.first_meeting, self.sources, self.before)
+def find_stops(plan: Plan, uses: Uses, rank: Rank) -> list[Stop]:
+    """The stops of a rank: what it has waited for before isn't waited for again."""
+    found: list[Stop] = []
+    known = Known()
+    for entry in plan.list_outline(rank):
+        meeting = plan.meeting_of.get(entry) if isinstance(entry, Call) else None
+        if meeting:
+            found.append(Stop(last_of(entry), None, meeting))
+            known.meet(meeting)
+            continue
+        for number, awaited in list_awaited(uses, entry):
+            if known.reach(awaited):
+                found.append(Stop(number, awaited, None))
+    return found
 
 
-def measure_depths(events: Events) -> list[int]:
-    """The depth of each event. In a circle, what comes before an event in its rank counts alone."""
-    sweep = begin_sweep(events)
-    while sweep.ready or sweep.rest:
-        if not sweep.ready:
-            sweep.break_circle()
-        sweep.pass_event(sweep.ready.pop())
-    return sweep.depths
+def list_awaited(uses: Uses, entry: Entry) -> Iterable[tuple[int, Call]]:
+    """The calls of others for which the calls of an entry wait, with the numbers of these."""
+    if isinstance(entry, Call):
+        awaited = uses.find_awaited(entry)
+        return [(entry.number, awaited)] if awaited else []
+    if entry.verb != "get":
+        return []
+    found = (uses.find_bringer(target, entry.about) for target in entry.targets)
+    return [(number, it) for number, it in enumerate(found, entry.first) if it]
+
+
+class Known:
+    """How far a rank knows others to have come, by what it waited for."""
+
+    def __init__(self) -> None:
+        self.reached: dict[str, int] = {}
+        self.meetings: list[Meeting] = []
+
+    def meet(self, meeting: Meeting) -> None:
+        """Takes a fence that the rank has left."""
+        if meeting.is_whole:
+            self.meetings.append(meeting)
+
+    def find_arrival(self, name: str) -> int:
+        """The number of the call at which a rank came to the last fence that both have left."""
+        met = (it.numbers[name] for it in reversed(self.meetings) if name in it.numbers)
+        return next(met, 0)
+
+    def reach(self, call: Call) -> bool:
+        """Takes a call for which the rank waits. Answers whether it didn't know of it."""
+        name = call.rank.name
+        if max(self.find_arrival(name), self.reached.get(name, 0)) >= call.number:
+            return False
+        self.reached[name] = call.number
+        return True
+
+
+# --- depths ---
 
 
 @dataclass
 class Sweep:
-    """Goes through the events, each after its sources.
+    """Goes through the stops of all ranks, each after what it waits for.
 
-    `rest` are those that are still to come, of which `ready` wait for nothing any more. `waits`
-    says for how many each still waits, and `depths` are final for those that have come.
+    `depths` are those of the stops that have come, and `waiting` says which ranks wait for a rank
+    to go on.
     """
 
-    before: Mapping[int, Optional[int]]
-    followers: Sequence[Sequence[int]]
-    waits: list[int]
-    depths: list[int]
-    ready: list[int]
-    rest: set[int]
+    plan: Plan
+    stops: Mapping[Rank, Sequence[Stop]]
+    depths: dict[Rank, list[int]] = field(init=False)
+    meeting_depths: list[int] = field(init=False)
+    arrived: list[int] = field(init=False)
+    waiting: dict[Rank, list[Rank]] = field(init=False)
+    ready: "collections.deque[Rank]" = field(init=False)
+    is_there: set[tuple[Rank, int]] = field(default_factory=set)
 
-    def pass_event(self, event: int) -> None:
-        """Passes an event: what waits for it stands below it, and may be ready."""
-        self.rest.discard(event)
-        for it in self.followers[event]:
-            self.waits[it] -= 1
-            if it in self.rest:
-                self.depths[it] = max(self.depths[it], self.depths[event] + 1)
-                if not self.waits[it]:
-                    self.ready.append(it)
+    def __post_init__(self) -> None:
+        self.depths = {rank: [] for rank in self.plan.ranks}
+        self.meeting_depths = [0] * len(self.plan.meetings)
+        self.arrived = [0] * len(self.plan.meetings)
+        self.waiting = collections.defaultdict(list)
+        self.ready = collections.deque(self.plan.ranks)
 
-    def break_circle(self) -> None:
-        """Where all events wait for others, takes those that only wait for other ranks."""
-        heads = [it for it in self.rest if self.before.get(it) not in self.rest]
-        self.ready = heads or [min(self.rest)]
-        self.rest -= set(self.ready)
+    def go(self) -> None:
+        """Goes to the end. In a circle, what comes before a stop in its rank counts alone."""
+        while True:
+            while self.ready:
+                self.serve(self.ready.popleft())
+            stuck = [it for it in self.plan.ranks if len(self.depths[it]) < len(self.stops[it])]
+            if not stuck:
+                return
+            for rank in stuck:
+                self.take_alone(rank)
+            self.ready.extend(stuck)
 
+    def serve(self, rank: Rank) -> None:
+        """Passes the stops of a rank up to the first at which it must wait."""
+        stops, depths = self.stops[rank], self.depths[rank]
+        while len(depths) < len(stops):
+            depth = self.find_depth(rank, stops[len(depths)])
+            if depth is None:
+                return
+            self.take(rank, depth)
 
-def begin_sweep(events: Events) -> Sweep:
-    """Begins with the events that wait for nothing."""
-    waits = [len(it) for it in events.sources]
-    ready = [event for event, count in enumerate(waits) if not count]
-    depths, rest = [0] * len(waits), set(range(len(waits)))
-    return Sweep(events.before, find_followers(events), waits, depths, ready, rest)
+    def take(self, rank: Rank, depth: int) -> None:
+        """Passes the next stop of a rank."""
+        self.depths[rank].append(depth)
+        self.ready.extend(self.waiting.pop(rank, ()))
 
+    def take_alone(self, rank: Rank) -> None:
+        """Passes the next stop of a rank without what it waits for."""
+        stop = self.stops[rank][len(self.depths[rank])]
+        fence = 1 + self.meeting_depths[stop.meeting.number] if stop.meeting else 0
+        self.take(rank, max(self.come(rank, stop.number) + bool(stop.meeting), fence))
 
-def find_followers(events: Events) -> list[list[int]]:
-    """The events that wait for each event."""
-    followers: list[list[int]] = [[] for _ in events.sources]
-    for event, sources in enumerate(events.sources):
-        for it in sources:
-            followers[it].append(event)
-    return followers
+    def come(self, rank: Rank, number: int) -> int:
+        """The depth of a call after the last stop that was passed."""
+        depths = self.depths[rank]
+        last = self.stops[rank][len(depths) - 1].number if depths else 0
+        return (depths[-1] if depths else -1) + number - last
+
+    def find_depth(self, rank: Rank, stop: Stop) -> Optional[int]:
+        """The depth of the last event of a stop; None if what it waits for hasn't come."""
+        own = self.come(rank, stop.number)
+        if stop.meeting:
+            return self.find_leaving(rank, stop.meeting, own)
+        awaited = stop.awaited
+        assert awaited
+        other, stops = awaited.rank, self.stops[awaited.rank]
+        needed = bisect.bisect_left(stops, awaited.number, key=lambda it: it.number)
+        if len(self.depths[other]) < needed:
+            self.waiting[other].append(rank)
+            return None
+        last = stops[needed - 1].number if needed else 0
+        depth = self.depths[other][needed - 1] if needed else -1
+        return max(own, depth + awaited.number - last + 1)
+
+    def find_leaving(self, rank: Rank, meeting: Meeting, own: int) -> Optional[int]:
+        """The depth of leaving a fence; None if not all have come."""
+        number = meeting.number
+        if (rank, number) not in self.is_there:
+            self.is_there.add((rank, number))
+            self.arrived[number] += 1
+            self.meeting_depths[number] = max(self.meeting_depths[number], own + 1)
+            if self.arrived[number] == len(meeting.calls):
+                self.ready.extend(it.rank for it in meeting.calls if it.rank is not rank)
+        if self.arrived[number] < len(meeting.calls):
+            return None
+        return self.meeting_depths[number] + 1

@@ -45,6 +45,7 @@ linear-gradient(270deg,var(--soft),transparent) 100%/.7rem 100% no-repeat scroll
 figure{margin:.5rem 0}figcaption span{display:flex;gap:.5rem;margin:.1rem 0}svg{display:block}\
 .swatch{flex:none;margin-top:.3rem}
 figcaption .hint{display:none}@media (max-width:30rem){figcaption .hint{display:block}}
+.zoom{float:right}figure:has(.zoom :checked) .wide svg{zoom:1.6;max-width:none}
 .runs{border-left:3px solid var(--line);padding-left:.8rem}.runs dl{margin:0}\
 .runs dt{margin-top:.5rem;font-weight:600}.runs dd{margin:0}
 .fix{border-left:3px solid var(--quiet);padding-left:.8rem}\
@@ -70,6 +71,6 @@ circle.racing{fill:var(--loud)}rect.waiting{fill:var(--wait);stroke:var(--ink)}
 .race{stroke:var(--loud);stroke-width:3.5;stroke-dasharray:7 5}
 @media print{:root{--paper:#fff;--card:#fff;--ink:#000;--soft:#333;--line:#999;--loud:#000;\
 --loud-ink:#000;--quiet:#000;--wait:#fff;--good:#000}
-.wide{overflow:visible;background:none}svg{max-width:100%;height:auto}\
+.wide{overflow:visible;background:none}svg{max-width:100%;height:auto}.zoom{display:none}\
 section,header{break-inside:avoid}section.long{break-inside:auto}}
 """

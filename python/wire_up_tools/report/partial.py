@@ -55,14 +55,14 @@ def say_parted(plan: Plan) -> Optional[str]:
 
 def say_cut_off(plan: Plan) -> Optional[str]:
     """How many recordings were cut off."""
-    heads = (words.CUT_OFF, words.LEFT_OUT, words.WRITTEN_OTHERWISE)
-    listed = (it for head in heads for it in plan.list_in_head(head))
+    titles = (words.CUT_OFF, words.LEFT_OUT, words.WRITTEN_OTHERWISE)
+    listed = [it for title in titles for it in plan.list_in_head(title)]
     found = (CUT_OFF.fullmatch(it) for it in listed)
     count = max((int(it[1]) for it in found if it), default=0)
     if not count:
         return None
-    said = count_of(count, "recording is", "recordings are")
-    return f"{said} cut off: what came then isn't known"
+    said = count_of(count, "recording ends", "recordings end")
+    return f"the run was cut off, {said} early: what came then isn't known"
 
 
 def say_left_out(plan: Plan) -> Optional[str]:

@@ -1,9 +1,8 @@
 """The diagram of a finding: its two calls, and what stands near them."""
 import itertools
-from collections.abc import Mapping, Sequence
+from collections.abc import Iterator, Mapping, Sequence
 
-from wire_up_tools.plan import Call, Rank
-from wire_up_tools.report.asking import Asker
+from wire_up_tools.plan import Call, Plan, Rank, Run
 from wire_up_tools.report.chains import find_chain
 from wire_up_tools.report.diagram import (
     LANES,
@@ -20,19 +19,22 @@ from wire_up_tools.report.diagram import (
     say_not_drawn,
 )
 from wire_up_tools.report.findings import Finding, Kind
+from wire_up_tools.report.language import name_kind
+from wire_up_tools.report.messages import find_late
 from wire_up_tools.report.orders import Order
+from wire_up_tools.report.runs import Search
 
 # How many calls of a chain are shown, those next to its end.
 CHAIN = 6
 # How many calls before a call of the finding are shown, and how many after it.
 BEFORE, AFTER = 2, 1
-# How many gets are shown of a key that is put again.
-READERS = 2
+# How many gets are shown of a key that is put again, and how many publishes of a name.
+READERS, PUBLISHES = 2, 2
 
 
-def make_race_diagram(finding: Finding, asker: Asker, order: Order) -> Diagram:
+def make_race_diagram(finding: Finding, search: Search, order: Order) -> Diagram:
     """The diagram of a finding."""
-    calls = choose_fitting(list_calls(finding, asker, order))
+    calls = choose_fitting(list_calls(finding, search, order))
     ranks = sorted({it.rank for it in calls}, key=lambda rank: rank.index)
     lanes = {rank.name: lane for lane, rank in enumerate(ranks)}
     items = make_items(finding, order, calls, lanes)
@@ -49,16 +51,20 @@ def make_race_diagram(finding: Finding, asker: Asker, order: Order) -> Diagram:
     return leave_out_implied(diagram)
 
 
-def list_calls(finding: Finding, asker: Asker, order: Order) -> list[Call]:
+def list_calls(finding: Finding, search: Search, order: Order) -> list[Call]:
     """The calls to show, those first that matter most."""
     found = [*finding.calls]
     if finding.kind is Kind.REWRITE:
         found += list_around_rewrite(finding, order)
     elif finding.kind is Kind.KEY:
         found += list_around_key(finding, order)
+    else:
+        found += order.uses.publishes.get(finding.about, ())[:PUBLISHES]
+    late = find_late(order.plan, finding) if finding.kind is not Kind.REWRITE else None
+    found += late.calls if late else []
     if finding.kind is not Kind.REWRITE:
-        found += list_chain(asker, order, finding.first, finding.second)
-        found += list_chain(asker, order, finding.second, finding.first)
+        found += list_chain(search, order, finding.first, finding.second)
+        found += list_chain(search, order, finding.second, finding.first)
     for call in finding.calls:
         calls = order.plan.calls_of[call.rank.name]
         start, end = max(call.number - BEFORE - 1, 0), call.number + AFTER
@@ -70,31 +76,38 @@ def list_calls(finding: Finding, asker: Asker, order: Order) -> list[Call]:
 def list_around_rewrite(finding: Finding, order: Order) -> list[Call]:
     """The commits after two puts of one key, and the first gets of it."""
     commits = [order.uses.find_commit(it) for it in finding.calls]
-    gets = [
-        it
-        for it in order.plan.calls
-        if it.verb in ("get", "get-now")
-        and it.target == finding.owner
-        and it.about == finding.about
-    ]
-    return [*(it for it in commits if it), *gets[:READERS]]
+    gets = list_gets(order.plan, finding.owner or "", finding.about)
+    return [*(it for it in commits if it), *itertools.islice(gets, READERS)]
+
+
+def list_gets(plan: Plan, owner: str, key: str) -> Iterator[Call]:
+    """The gets of a key, in the order of the file."""
+    for rank in plan.ranks:
+        for entry in plan.list_outline(rank):
+            if entry.verb not in ("get", "get-now") or entry.about != key:
+                continue
+            calls = entry.list_calls() if isinstance(entry, Run) else [entry]
+            yield from (it for it in calls if it.target == owner)
 
 
 def list_around_key(finding: Finding, order: Order) -> list[Call]:
-    """The put of the key, and of a fence that brings it the call by a rank of the reader's node."""
+    """The put of the key with its commit, and of a fence that brings it the call by a rank of the
+    reader's node."""
     puts = order.uses.puts.get((finding.owner or "", finding.about), ())
     fence, reader = finding.calls
     if fence.verb != "fence":
         fence, reader = reader, fence
     meeting = order.plan.meeting_of.get(fence)
     calls = meeting.calls if meeting else ()
-    return [*puts[:1], *[it for it in calls if it.rank.node == reader.rank.node][:1]]
+    commits = [it for it in map(order.uses.find_commit, puts[:1]) if it]
+    near = [it for it in calls if it.rank.node == reader.rank.node]
+    return [*puts[:1], *commits, *near[:1]]
 
 
-def list_chain(asker: Asker, order: Order, first: Call, second: Call) -> Sequence[Call]:
+def list_chain(search: Search, order: Order, first: Call, second: Call) -> Sequence[Call]:
     """The chain, from its end, to a call from the last call of the other's rank before it."""
-    nearest = order.find_nearest(first.rank, second)
-    chain = find_chain(asker, order.plan, nearest, second) if nearest else ()
+    nearest = None if search.is_late else order.find_nearest(first.rank, second)
+    chain = find_chain(search.asker, order.plan, nearest, second) if nearest else ()
     return list(itertools.islice(reversed(chain), CHAIN))
 
 
@@ -118,7 +131,7 @@ def make_items(
         call: Item(
             lane=lanes[call.rank.name],
             row=row_of(order, call),
-            label=f"{call.number} fence: comes" if call.verb == "fence" else label_call(call),
+            label=label_item(call),
             line=call.line,
             style=Style.RACING if call in finding.calls else Style.PLAIN,
             verb=call.verb,
@@ -128,6 +141,12 @@ def make_items(
         for call in calls
         if call.verb != "fence" or call in finding.calls
     }
+
+
+def label_item(call: Call) -> str:
+    """What stands beside a call; a fence of the finding is drawn as the arrival at it."""
+    is_fence = call.verb == "fence"
+    return f"{call.number} {name_kind(call)}: comes" if is_fence else label_call(call)
 
 
 def make_arrows(order: Order, items: Mapping[Call, Item]) -> list[Link]:

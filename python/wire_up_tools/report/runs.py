@@ -6,12 +6,15 @@ from collections.abc import Mapping, Sequence
 from dataclasses import dataclass
 from typing import Any
 
+from wire_up_tools.limits import VERSION_2
 from wire_up_tools.plan import Call
 from wire_up_tools.report.asking import CLEAN, FOUND, Asker, name_pair, read_json
 from wire_up_tools.report.findings import Finding, Kind
+from wire_up_tools.report.language import name_verb
 
-# For how many seconds runs are looked for, for all findings together.
-SECONDS = 60
+# For how many seconds runs and chains are looked for, for all findings together. Of a large plan:
+# for how many times the time of a check.
+SECONDS, CHECKS = 60, 3
 
 
 class Outcome(enum.Enum):
@@ -56,7 +59,7 @@ class Runs:
 
 @dataclass(frozen=True)
 class Search:
-    """A search for runs: the checker, whether it can look for them, and until when.
+    """A search for runs and chains: the checker, whether it can look for them, and until when.
 
     The deadline is a moment of the monotonic clock, in seconds.
     """
@@ -65,10 +68,20 @@ class Search:
     has_witness: bool
     deadline: float
 
+    @property
+    def is_late(self) -> bool:
+        """Whether its time is over."""
+        return time.monotonic() > self.deadline
 
-def begin_search(asker: Asker) -> Search:
-    """Begins to look for runs. Raises Refused if the checker can't be run."""
-    return Search(asker, asker.has_command("witness"), time.monotonic() + SECONDS)
+
+def begin_search(asker: Asker, took: float) -> Search:
+    """Begins to look for runs, where a check took so many seconds: not long of a large plan.
+
+    Raises Refused if the checker can't be run.
+    """
+    is_large = len(asker.data) > VERSION_2.plan_bytes
+    seconds = CHECKS * took if is_large else SECONDS
+    return Search(asker, asker.has_command("witness"), time.monotonic() + seconds)
 
 
 def find_runs(search: Search, finding: Finding) -> Runs:
@@ -80,7 +93,7 @@ def find_runs(search: Search, finding: Finding) -> Runs:
         return Runs(Outcome.REWRITE)
     if not search.has_witness:
         return Runs(Outcome.ABSENT)
-    if time.monotonic() > search.deadline:
+    if search.is_late:
         return Runs(Outcome.LATE)
     asker, pair = search.asker, name_pair(finding.first, finding.second)
     answer = asker.ask("witness", "--json", *pair)
@@ -99,9 +112,10 @@ def read_runs(asker: Asker, finding: Finding, said: Any) -> list[Run]:
     """The two runs that the checker wrote: of their ends, first that of the call it names."""
     shown = f"{said['shown']['proc']} {said['shown']['call']}"
     orders = [said[it]["order"] for it in ("first", "second")]
-    ends = [follow(asker, order) for order in orders]
+    ends = [follow(asker, order, finding.first.rank.is_recorded) for order in orders]
     differing = [call for call in list_differing(*ends) if call != shown]
-    verb, told = said["shown"]["verb"], [describe_end(said[it]) for it in ("first", "second")]
+    recorded, verb = finding.first.rank.is_recorded, said["shown"]["verb"]
+    verb, told = name_verb(verb, recorded), [describe_end(said[it]) for it in ("first", "second")]
     return [
         Run(call, order, [End(shown, verb, end), *(of_run[it] for it in differing)])
         for call, order, end, of_run in zip(finding.calls, orders, told, ends)
@@ -113,7 +127,7 @@ def list_differing(one: Mapping[str, End], other: Mapping[str, End]) -> list[str
     return [call for call in one if call in other and one[call] != other[call]]
 
 
-def follow(asker: Asker, order: Sequence[str]) -> dict[str, End]:
+def follow(asker: Asker, order: Sequence[str], is_recorded: bool) -> dict[str, End]:
     """How each call ends in the run of an order, by its name; none if it can't be followed."""
     with tempfile.NamedTemporaryFile(
         "w", prefix="wire_up-report-", suffix=".order", encoding="ascii"
@@ -122,9 +136,10 @@ def follow(asker: Asker, order: Sequence[str]) -> dict[str, End]:
         to.flush()
         said = read_json(asker.ask("follow", "--json", to.name))
     calls = (
-        End(f"{rank['proc']} {number}", call["verb"], describe_end(call))
+        End(name, name_verb(call["verb"], is_recorded), describe_end(call))
         for rank in said.get("ranks", ())
         for number, call in enumerate(rank["calls"], 1)
+        for name in [f"{rank['proc']} {number}"]
     )
     return {it.call: it for it in calls}
 

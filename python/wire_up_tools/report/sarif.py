@@ -13,6 +13,7 @@ from wire_up_tools.report import explaining
 from wire_up_tools.report.causes import Cause
 from wire_up_tools.report.contents import Report
 from wire_up_tools.report.findings import Finding, Kind
+from wire_up_tools.report.language import name_kind
 from wire_up_tools.report.phrases import count_of
 
 SCHEMA = "https://json.schemastore.org/sarif-2.1.0.json"
@@ -84,7 +85,7 @@ def find_files(folder: str) -> Paths:
 def make_result(report: Report, cause: Cause, source: Source) -> dict[str, Any]:
     """The result of a cause: its first finding, with its calls in the program and in the plan."""
     one, rule = cause.first, choose_rule(cause.first)
-    names = {it: f"{it.name} {it.verb}" for it in one.calls}
+    names = {it: f"{it.name} {name_kind(it)}" for it in one.calls}
     fix = explaining.fix(one, report.order.uses)
     title = f"{explaining.title(one, cause.abouts)} ({count_of(cause.count, 'finding')})."
     in_plan = [

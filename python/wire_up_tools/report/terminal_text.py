@@ -4,9 +4,12 @@ import textwrap
 from wire_up_tools.plan import Call
 from wire_up_tools.report import explaining, verdict
 from wire_up_tools.report.contents import ENDINGS, Detail, Report, WireUp
-from wire_up_tools.report.findings import PAIRS
+from wire_up_tools.report.findings import PAIRS, Kind
+from wire_up_tools.report.language import name_kind
 from wire_up_tools.report.markup import REPLACEMENT
+from wire_up_tools.report.messages import explain_late, find_late, say_place
 from wire_up_tools.report.phrases import VALUE_WIDTH, count_of, cut, describe_circle
+from wire_up_tools.report.placements import Placed
 from wire_up_tools.report.runs import Outcome, Run, Runs
 from wire_up_tools.report.text_drawing import draw_lines
 
@@ -24,6 +27,7 @@ def write_text(report: Report) -> str:
     ]
     if report.verdicts:
         lines.append(f"The recorder's verdicts: {report.verdicts}.")
+    lines += verdict.say_placements(report)
     if report.plan.is_recorded:
         lines.append(f"A recording. Left out: {'; '.join(report.left_out) or 'nothing'}.")
     for number, detail in enumerate(report.details, 1):
@@ -32,6 +36,8 @@ def write_text(report: Report) -> str:
         lines += ["", f"{count_of(len(report.others), 'other mistake')}: wire_up check lists all."]
     if report.wire_up:
         lines += ["", *write_wire_up(report, report.wire_up)]
+    for placed in report.elsewhere.placed if report.elsewhere else ():
+        lines += ["", *write_placed(report, placed)]
     folded = (part for line in lines for part in fold(line))
     return "".join(f"{make_printable(it)}\n" for it in folded)
 
@@ -40,11 +46,13 @@ def write_detail(report: Report, number: int, detail: Detail) -> list[str]:
     """A cause that is told in full."""
     cause = detail.cause
     one, count = cause.first, verdict.say_count(cause)
+    late = find_late(report.plan, one) if one.kind is not Kind.REWRITE else None
     return [
         f"{number}. {explaining.title(one, cause.abouts)} ({count})",
         *(f"   {describe_call(report, it)}" for it in one.calls),
         "",
         f"   {explaining.explain(one)}",
+        *([f"   {explain_late(late)}"] if late else []),
         f"   Fix: {explaining.fix(one, report.order.uses)}",
         "",
         *draw_lines(detail.diagram),
@@ -53,10 +61,26 @@ def write_detail(report: Report, number: int, detail: Detail) -> list[str]:
     ]
 
 
+def write_placed(report: Report, placed: Placed) -> list[str]:
+    """A cause that is found on another placement only."""
+    cause, one = placed.cause, placed.cause.first
+    title = f"{explaining.title(one, cause.abouts)} ({verdict.say_count(cause)})"
+    return [
+        f"{verdict.say_ranks(placed)}: {title}",
+        *(f"   {describe_call(report, it)}" for it in one.calls),
+        f"   Fix: {explaining.fix(one, report.order.uses)}",
+        "",
+        *draw_lines(placed.diagram),
+        "",
+        *write_runs(placed.runs),
+        f"   This placement as a plan: wire_up place {','.join(placed.ranks)} {report.name}",
+    ]
+
+
 def describe_call(report: Report, call: Call) -> str:
     """A call with its line and its place."""
-    place = f", {call.place}" if call.place else ""
-    return f"{call.name} {call.verb}, {report.name}:{call.line}{place}"
+    place = f", {say_place(report.plan, call)}" if call.place else ""
+    return f"{call.name} {name_kind(call)}, {report.name}:{call.line}{place}"
 
 
 def write_runs(runs: Runs) -> list[str]:
@@ -72,7 +96,7 @@ def write_run(run: Run) -> list[str]:
     ends = [
         f"      {it.call} {it.verb}: {cut(it.said, VALUE_WIDTH)}" for it in run.ends[:ENDINGS]
     ]
-    return [f"   If the {call.verb} ({call.name}) comes first:", *ends]
+    return [f"   If the {name_kind(call)} ({call.name}) comes first:", *ends]
 
 
 def write_wire_up(report: Report, wire_up: WireUp) -> list[str]:

@@ -6,7 +6,7 @@ from wire_up_tools.report.diagram import LABEL_WIDTH, Diagram, Item, Row, Style
 from wire_up_tools.report.phrases import cut
 
 # A diagram of more lanes than this has shorter labels, of so many characters.
-FEW_LANES, SHORT_LABEL = 4, 14
+FEW_LANES, SHORT_LABEL = 4, 20
 INDENT = "    "
 EMPTY = "|"
 

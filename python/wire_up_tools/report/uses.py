@@ -1,4 +1,5 @@
 """Who puts which key and publishes which name in a plan, and which call a call waits for."""
+import bisect
 import collections
 from collections.abc import Mapping, Sequence
 from dataclasses import dataclass
@@ -24,13 +25,18 @@ class Uses:
     def find_commit(self, put: Call) -> Optional[Call]:
         """The first commit of a rank after a put of it."""
         commits = self.commits.get(put.rank.name, ())
-        return next((it for it in commits if it.number > put.number), None)
+        at = bisect.bisect_right(commits, put.number, key=lambda it: it.number)
+        return commits[at] if at < len(commits) else None
+
+    def find_bringer(self, owner: str, key: str) -> Optional[Call]:
+        """The commit for which a get of another rank's key waits in every run."""
+        puts = self.puts.get((owner, key), ())
+        return self.find_commit(puts[0]) if len(puts) == 1 else None
 
     def find_awaited(self, call: Call) -> Optional[Call]:
         """The call of another rank for which a call waits in every run, by the scripts."""
         if call.verb == "get" and call.target != call.rank.name:
-            puts = self.puts.get((call.target, call.about), ())
-            return self.find_commit(puts[0]) if len(puts) == 1 else None
+            return self.find_bringer(call.target, call.about)
         if call.verb == "lookup-wait" and call.about not in self.unpublished:
             publishes = self.publishes.get(call.about, ())
             return publishes[0] if len(publishes) == 1 else None
@@ -40,7 +46,7 @@ class Uses:
 def find_uses(plan: Plan) -> Uses:
     """Who puts which key and publishes which name."""
     puts, commits, publishes = (collections.defaultdict(list) for _ in range(3))
-    for call in plan.calls:
+    for call in plan.list_single():
         if call.verb == "put" and not is_reserved(call.about):
             puts[call.rank.name, call.about].append(call)
         elif call.verb == "commit":
@@ -52,7 +58,7 @@ def find_uses(plan: Plan) -> Uses:
 
 def find_unpublished(plan: Plan, publishes: Mapping[str, Sequence[Call]]) -> frozenset[str]:
     """The names that some call may take away."""
-    calls = [it for it in plan.calls if it.verb == "unpublish"]
+    calls = [it for it in plan.list_single() if it.verb == "unpublish"]
     sweepers = {it.rank.name for it in calls if it.about == EVERY_NAME}
     swept = (
         name for name, of_it in publishes.items() if any(it.rank.name in sweepers for it in of_it)

@@ -1,8 +1,9 @@
 """The verdict of a report in words: what was found, what it means, and how large the plan is."""
 from wire_up_tools.report.causes import Cause
 from wire_up_tools.report.contents import Report
-from wire_up_tools.report.findings import COUNTED, Kind
+from wire_up_tools.report.findings import MOST_GROUPS, Kind
 from wire_up_tools.report.phrases import count_of
+from wire_up_tools.report.placements import Placed
 from wire_up_tools.report.runs import SECONDS, Outcome
 
 # What it means that there are no two runs.
@@ -23,17 +24,52 @@ WITHOUT_RUNS = {
     Outcome.LARGE: (
         "No runs were looked for: wire_up witness takes no plan past the limits of its version."
     ),
-    Outcome.LATE: f"No runs were looked for: {SECONDS} seconds went to others.",
+    Outcome.LATE: (
+        f"No runs were looked for: {SECONDS} seconds went to others, or the plan is large."
+    ),
 }
 
 
 def say_found(report: Report) -> str:
     """What was found, counted, and which calls fail or never end."""
     said = say_races(report)
-    if said:
-        return f"{said}; others may be missed" if report.reasons else said
-    said = "no race seen, in part" if report.reasons else "no race"
-    return "; ".join([said, *filter(None, [say_ends(report)])])
+    if said and report.reasons:
+        said += "; others may be missed"
+    nothing = "no race seen, in part" if report.reasons else "no race"
+    more = say_elsewhere(report)
+    return "; ".join(filter(None, [said or nothing + more, say_ends(report), more * bool(said)]))
+
+
+def say_elsewhere(report: Report) -> str:
+    """What is found on other placements than that written; nothing where that isn't known."""
+    if not report.elsewhere or report.elsewhere.fault:
+        return ""
+    count = sum(it.count for it in report.elsewhere.causes)
+    if report.causes:
+        return f"{count_of(count, 'more race')} on other placements" if count else ""
+    if count:
+        return f" on the placement written, {count_of(count, 'race')} on others"
+    return " on any placement"
+
+
+def say_ranks(placed: Placed) -> str:
+    """On which placement a cause is found."""
+    return f"With {' and '.join(placed.ranks)} on one node"
+
+
+def say_placements(report: Report) -> list[str]:
+    """What is found on the placement written, and what on others; nothing where that isn't known or
+    is the same."""
+    elsewhere = report.elsewhere
+    if elsewhere and elsewhere.fault:
+        return [f"Other placements weren't judged: {elsewhere.fault}."]
+    if not elsewhere or not elsewhere.causes:
+        return []
+    said = [f"On the placement written: {say_races(report) or 'nothing'}"]
+    for it in elsewhere.placed:
+        what = count_of(it.cause.count, "this race", "races such as this")
+        said.append(f"{say_ranks(it)[0].lower()}{say_ranks(it)[1:]}: {what.removeprefix('1 ')}")
+    return [f"{'; '.join(said)}."]
 
 
 def say_reasons(report: Report) -> str:
@@ -55,7 +91,8 @@ def say_races(report: Report) -> str:
         said.append(count_of(count - rewrites, "race"))
     if rewrites:
         said.append(count_of(rewrites, "key that is put again", "puts of a key again"))
-    return "at least " * (bool(said) and count >= COUNTED) + " and ".join(said)
+    is_cut = sum(len(it.groups) for it in report.causes) >= MOST_GROUPS
+    return "at least " * is_cut + " and ".join(said)
 
 
 def say_ends(report: Report) -> str:
@@ -84,7 +121,7 @@ def say_waiting(report: Report) -> str:
 def say_size(report: Report) -> str:
     """How large the plan is."""
     plan = report.plan
-    jobs, calls = plan.declared.jobs, count_of(len(plan.calls), "call")
+    jobs, calls = plan.declared.jobs, count_of(plan.call_count, "call")
     in_jobs = f" in {count_of(len(jobs), 'job')}" if len(jobs) > 1 else ""
     kept = ", what gets bring is kept" if plan.declared.keeps else ""
     nodes = count_of(len(plan.declared.nodes), "node")

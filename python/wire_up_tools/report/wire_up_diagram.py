@@ -10,7 +10,7 @@ from collections.abc import Hashable, Mapping, Sequence
 from dataclasses import dataclass
 from typing import Optional
 
-from wire_up_tools.plan import Call, Meeting, Plan, Rank
+from wire_up_tools.plan import Call, Entry, Meeting, Plan, Rank, Run
 from wire_up_tools.report.diagram import (
     LANES,
     ROWS,
@@ -26,6 +26,7 @@ from wire_up_tools.report.diagram import (
     row_of,
     say_not_drawn,
 )
+from wire_up_tools.report.language import find_message, name_about, name_call
 from wire_up_tools.report.node_diagram import make_node_diagram
 from wire_up_tools.report.orders import Order
 from wire_up_tools.report.replies import WaitingAt
@@ -62,7 +63,7 @@ class Bundle:
 
 def make_wire_up_diagram(order: Order, waiting_at: WaitingAt) -> Diagram:
     """The diagram of a plan whose ranks wait for ever at these calls."""
-    shapes = find_shapes(order.plan, waiting_at)
+    shapes = find_shapes(order, waiting_at)
     if len(shapes) > LANES:
         return make_node_diagram(order)
     lanes = {ranks[0].name: lane for lane, ranks in enumerate(shapes)}
@@ -82,12 +83,16 @@ def make_wire_up_diagram(order: Order, waiting_at: WaitingAt) -> Diagram:
 # --- lanes: ranks of one shape ---
 
 
-def find_shapes(plan: Plan, waiting_at: WaitingAt) -> list[list[Rank]]:
+def find_shapes(order: Order, waiting_at: WaitingAt) -> list[list[Rank]]:
     """The ranks by their shapes and by where they wait, in the order of the first of each.
 
-    Where some of a few ranks wait, each stands alone, so that it is seen for whom.
+    Where some of a few ranks wait for others, but in fences, each stands alone, so that it is seen
+    for whom.
     """
-    if len(plan.ranks) <= LANES and any(it is not None for it in waiting_at.values()):
+    plan = order.plan
+    has_waits = any(it is not None for it in waiting_at.values())
+    has_given = any(it.awaited for stops in order.stops.values() for it in stops)
+    if len(plan.ranks) <= LANES and (has_waits or has_given):
         return [[it] for it in plan.ranks]
     found: dict[Hashable, list[Rank]] = {}
     for rank in plan.ranks:
@@ -108,16 +113,18 @@ class Step:
 def find_shape(plan: Plan, rank: Rank) -> Sequence[Step]:
     """The calls of a rank but for the ranks, numbers and values in them, each once in a row."""
     shape: list[Step] = []
-    for call in plan.calls_of[rank.name]:
-        step = find_step(plan, call)
+    for entry in plan.list_outline(rank):
+        step = find_step(plan, entry)
         if not shape or shape[-1] != step:
             shape.append(step)
     return tuple(shape)
 
 
-def find_step(plan: Plan, call: Call) -> Step:
-    """What a call has alike with those of other ranks of its shape."""
-    meeting = plan.meeting_of.get(call)
+def find_step(plan: Plan, entry: Entry) -> Step:
+    """What a call, or a run of them, has alike with those of other ranks of its shape."""
+    if isinstance(entry, Run):
+        return Step(entry.verb, None, re.sub(r"\d+", "#", entry.about), "other")
+    call, meeting = entry, plan.meeting_of.get(entry)
     key = "" if meeting else re.sub(r"\d+", "#", call.about)
     whose = call.target if call.verb == "put" else ""
     if call.verb in ("get", "get-now"):
@@ -149,7 +156,8 @@ def find_bundles(plan: Plan, rank: Rank, waiting_at: WaitingAt) -> list[Bundle]:
 def is_bundled(before: Call, call: Call, end: Optional[int]) -> bool:
     """Whether a call is of one bundle with that before it."""
     waits = end in (before.number, call.number)
-    return call.verb == before.verb and call.verb != "fence" and not waits
+    is_alike = call.verb == before.verb and call.verb != "fence"
+    return is_alike and not waits and not (find_message(call) or find_message(before))
 
 
 def choose_style(call: Call, end: Optional[int]) -> Style:
@@ -164,8 +172,9 @@ def label_bundle(calls: Sequence[Call]) -> str:
     if len(calls) == 1:
         return label_call(calls[0])
     keys = {it.about for it in calls}
-    key = f" {calls[0].about}" if len(keys) == 1 and calls[0].about else ""
-    return f"{calls[0].number}–{calls[-1].number} {calls[0].verb}{key} ×{len(calls)}"
+    key = calls[0].about if len(keys) == 1 else ""
+    named = name_call(calls[0]) if len(keys) == 1 else name_about(calls[0], key)
+    return f"{calls[0].number}–{calls[-1].number} {named} ×{len(calls)}"
 
 
 def is_item(bundle: Bundle) -> bool:

@@ -30,7 +30,7 @@ QUIET, START = Choices().quiet, Choices().start
 # How often each plan of the suite is run, and how many at a time.
 SUITE_TIMES, AT_A_TIME = 2, 2
 # The options for the suite alone.
-OF_SUITE = ("show", "table", "at_a_time")
+OF_SUITE = ("show", "table", "jobs")
 
 ABOUT = "Runs a plan on a real PMIx library, and compares what it replies with the rules of \
 `wire_up`."
@@ -64,7 +64,7 @@ OPTIONS = (
     ),
     Option(
         "--command",
-        "COMMAND",
+        "WORDS",
         "a command line that starts as many processes as the plan has ranks, in rank order: the "
         "program and its words are put behind it",
     ),
@@ -74,7 +74,12 @@ OPTIONS = (
         "the hosts that are the nodes of the plan, one on a line; without it mpirun and prterun "
         "start fake nodes on this machine",
     ),
-    Option("--times", "COUNT", "runs the plan so often, and counts the reports that were seen"),
+    Option(
+        "--times",
+        "COUNT",
+        "runs the plan so often, and counts the reports that were seen; else once, and each plan "
+        f"of the suite {SUITE_TIMES} times",
+    ),
     Option("--order", "FILE", "takes the steps in this order, as far as the library lets it"),
     Option("--free", "", "takes no order, although the plan has findings"),
     Option(
@@ -85,9 +90,7 @@ OPTIONS = (
     Option(
         "--start", "SECONDS", f"how long the ranks may take to start; else {START:g} seconds"
     ),
-    Option(
-        "--at-a-time", "COUNT", f"how many plans of the suite run at a time; else {AT_A_TIME}"
-    ),
+    Option("--jobs", "COUNT", f"how many plans of the suite run at a time; else {AT_A_TIME}"),
     Option("--table", "FILE", "writes what the suite gave also as a table"),
     Option("--show", "NAME", "writes a plan of the suite in place of running any"),
     Option("--json", "", "writes JSON in place of lines"),
@@ -162,7 +165,7 @@ def hold_alone(found: argparse.Namespace, task: str, names: Sequence[str]) -> No
     """Raises Unusable where an option stands that doesn't go with a task."""
     for it in names:
         if getattr(found, it):
-            name = "a plan" if it == "rest" else f"--{it.replace('_', '-')}"
+            name = "a plan" if it == "rest" else f"--{it}"
             raise Unusable(f"{name} doesn't go with {task}")
 
 
@@ -179,7 +182,7 @@ def read_suite_request(found: argparse.Namespace) -> SuiteRequest:
     """What `--suite` asks for. Raises Unusable."""
     hold_alone(found, "--suite", ("order", "free", "show"))
     times = read_count("--times", found.times, SUITE_TIMES)
-    at_a_time = read_count("--at-a-time", found.at_a_time, AT_A_TIME)
+    at_a_time = read_count("--jobs", found.jobs, AT_A_TIME)
     names = [*found.suite, *found.rest]
     option = next((it for it in names if it.startswith("-")), None)
     if option:
@@ -207,7 +210,7 @@ def read_request(found: argparse.Namespace) -> Request:
     if found.show is not None:
         hold_alone(found, "--show", ("rest",))
         return ShowRequest(found.show)
-    hold_alone(found, "a plan", ("table", "at_a_time"))
+    hold_alone(found, "a plan", ("table", "jobs"))
     if len(found.rest) != 1:
         raise Unusable("one plan at a time" if found.rest else "which plan?")
     if found.order and found.free:

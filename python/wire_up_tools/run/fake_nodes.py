@@ -4,18 +4,25 @@ A run has a network, a table of processes and a host name of its own: nothing th
 reached from outside, and all of it ends with the first of its processes.
 """
 import os
+import re
 import shutil
+from collections.abc import Iterable
+from typing import Optional
 
 from wire_up_tools.failures import Refused
 
 HEAD = "wire-up-head"
 NEEDED = {"unshare": "util-linux", "ip": "iproute2", "hostname": "hostname"}
-# Some launchers fail where there is loopback alone: so there is a pair of ends beside it.
-NETWORK = (
-    f"hostname {HEAD} && ip link set lo up && ip link add v0 type veth peer name v1 && "
-    "ip addr add 192.0.2.1/24 dev v0 && ip link set v0 up && ip link set v1 up"
+# A launcher may take other names for addresses, or for this machine.
+PLAIN, LOCAL = re.compile(r"[a-z][a-z0-9-]{0,40}"), "localhost"
+# What is done first. PRRTE 3 fails where there is loopback alone, and at a host without an address:
+# so there is a pair of ends beside it, and a table of names, whose addresses nobody connects to.
+NETWORK = f"hostname {HEAD} && ip link set lo up"
+PAIR = (
+    "ip link add v0 type veth peer name v1 && ip addr add 192.0.2.1/24 dev v0 && "
+    "ip link set v0 up && ip link set v1 up"
 )
-WITHOUT_PAIR = f"hostname {HEAD} && ip link set lo up"
+NAMES = 'mount --bind "$1" /etc/hosts'
 # The remote shell of the launcher: it runs the command here, on a host of that name.
 AGENT = """\
 #!/bin/sh
@@ -41,10 +48,29 @@ def write_agent(folder: str) -> str:
     return path
 
 
-def write_start(with_pair: bool) -> list[str]:
-    """The words before a command that is to run among fake nodes."""
+def name_host(index: int, node: str) -> str:
+    """The name of the host that a node is: its own, if that is plain."""
+    is_plain = PLAIN.fullmatch(node) and node not in (LOCAL, HEAD)
+    return node if is_plain else f"wire-up-node-{index}"
+
+
+def write_names(folder: str, hosts: Iterable[str]) -> str:
+    """Writes a table of the names of hosts into a folder, and answers its path. Raises OSError."""
+    path = os.path.join(folder, "names")
+    # Addresses that are kept for documents.
+    others = enumerate(it for it in dict.fromkeys(hosts) if it != HEAD)
+    with open(path, "w", encoding="ascii") as it:
+        it.write(f"127.0.0.1 {LOCAL} {HEAD}\n")
+        it.writelines(f"198.51.100.{at % 254 + 1} {host}\n" for at, host in others)
+    return path
+
+
+def write_start(names: Optional[str]) -> list[str]:
+    """The words before a command that is to run among fake nodes: with a table of names, or
+    without."""
     user = ["--user", "--map-root-user"] if os.geteuid() else []
     apart = ["--uts", "--net", "--pid", "--fork", "--kill-child", "--mount-proc"]
-    network = NETWORK if with_pair else WITHOUT_PAIR
+    first = " && ".join([NETWORK, PAIR, NAMES] if names else [NETWORK])
     # The shell stays: it is the first process, and takes the ends of those without a parent.
-    return ["unshare", *user, *apart, "sh", "-c", f'{network} || exit 1; "$@"; exit $?', "sh"]
+    script = f'{first} || exit 1; shift; "$@"; exit $?'
+    return ["unshare", *user, *apart, "sh", "-c", script, "sh", names or ""]

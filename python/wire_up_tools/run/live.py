@@ -135,13 +135,15 @@ class Run:
                 raise Refused(f"{self.names[heard.channel]} ended before its script began")
             return
         words = heard.line.split(" ", 6)
-        if words[0] == "started":
+        if words[0] == "started" and heard.channel in self.names:
             if words[2] != "PMIX_SUCCESS":
                 raise Refused(f"{self.setting.launcher.name} starts no further job: {words[2]}")
         elif len(words) < 4 or words[1] != self.hall.word:
             heard.channel.connection.shutdown(2)
         elif words[0] == "failed":
-            raise Refused(f"PMIx_Init replied {words[3]}: was it started by a PMIx server?")
+            raise Refused(
+                f"PMIx_Init replied {words[3]}: did a PMIx server start it, and has the disk room?"
+            )
         elif words[2] == STARTER:
             self.start_jobs(heard.channel)
         else:
@@ -238,11 +240,10 @@ def choose_hosts(
 ) -> list[str]:
     """The host of each rank. Raises Refused if there are too few."""
     nodes = plan.declared.nodes
-    if hosts is None:
-        return [it.node for it in ranks]
-    if len(hosts) < len(nodes):
-        raise Refused(f"the plan has {len(nodes)} nodes, and there are {len(hosts)} hosts")
-    host_of = dict(zip(nodes, hosts))
+    names = [fake_nodes.name_host(*it) for it in enumerate(nodes)] if hosts is None else hosts
+    if len(names) < len(nodes):
+        raise Refused(f"the plan has {len(nodes)} nodes, and there are {len(names)} hosts")
+    host_of = dict(zip(nodes, names))
     return [host_of[it.node] for it in ranks]
 
 
@@ -291,7 +292,10 @@ def start_process(task: Task, setting: Setting, folder: str, hall: Hall) -> Run:
     start, launcher = make_start(task, setting, folder, hall), setting.launcher
     with open(start.host_file, "w", encoding="utf-8") as it:
         it.write(write_hosts(launcher, start))
-    before = fake_nodes.write_start(launcher.kind is Kind.PRRTE) if start.agent else []
+    before: list[str] = []
+    if start.agent:
+        table = fake_nodes.write_names(folder, start.hosts)
+        before = fake_nodes.write_start(table if launcher.kind is Kind.PRRTE else None)
     process = subprocess.Popen(
         [*before, *write_command(launcher, start)],
         stdin=subprocess.DEVNULL,

@@ -81,7 +81,8 @@ class World:
         self.by_fences = collections.defaultdict(dict)
         self.in_caller = collections.defaultdict(dict)
         self.names = collections.defaultdict(list)
-        self.sets = find_sets(self.plan.declared)
+        fences = [it for it in self.plan.list_single() if it.verb == "fence"]
+        self.sets = find_sets(self.plan.declared, fences)
         self.ranks = {it.name: it for it in self.plan.ranks}
 
     def has(self, rule: Rule) -> bool:

@@ -1,0 +1,9 @@
+pub mod Growing
+pub mod Pieces
+pub mod KeptGets
+pub mod Firsts
+pub mod Surely
+pub mod Far
+pub mod Races
+pub mod Order
+pub mod Whole

@@ -1,0 +1,11 @@
+use Rattle.std.proofs.Common.{◌-◌}
+use Rattle.wire_runs.specs.Plan.{event_of}
+use Rattle.wire_content.specs.Planned.{plan_of}
+use Rattle.wire_anywhere.proofs.Surely.{NoneSure}
+use Rattle.wire_anywhere.proofs.carriers.fence_brings_surely.Given as goal
+
+abbrev pub invariant-deliveries : goal.invariant-deliveries
+invariant-deliveries l = NoneSure (plan_of l.marked) l.asked.owner.number l.asked.key l.proc.number (event_of l.asked.get_now) l.from
+
+abbrev pub decreases-deliveries : goal.decreases-deliveries
+decreases-deliveries l = l.count - l.from

@@ -1,0 +1,6 @@
+use Rattle.wire_content.specs.Planned.{plan_of}
+use Rattle.wire_anywhere.specs.Gets.{AreGetsTo}
+use Rattle.wire_anywhere.proofs.gets.GetTable.add_all.Given as goal
+
+abbrev pub invariant-loop-number : goal.invariant-loop-number
+invariant-loop-number l = AreGetsTo (plan_of l.plan) 0 0 l.fn.self → AreGetsTo (plan_of l.plan) l.number 0 l.self

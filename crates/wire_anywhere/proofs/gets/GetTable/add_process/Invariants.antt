@@ -1,0 +1,6 @@
+use Rattle.wire_content.specs.Planned.{plan_of}
+use Rattle.wire_anywhere.specs.Gets.{AreGetsTo}
+use Rattle.wire_anywhere.proofs.gets.GetTable.add_process.Given as goal
+
+abbrev pub invariant-loop-at : goal.invariant-loop-at
+invariant-loop-at l = AreGetsTo (plan_of l.plan) l.proc.number 0 l.fn.self → AreGetsTo (plan_of l.plan) l.proc.number l.at l.self

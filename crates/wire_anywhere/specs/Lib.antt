@@ -1,0 +1,6 @@
+pub mod Anywhere
+pub mod Adding
+pub mod Gets
+pub mod Carriers
+pub mod Races
+pub mod Order

@@ -1,0 +1,5 @@
+pub mod PlacedLines
+pub mod PlacedGroups
+pub mod PlacedJson
+pub mod Differing
+pub mod Forms

@@ -1,0 +1,67 @@
+use Rattle.std.proofs.Common.{inl, refl, ap, Err}
+use Rattle.std.proofs.lemmas.Result.{on_ok_weaker}
+use Rattle.wire_commands.proofs.Handed.{handed_on, not_on_ok, same_error, no_read_writing}
+use Rattle.wire_commands.proofs.Followed.{err_always}
+use Rattle.wire_commands.proofs.Moved.{file_stops, no_read_of_ranks, placed_err, rank_stops, writes_placed}
+use Rattle.wire_commands.proofs.place.place_plan.Goals as goal
+
+pub returns-in_err-scripts-clause-ok : goal.returns-in_err-scripts-clause-ok
+returns-in_err-scripts-clause-ok g c =
+    not_on_ok c.from_residual.result c.in_err-scripts.field-0.0 _ c.from_residual.ensures.1
+
+pub returns-in_err-scripts-clause-quiet : goal.returns-in_err-scripts-clause-quiet
+returns-in_err-scripts-clause-quiet g c =
+    not_on_ok c.from_residual.result c.in_err-scripts.field-0.0 _ c.from_residual.ensures.1
+
+pub returns-in_err-scripts-clause-read_failed : goal.returns-in_err-scripts-clause-read_failed
+returns-in_err-scripts-clause-read_failed g c is =
+    c.in_err-scripts.ensures.read (ap Err (same_error c.from_residual.result c.in_err-scripts.field-0.0 _ c.from_residual.ensures.1 is))
+
+pub returns-in_err-text-clause-ok : goal.returns-in_err-text-clause-ok
+returns-in_err-text-clause-ok g c =
+    not_on_ok c.from_residual-in_err-text.result c.in_err-text.field-0.0 _ c.from_residual-in_err-text.ensures.1
+
+pub returns-in_err-text-clause-quiet : goal.returns-in_err-text-clause-quiet
+returns-in_err-text-clause-quiet g c =
+    not_on_ok c.from_residual-in_err-text.result c.in_err-text.field-0.0 _ c.from_residual-in_err-text.ensures.1
+
+pub returns-in_err-scripts-clause-err : goal.returns-in_err-scripts-clause-err
+returns-in_err-scripts-clause-err g c =
+    handed_on c.from_residual.result c.in_err-scripts.field-0.0 _ c.from_residual.ensures.1 (inl (file_stops _ _ _ c.in_err-scripts.ensures.err, refl))
+
+pub returns-in_err-scripts-clause-unfailed : goal.returns-in_err-scripts-clause-unfailed
+returns-in_err-scripts-clause-unfailed g c =
+    handed_on c.from_residual.result c.in_err-scripts.field-0.0 _ c.from_residual.ensures.1 (λ memory read. c.in_err-scripts.ensures.unfailed memory read)
+
+pub returns-in_err-text-clause-err : goal.returns-in_err-text-clause-err
+returns-in_err-text-clause-err g c =
+    handed_on c.from_residual-in_err-text.result c.in_err-text.field-0.0 _ c.from_residual-in_err-text.ensures.1
+    (inl (rank_stops _ _ c.in_ok-scripts.scripts _ c.in_ok-scripts.ensures.ok c.in_err-text.ensures.err, refl))
+
+pub returns-in_err-text-clause-read_failed : goal.returns-in_err-text-clause-read_failed
+returns-in_err-text-clause-read_failed g c is =
+    absurd (no_read_of_ranks c.in_ok-scripts.scripts c.args.word.now _ c.in_err-text.ensures.err (same_error _ _ _ c.from_residual-in_err-text.ensures.1 is))
+
+pub returns-in_err-text-clause-unfailed : goal.returns-in_err-text-clause-unfailed
+returns-in_err-text-clause-unfailed g c =
+    handed_on c.from_residual-in_err-text.result c.in_err-text.field-0.0 _ c.from_residual-in_err-text.ensures.1 (λ memory read. c.in_ok-scripts.ensures.quiet)
+
+pub returns-clause-ok : goal.returns-clause-ok
+returns-clause-ok g c =
+    writes_placed c.args.size _ c.args.word.now _ _ c.in_ok-scripts.scripts c.in_ok-text.text.items c.as_slice.result.now c.write_text.result c.in_ok-scripts.ensures.ok c.in_ok-text.ensures.ok
+    c.as_slice.ensures.value c.write_text.ensures.ok
+
+pub returns-clause-quiet : goal.returns-clause-quiet
+returns-clause-quiet g c = on_ok_weaker c.write_text.result (λ quiet. (c.in_ok-scripts.ensures.quiet, quiet)) c.write_text.ensures.quiet
+
+pub returns-clause-err : goal.returns-clause-err
+returns-clause-err g c =
+    placed_err c.args.size _ c.args.word.now (g.W.Sink.written c.args.writer.now) (g.W.Sink.written c.write_text.new.sink) c.in_ok-scripts.scripts c.in_ok-text.text.items c.as_slice.result.now _ _
+    c.write_text.result c.in_ok-scripts.ensures.ok c.in_ok-text.ensures.ok c.as_slice.ensures.value c.write_text.ensures.front c.write_text.ensures.failed
+
+pub returns-clause-read_failed : goal.returns-clause-read_failed
+returns-clause-read_failed g c is =
+    absurd (no_read_writing (g.W.Sink.written c.args.writer.now) (g.W.Sink.written c.write_text.new.sink) c.as_slice.result.now c.write_text.result c.write_text.ensures.front is)
+
+pub returns-clause-unfailed : goal.returns-clause-unfailed
+returns-clause-unfailed g c = err_always c.write_text.result _ (λ e memory read. c.in_ok-scripts.ensures.quiet)

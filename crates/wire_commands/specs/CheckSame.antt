@@ -1,0 +1,39 @@
+-- What `check --anywhere --same` writes: all findings of all placements, and where there are none the calls whose replies aren't the same on all.
+use Rattle.std.specs.Prelude.{◌≡◌, ◌≢◌, ◌⊎◌, ℕ, List, [], Option, length}
+use Rattle.wire_types.specs.declared.Form.{Form}
+use Rattle.wire_content.specs.Scripts.{Scripts}
+use Rattle.wire_content.specs.Planned.{plan_of}
+use Rattle.wire_differing.specs.declared.Differing.{Differing}
+use Rattle.wire_differing.specs.Differing.{AreDiffering}
+use Rattle.wire_anywhere_report.specs.Differing.{differing_form}
+use Rattle.wire_script.specs.declared.Size.{Size}
+use Rattle.wire_commands.specs.declared.ended.Ended.{Ended}
+use Rattle.wire_commands.specs.declared.ended.Ended.TheVariants.{Clean}
+use Rattle.wire_commands.specs.CheckAnywhere.{EachHasOneEnd, IsSettledEverywhere, IsVerdictAnywhere}
+use Rattle.wire_commands.specs.Ending.{ended_of}
+use Rattle.wire_commands.specs.Plain.{ReadAs}
+
+-- nothing is found on any placing, so each has one end, and the text tells the answered calls whose replies aren't the same on all
+pub record TellsDiffering (form : Form) (name : List ℕ) (scripts : Scripts) (rows : List (List ℕ)) (text : List ℕ) (ended : Ended) : Type 0 where
+  pub differing : List Differing
+  pub settled : IsSettledEverywhere (plan_of scripts)
+  pub one_end : EachHasOneEnd (plan_of scripts)
+  pub those : AreDiffering (plan_of scripts) differing
+  pub ends : ended ≡ ended_of (length differing)
+  pub tells : text ≡ differing_form form name rows scripts differing
+
+-- something is found
+pub record TellsFindings (form : Form) (name : List ℕ) (scripts : Scripts) (rows : List (List ℕ)) (text : List ℕ) (ended : Ended) : Type 0 where
+  pub verdict : IsVerdictAnywhere form name scripts rows text ended
+  pub not_clean : ended ≢ Clean
+
+abbrev pub IsSameVerdict : Form → List ℕ → Scripts → List (List ℕ) → List ℕ → Ended → Type 0
+IsSameVerdict form name scripts rows text ended = TellsFindings form name scripts rows text ended ⊎ TellsDiffering form name scripts rows text ended
+
+-- what was to come read as scripts, each placing of their plan has one end, and each answered call replies the same on all of them, calls of
+-- reserved keys and names aside
+pub record IsSameEverywhere (size : Size) (coming : Option (List ℕ)) : Type 0 where
+  pub scripts : Scripts
+  pub read : ReadAs size coming scripts
+  pub one_end : EachHasOneEnd (plan_of scripts)
+  pub same : AreDiffering (plan_of scripts) []

@@ -1,0 +1,122 @@
+//! `check --anywhere`: the findings of all placements of a plan's ranks, in lines or as JSON; with places in groups.
+
+ghost use Rattle.std.specs.Prelude.{◌≡◌, ◌≢◌, ◌⊎◌, Ok, Err, OnOk, IfOk, IfErr, length};
+ghost use Rattle.wire_types.specs.declared.Fault.TheVariants.{Memory, Read};
+ghost use Rattle.wire_types.specs.Counting.{one_more};
+ghost use Rattle.wire_anywhere.specs.Anywhere.{AreFoundAnywhere};
+ghost use Rattle.wire_commands.specs.declared.ended.Ended.TheVariants.{Clean};
+ghost use Rattle.wire_commands.specs.Answer.{BreaksOff, Writes, rows_in};
+ghost use Rattle.wire_commands.specs.Check.{StopsBeforeFindings};
+ghost use Rattle.wire_commands.specs.CheckAnywhere.{EndsInOneStateAnywhere, IsVerdictAnywhere};
+ghost use Rattle.wire_commands.specs.Ending.{ended_of};
+
+use crate::answer::{Answer, write_answer};
+use crate::ended::Ended;
+use crate::manner::{Manner, Telling};
+use crate::reading::read_in;
+use std::alloc::Global;
+use std::thread::Threads;
+use wire_anywhere::laws::settled_exactly;
+use wire_anywhere::{PlacedList, find_anywhere};
+use wire_anywhere_report::placed_text;
+use wire_content::Scripts;
+use wire_marks::{MarkedPlan, Marks};
+use wire_plan::Plan;
+use wire_report::Places;
+use wire_types::{Fault, Sink, Source};
+
+/// Checks a plan on every placement of its ranks: reads it to its end, and writes every finding that some placement
+/// has, as `check` would write it there. Behind a race on a key stand two ranks: where these share a node, and all
+/// others are elsewhere, it races. A key that is put twice and a race on a name are found on every placement.
+///
+/// With places the findings stand in groups, as those of `check`.
+///
+/// It answers `Clean` exactly where no placement has anything to find. The faults are those of `check`.
+pub fn check_placements<R: Source, W: Sink>(
+    rt: &(impl Threads + Sync),
+    alloc: Global,
+    manner: Manner<'_>,
+    reader: &mut R,
+    writer: &mut W,
+) -> Result<Ended, Fault>
+    ensures ok { IfOk result (λ ended. Writes manner.entry.size manner.entry.form (R.coming reader.old)
+        (IsVerdictAnywhere manner.entry.form manner.entry.name.now) ended (W.written writer.old) (W.written writer.new)) }
+    ensures quiet { OnOk result ((R.failures reader.new ≡ R.failures reader.old) × (W.failures writer.new ≡ W.failures writer.old)) }
+
+    // The headline: where it finds nothing, on each placement every interleaving that can't go on ends in one state.
+    ensures one_end { result ≡ Ok Clean → EndsInOneStateAnywhere manner.entry.size (R.coming reader.old) }
+
+    // Either nothing was written, or the front of the text that the fault counts.
+    ensures err { IfErr result (λ e. (StopsBeforeFindings manner.entry.size (R.coming reader.old) e × (writer.new ≡ writer.old))
+        ⊎ (BreaksOff manner.entry.size manner.entry.form (R.coming reader.old) (IsVerdictAnywhere manner.entry.form manner.entry.name.now)
+        (W.written writer.old) (W.written writer.new) e × (W.failures writer.new ≡ one_more (W.failures writer.old)))) }
+
+    // A failed read is answered only where the reader failed.
+    ensures read_failed { result ≡ Err Read → R.failures reader.new ≡ one_more (R.failures reader.old) }
+    ensures unfailed { IfErr result (λ e. e ≢ Memory → e ≢ Read → R.failures reader.new ≡ R.failures reader.old) }
+{
+    let (scripts, rows) = read_in(alloc, manner.size, manner.form, reader)?;
+    let places = Places {
+        name: manner.name,
+        rows: rows.as_slice(),
+    };
+    let form = manner.form;
+    let answer = answer_scripts(rt, alloc, scripts, Telling { places, form })?;
+    write_answer(writer, &answer)
+}
+
+/// The answer about the placements of scripts.
+fn answer_scripts(
+    rt: &(impl Threads + Sync),
+    alloc: Global,
+    scripts: Scripts,
+    telling: Telling<'_>,
+) -> Result<Answer, Fault>
+    ensures ok { IfOk result (λ answer. IsVerdictAnywhere telling.entry.form telling.entry.places.name.now scripts
+        (rows_in telling.entry.places) answer.text.items answer.ended) }
+    ensures err { IfErr result (λ e. e ≡ Memory) }
+{
+    let plan = Plan::build(alloc, scripts)?;
+    let answer = answer_plan(rt, alloc, &plan, telling);
+    drop(plan);
+    answer
+}
+
+/// The answer about the placements of a plan.
+fn answer_plan(
+    rt: &(impl Threads + Sync),
+    alloc: Global,
+    plan: &Plan,
+    telling: Telling<'_>,
+) -> Result<Answer, Fault>
+    ensures ok { IfOk result (λ answer. IsVerdictAnywhere telling.entry.form telling.entry.places.name.now plan.now
+        (rows_in telling.entry.places) answer.text.items answer.ended) }
+    ensures err { IfErr result (λ e. e ≡ Memory) }
+{
+    let marks = Marks::of(alloc, plan)?;
+    let marked = marks.with(plan);
+    let found = find_anywhere(rt, alloc, &marked)?;
+    answer_found(alloc, &marked, telling, &found)
+}
+
+/// The answer that tells these findings.
+pub(crate) fn answer_found(
+    alloc: Global,
+    marked: &MarkedPlan<'_>,
+    telling: Telling<'_>,
+    found: &PlacedList,
+) -> Result<Answer, Fault>
+    requires { AreFoundAnywhere marked.now found.now }
+    ensures ok { IfOk result (λ answer. IsVerdictAnywhere telling.entry.form telling.entry.places.name.now marked.now
+        (rows_in telling.entry.places) answer.text.items answer.ended) }
+    ensures count { IfOk result (λ answer. answer.ended ≡ ended_of (length found.now)) }
+    ensures err { IfErr result (λ e. e ≡ Memory) }
+{
+    let scripts = marked.plan().scripts();
+    let text = placed_text(alloc, scripts, telling.places, telling.form, found)?;
+    settled_exactly();
+    Ok(Answer {
+        text,
+        ended: Ended::of_count(found.len()),
+    })
+}

@@ -1,0 +1,5 @@
+mod Coming
+mod Firsts
+mod Sure
+mod Placed
+mod Listed

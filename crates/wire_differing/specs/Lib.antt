@@ -1,0 +1,3 @@
+pub mod Differing
+pub mod Answered
+pub mod Surely
