@@ -18,6 +18,7 @@ MPI_COMMENT = "# MPI: "
 # How the head of a recorded plan begins, and the titles of the lists in it.
 RECORDED_BY = "Recorded by wire_up-record"
 CUT_OFF = "The run was cut off, so that a verdict holds only in part:"
+PARTED = "The runs part, so that a verdict holds only in part:"
 LEFT_OUT = "Left out:"
 MORE_ORDERED = "More ordered than the program, so that a race can be missed:"
 WRITTEN_OTHERWISE = "Written otherwise:"

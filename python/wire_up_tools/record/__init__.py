@@ -12,6 +12,8 @@ The way of the data, each step a function from a value to a value:
     shortening.py                 a draft -> a draft without what can't change a finding
     writing.py                    a draft -> the text of the plan, and how its calls ended
 
+partings.py and merging.py make one plan of several runs: of what they share, and where they part.
+
 planning.py calls them in this order, from recordings to the draft. What MPI's order is stands in
 mpi_order.py. It has messages matched by messages.py, collectives by collectives.py, and messages
 that could have come otherwise ordered by open_groups.py; horizon.py says which of them can matter.

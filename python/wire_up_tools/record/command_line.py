@@ -34,6 +34,10 @@ USES = (
         "writes the plan of recordings that are there, in files or folders",
     ),
     (
+        "-o PLAN [OPTION..] --from FILE.. --from FILE..",
+        "writes one plan of what several runs of a program share, and says where they part",
+    ),
+    (
         "--where PROC N PLAN",
         "says where in the program call N of a process comes from, such as --where app:0 13 plan",
     ),
@@ -121,7 +125,21 @@ def read_request(words: Sequence[str]) -> Request:
     files = [*found.files, *found.rest]
     if not files or output.kept:
         raise Unusable("--keep goes with a command" if files else "which recordings?")
-    return FilesRequest(output, files)
+    runs = split_runs(files)
+    if not all(runs):
+        raise Unusable("which recordings?")
+    return FilesRequest(output, runs)
+
+
+def split_runs(words: Sequence[str]) -> Sequence[Sequence[str]]:
+    """The files of each run: each begins with `--from`, but for the first."""
+    runs: list[list[str]] = [[]]
+    for it in words:
+        if it == "--from":
+            runs.append([])
+        else:
+            runs[-1].append(it)
+    return runs
 
 
 def stop(number: int, _: Optional[FrameType]) -> None:

@@ -1,6 +1,6 @@
 """Makes the draft of a plan from recordings: all stages, one after another."""
 from collections.abc import Sequence
-from dataclasses import dataclass
+from dataclasses import dataclass, replace
 from typing import Optional
 
 from wire_up_tools.failures import Refused
@@ -42,7 +42,7 @@ class MpiSummary:
 
 @dataclass(frozen=True)
 class Plan:
-    """All that the text of a plan says."""
+    """All that the text of a plan says. One of several runs says where they part."""
 
     choices: Choices
     processes: Processes
@@ -50,6 +50,8 @@ class Plan:
     draft: Draft
     notes: Notes
     mpi: MpiSummary
+    run_count: int = 1
+    partings: Sequence[str] = ()
 
 
 def refuse_too_many(parts: Sequence[Part], most: Limits) -> None:
@@ -97,7 +99,18 @@ def summarize(order: MpiOrder) -> MpiSummary:
 
 
 def make_plan(recordings: Sequence[Recording], choices: Choices) -> Plan:
-    """Makes a plan of recordings. Raises Refused for recordings that make none."""
+    """Makes a plan of recordings, without what can't change a finding where it is large. Raises
+    Refused for recordings that make none."""
+    plan = make_whole_plan(recordings, choices)
+    if plan.draft.count <= VERSION_1.calls:
+        return plan
+    shortened = shorten(plan.draft)
+    plan.notes.add(shortened.notes)
+    return replace(plan, draft=shortened.draft)
+
+
+def make_whole_plan(recordings: Sequence[Recording], choices: Choices) -> Plan:
+    """Makes a plan of recordings, of any size. Raises Refused for recordings that make none."""
     processes = arrange_processes(recordings, choices.most)
     spelling, sets = find_spelling(processes), Sets(processes)
     calls = make_lines(processes, spelling, choices.with_mpi)
@@ -114,8 +127,4 @@ def make_plan(recordings: Sequence[Recording], choices: Choices) -> Plan:
         mpi = summarize(order)
     draft = make_draft(processes, parts)
     refuse_waiting(draft)
-    if draft.count > VERSION_1.calls:
-        shortened = shorten(draft)
-        draft = shortened.draft
-        notes.add(shortened.notes)
     return Plan(choices, processes, spelling, draft, notes, mpi)

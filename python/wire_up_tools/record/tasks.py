@@ -12,12 +12,14 @@ from wire_up_tools.checker import Checker, find_checker
 from wire_up_tools.failures import Refused
 from wire_up_tools.files import STANDARD_OUTPUT, write_whole
 from wire_up_tools.limits import LARGE, VERSION_1
+from wire_up_tools.record.merging import merge_plans
 from wire_up_tools.record.notes import Notes
+from wire_up_tools.record.partings import Run
 from wire_up_tools.record.places import find_call_place, find_places, read_places, write_places
-from wire_up_tools.record.planning import Choices, Plan, make_plan
+from wire_up_tools.record.planning import Choices, Plan, make_plan, make_whole_plan
 from wire_up_tools.record.recordings import Recording, read_recordings
 from wire_up_tools.record.running import BY_SIGNAL, find_libraries, make_environment, run
-from wire_up_tools.record.verdicts import compare_verdicts
+from wire_up_tools.record.verdicts import compare_verdicts, judge_runs
 from wire_up_tools.record.writing import write_answers, write_plan
 
 
@@ -45,10 +47,11 @@ class Output:
 
 @dataclass(frozen=True)
 class FilesRequest:
-    """Asks for the plan of recordings that are there, in files or folders."""
+    """Asks for the plan of recordings that are there, in files or folders: of one run, or of what
+    several runs share."""
 
     output: Output
-    files: Sequence[str]
+    runs: Sequence[Sequence[str]]
 
 
 @dataclass(frozen=True)
@@ -112,18 +115,53 @@ def add_verdicts(plan: Plan, recordings: Sequence[Recording], checker: Checker) 
     return replace(plan, mpi=replace(plan.mpi, verdicts=verdicts))
 
 
+def make_choices(output: Output, path: Optional[str]) -> Choices:
+    """What is taken from recordings, by the checker at a path."""
+    is_large = path is not None and Checker(path).takes_large()
+    return Choices(output.with_mpi, output.is_strict, LARGE if is_large else VERSION_1)
+
+
+def read_run(paths: Sequence[str], choices: Choices) -> Run:
+    """One of several runs, by its files or folders. Raises Refused, OSError."""
+    recordings = read_recordings(paths, choices.most)
+    plan = make_whole_plan(recordings, choices)
+    folders = dict.fromkeys(os.path.dirname(it.path) for it in recordings)
+    return Run(plan, find_places(plan.draft, read_places(folders)))
+
+
+def merge(output: Output, runs: Sequence[Sequence[str]], folder: str) -> None:
+    """Makes and writes the plan of what several runs share, and says where they part, and the
+    verdict. `folder` is that of the command. Raises Refused, OSError."""
+    gc.disable()
+    path = output.checker or find_checker(folder)
+    choices = make_choices(output, path)
+    read = [read_run(it, choices) for it in runs]
+    plan = merge_plans(read)
+    text = write_plan(plan, read[0].places)
+    write_whole(output.plan, text)
+    if output.answers:
+        write_whole(output.answers, write_answers(plan))
+    for parting in plan.partings:
+        say(f"the runs part: {parting}")
+    say_part(plan.notes)
+    if path is not None:
+        checker = Checker(path, choices.most is LARGE)
+        own = [write_plan(it.plan, it.places) for it in read]
+        for verdict in judge_runs(checker, text, own, bool(plan.partings)):
+            say(verdict)
+
+
 def make(output: Output, paths: Sequence[str], folder: str) -> None:
     """Makes and writes the plan of recordings, in files or folders. `folder` is that of the
     command. Raises Refused, OSError."""
     # There is no garbage worth the looks of the collector over millions of records.
     gc.disable()
     path = output.checker or find_checker(folder)
-    is_large = path is not None and Checker(path).takes_large()
-    choices = Choices(output.with_mpi, output.is_strict, LARGE if is_large else VERSION_1)
+    choices = make_choices(output, path)
     recordings = read_recordings(paths, choices.most)
     plan = make_plan(recordings, choices)
     if plan.mpi.left_to_luck and path is not None:
-        plan = add_verdicts(plan, recordings, Checker(path, is_large))
+        plan = add_verdicts(plan, recordings, Checker(path, choices.most is LARGE))
     write_output(plan, recordings, output)
     if plan.mpi.verdicts:
         of_luck = f"which takes nothing from {plan.mpi.left_to_luck} ends of requests"
@@ -169,5 +207,8 @@ def do(asked: Request, folder: str) -> int:
         return say_where(asked)
     if isinstance(asked, CommandRequest):
         return record(asked, folder)
-    make(asked.output, asked.files, folder)
+    if len(asked.runs) > 1:
+        merge(asked.output, asked.runs, folder)
+    else:
+        make(asked.output, asked.runs[0], folder)
     return 0

@@ -17,6 +17,7 @@ from wire_up_tools.words import (
     LEFT_TO_LUCK,
     MORE_ORDERED,
     MPI_COMMENT,
+    PARTED,
     PLACE_COMMENT,
     RECORDED_BY,
     TAKEN,
@@ -79,7 +80,11 @@ def say_words(plan: Plan) -> Iterator[str]:
 def say_mpi(plan: Plan) -> Iterator[str]:
     """What of MPI's order the plan has."""
     mpi, choices = plan.mpi, plan.choices
-    if mpi.message_count or mpi.collective_count:
+    if plan.run_count > 1:
+        yield f"# {plan.run_count} runs: the calls that all made, in the order that all gave them."
+        mark = plan.spelling.mpi_mark
+        yield f"# No call of PMIx made the lines of names that begin with `{mark}`."
+    elif mpi.message_count or mpi.collective_count:
         counts = f"{mpi.message_count} messages and {mpi.collective_count} collectives"
         yield (
             f"# MPI's order: {counts}. "
@@ -102,6 +107,9 @@ def say_mpi(plan: Plan) -> Iterator[str]:
 def say_notes(plan: Plan) -> Iterator[str]:
     """What the plan can't say, in lists."""
     notes = plan.notes
+    if plan.partings:
+        yield f"# {PARTED}"
+        yield from (f"#   {it}" for it in plan.partings)
     lists = (
         (CUT_OFF, notes.cut_off),
         (LEFT_OUT, notes.left_out),

@@ -24,7 +24,8 @@ def find_reasons(plan: Plan) -> list[str]:
     if not plan.is_recorded:
         return []
     cut_off, left_out = say_cut_off(plan), say_left_out(plan)
-    reasons = [cut_off, say_polled(plan), *plan.list_in_head(words.MORE_ORDERED), left_out]
+    ordered = plan.list_in_head(words.MORE_ORDERED)
+    reasons = [say_parted(plan), cut_off, say_polled(plan), *ordered, left_out]
     return [it for it in reasons if it]
 
 
@@ -44,6 +45,12 @@ def say_polled(plan: Plan) -> Optional[str]:
     verdicts = find_verdicts(plan)
     both = f": {verdicts}" if verdicts else ""
     return f"the order of {count_of(count, 'polled request')} is that of this run{both}"
+
+
+def say_parted(plan: Plan) -> Optional[str]:
+    """Where several runs parted."""
+    partings = plan.list_in_head(words.PARTED)
+    return f"the runs part: {'; '.join(partings)}" if partings else None
 
 
 def say_cut_off(plan: Plan) -> Optional[str]:
