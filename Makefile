@@ -35,7 +35,7 @@ try:
 test:
 	@python3 -m build.gate
 
-# Some minutes: whether a change holds water, without a proof.
+# Some minutes: whether a change is sound so far, without a proof.
 quick:
 	@python3 -m build.quick
 

@@ -1,29 +1,30 @@
 -- From what the parts of `check --anywhere` tell to what it tells, and the same with `--same`.
-use Rattle.std.proofs.Common.{◌≡◌, ◌≢◌, ◌∙◌, ◌==◌, ◌↔◌, ◌⊎◌, inl, inr, ap, sym, refl, subst, ℕ, List, [], ◌∷◌, length, arith, Bool, false, true, Option, Result, Ok, Err, IfOk}
-use Rattle.std.proofs.lemmas.Bool.{eqb-true}
+use Rattle.std.proofs.Common.{◌≡◌, ◌≢◌, ◌∙◌, ◌==◌, ◌↔◌, ◌⊎◌, inl, inr, ap, sym, refl, subst, ℕ, zero, suc, ◌<◌, List, [], ◌∷◌, ◌++◌, length, arith, Bool, false, true, Option, Result, Ok, Err, IfOk}
+use Rattle.std.proofs.lemmas.Bool.{cases_eq, eqb-true}
 use Rattle.wire_types.specs.declared.Fault.{Fault}
 use Rattle.wire_types.specs.declared.Form.{Form}
 use Rattle.wire_content.specs.Scripts.{Scripts}
 use Rattle.wire_content.specs.Planned.{plan_of}
-use Rattle.wire_runs.specs.Plan.{Plan}
+use Rattle.wire_runs.specs.Plan.{Plan, Event, process_count, event_count}
 use Rattle.wire_runs.specs.FindingsAnywhere.{Placed, OnAll, OnPair, HasPlaced}
 use Rattle.wire_runs.specs.PlacingLaws.{AnywhereTells}
 use Rattle.wire_runs.specs.Placings.{IsPlacing, IsSettledAnywhere}
-use Rattle.wire_runs.proofs.FindingsAnywhere.{placed_is_found}
+use Rattle.wire_runs.proofs.FindingsAnywhere.{placed_is_found, findings_anywhere}
+use Rattle.wire_findings.specs.Findings.{lower_name}
 use Rattle.wire_runs.proofs.PlainRun.{plain_runs}
 use Rattle.wire_anywhere.specs.declared.placed.PlacedFinding.{PlacedFinding}
 use Rattle.wire_anywhere.specs.Anywhere.{AreFoundAnywhere, all_placed}
 use Rattle.wire_anywhere_report.specs.Differing.{differing_form}
 use Rattle.wire_anywhere_report.specs.Forms.{TellsPlaced}
 use Rattle.wire_differing.specs.declared.Differing.{Differing}
-use Rattle.wire_differing.specs.Differing.{AreDiffering}
+use Rattle.wire_differing.specs.Differing.{IsUntold, IsTold, AreToldTo, AreToldBelow, AreDiffering}
 use Rattle.wire_script.specs.declared.Size.{Size}
 use Rattle.wire_commands.specs.declared.answer.Answer.{Answer}
 use Rattle.wire_commands.specs.declared.ended.Ended.{Ended}
 use Rattle.wire_commands.specs.declared.ended.Ended.TheVariants.{Clean, Found}
 use Rattle.wire_commands.specs.Answer.{ReadIn}
-use Rattle.wire_commands.specs.CheckAnywhere.{IsSettledEverywhere, EachHasOneEnd, IsFoundThere, AreFoundThere, IsJudgedAnywhere, IsVerdictAnywhere, EndsInOneStateAnywhere}
-use Rattle.wire_commands.specs.CheckSame.{TellsDiffering, TellsFindings, IsSameVerdict, IsSameEverywhere}
+use Rattle.wire_commands.specs.CheckAnywhere.{IsSettledEverywhere, EachHasOneEnd, IsFoundThere, AreFoundThere, HasAllFound, IsJudgedAnywhere, IsVerdictAnywhere, EndsInOneStateAnywhere}
+use Rattle.wire_commands.specs.CheckSame.{TellsDiffering, TellsFindings, IsSameVerdict, NoneDiffers, IsSameEverywhere}
 use Rattle.wire_commands.specs.Ending.{ended_of}
 
 -- something is counted where something stands
@@ -47,7 +48,10 @@ each_ends plan settled other is = (plain_runs other).is_the_end (settled other i
 
 found_there : (s : Scripts) (found : List PlacedFinding) → AreFoundAnywhere s found → AreFoundThere (plan_of s) (all_placed (plan_of s) found)
 found_there s found those (OnAll f) has = (placed_is_found (plan_of s) f).on_all ((those.those (OnAll f)).0 has)
-found_there s found those (OnPair f a b) has = (placed_is_found (plan_of s) f).on_pair a b ((those.those (OnPair f a b)).0 has)
+found_there s found those (OnPair f a b) has = λ other is are. (placed_is_found (plan_of s) f).alone a b other is are ((those.those (OnPair f a b)).0 has)
+
+all_found : (s : Scripts) (found : List PlacedFinding) → AreFoundAnywhere s found → HasAllFound (plan_of s) (all_placed (plan_of s) found)
+all_found s found those f other is there = ((findings_anywhere (plan_of s) (lower_name s.names)).findings (all_placed (plan_of s) found) those f).1 (other, is, there)
 
 -- what the findings tell
 pub verdict_so : (form : Form) (name : List ℕ) (rows : List (List ℕ)) (s shown : Scripts) (found : List PlacedFinding) (ended : Ended) (text : List ℕ) → AreFoundAnywhere s found →
@@ -63,6 +67,7 @@ verdict_so form name rows s shown found ended text those law ends same tells =
         settled = (to, from);
         one_end = λ clean. each_ends (plan_of s) (to clean);
         there = found_there s found those;
+        all = all_found s found those;
       };
       tells = subst (λ t. TellsPlaced form name rows t found text) same tells;
     }
@@ -103,6 +108,36 @@ clean_each form name coming s rows text ended Wrote (Ok e) read verdict wrote cl
     record { scripts = s; read = record { bytes = read.bytes; came = read.came; reads = read.reads }; one_end = verdict.judged.one_end (sym wrote.0 ∙ is) }
 clean_each form name coming s rows text ended Wrote (Err e) read verdict wrote clean = let bad : Err e ≡ Ok Clean = clean in absurd (cc)
 
+-- where nothing is told, nothing is told of any event
+both_none : (xs ys : List Differing) → xs ++ ys ≡ [] → (xs ≡ []) × (ys ≡ [])
+both_none [] ys h = (refl, h)
+both_none (x ∷ xs) ys h = absurd (cc)
+
+nothing_told : (plan : Plan) (x : Event) (told : List Differing) → told ≡ [] → IsTold plan x told → IsUntold plan x
+nothing_told plan x told none (inl d) = let bad : d.0 ∷ [] ≡ [] = sym d.2 ∙ none in absurd (cc)
+nothing_told plan x told none (inr u) = u.0
+
+none_to : (plan : Plan) (p n : ℕ) (found : List Differing) → found ≡ [] → AreToldTo plan p n found → (i : ℕ) → i < n → IsUntold plan (record { proc = p; at = i })
+none_to plan p zero found none told i lt = absurd (omega (arith, lt))
+none_to plan p (suc n) found none told i lt =
+    let parts = both_none told.0 told.1 (sym told.4 ∙ none) in
+    elim (cases_eq i n) [
+      | inl s ↦ subst (λ m. IsUntold plan (record { proc = p; at = m })) (sym s) (nothing_told plan (record { proc = p; at = n }) told.1 parts.1 told.3)
+      | inr ne ↦ none_to plan p n told.0 parts.0 told.2 i (omega (arith, lt, ne))
+    ]
+
+none_below : (plan : Plan) (n : ℕ) (found : List Differing) → found ≡ [] → AreToldBelow plan n found → (p : ℕ) → p < n → (i : ℕ) → i < event_count plan p → IsUntold plan (record { proc = p; at = i })
+none_below plan zero found none told p lt i there = absurd (omega (arith, lt))
+none_below plan (suc n) found none told p lt i there =
+    let parts = both_none told.0 told.1 (sym told.4 ∙ none) in
+    elim (cases_eq p n) [
+      | inl s ↦ subst (λ q. (j : ℕ) → j < event_count plan q → IsUntold plan (record { proc = q; at = j })) (sym s) (none_to plan n (event_count plan n) told.1 parts.1 told.3) i there
+      | inr ne ↦ none_below plan n told.0 parts.0 told.2 p (omega (arith, lt, ne)) i there
+    ]
+
+none_differs : (plan : Plan) (found : List Differing) → found ≡ [] → AreDiffering plan found → NoneDiffers plan
+none_differs plan found none told x proc at = none_below plan (process_count plan) found none told x.proc proc x.at at
+
 -- and with `--same`, that besides no reply differs
 same_too : {size : Size} (form : Form) (name : List ℕ) (coming : Option (List ℕ)) (s : Scripts) (rows : List (List ℕ)) (text : List ℕ) (ended : Ended) → ReadIn size form coming s rows →
     IsSameVerdict form name s rows text ended → ended ≡ Clean → IsSameEverywhere size coming
@@ -113,7 +148,7 @@ same_too form name coming s rows text ended read (inr told) clean =
       scripts = s;
       read = record { bytes = read.bytes; came = read.came; reads = read.reads };
       one_end = told.one_end;
-      same = subst (AreDiffering (plan_of s)) none told.those;
+      same = none_differs (plan_of s) told.differing none told.those;
     }
 
 pub clean_same : {size : Size} (form : Form) (name : List ℕ) (coming : Option (List ℕ)) (s : Scripts) (rows : List (List ℕ)) (text : List ℕ) (ended : Ended) (Wrote : Type 0)

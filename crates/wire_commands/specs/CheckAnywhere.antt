@@ -5,10 +5,11 @@ use Rattle.wire_content.specs.Scripts.{Scripts}
 use Rattle.wire_content.specs.Planned.{plan_of}
 use Rattle.wire_runs.specs.Plan.{Plan}
 use Rattle.wire_runs.specs.Races.{IsSettled}
-use Rattle.wire_runs.specs.Findings.{IsFound}
-use Rattle.wire_runs.specs.FindingsAnywhere.{Placed, OnAll, OnPair, HasPlaced}
+use Rattle.wire_runs.specs.Findings.{Finding, IsFound}
+use Rattle.wire_runs.specs.FindingsAnywhere.{Placed, OnAll, OnPair, finding_of, HasPlaced}
 use Rattle.wire_runs.specs.Laws.{HasOneEnd}
-use Rattle.wire_runs.specs.Placings.{IsPlacing, paired}
+use Rattle.wire_runs.specs.PlacingLaws.{AreAlone}
+use Rattle.wire_runs.specs.Placings.{IsPlacing}
 use Rattle.wire_anywhere.specs.declared.placed.PlacedFinding.{PlacedFinding}
 use Rattle.wire_anywhere.specs.Anywhere.{AreFoundAnywhere, all_placed}
 use Rattle.wire_anywhere_report.specs.Forms.{TellsPlaced}
@@ -22,27 +23,34 @@ use Rattle.wire_commands.specs.Plain.{ReadAs}
 abbrev pub IsSettledEverywhere : Plan → Type 0
 IsSettledEverywhere plan = (other : Plan) → IsPlacing plan other → IsSettled other
 
--- on each placing, every interleaving that can't go on ends in one state, the plain run's: the same reply to every call, and the same processes
--- waiting. That state may be another one on another placing
+-- on each placing, every interleaving that can't go on ends in one state, the plain run's: the same reply to every call,
+-- and the same processes waiting. That state may be another one on another placing
 abbrev pub EachHasOneEnd : Plan → Type 0
 EachHasOneEnd plan = (other : Plan) → IsPlacing plan other → HasOneEnd other
 
--- it is a finding where it is said to be one: on each placing, or on that which gives two processes a node of their own
+-- it is a finding where it is said to be one: on each placing, or on each where two processes have a node of their own
 abbrev pub IsFoundThere : Plan → Placed → Type 0
 IsFoundThere plan (OnAll f) = (other : Plan) → IsPlacing plan other → IsFound other f
-IsFoundThere plan (OnPair f a b) = IsFound (paired plan a b) f
+IsFoundThere plan (OnPair f a b) = (other : Plan) → IsPlacing plan other → AreAlone other a b → IsFound other f
 
 abbrev pub AreFoundThere : Plan → List Placed → Type 0
 AreFoundThere plan found = (f : Placed) → HasPlaced found f → IsFoundThere plan f
 
--- these are the findings of all placings of the scripts' plan, and it ends so: clean exactly where there is nothing to find on any of them, and
--- then each has one end. And each of them is a finding where it is said to be one
+-- whatever is found on a placing is among these
+abbrev pub HasAllFound : Plan → List Placed → Type 0
+HasAllFound plan found =
+    (f : Finding) (other : Plan) → IsPlacing plan other → IsFound other f → (g : Placed) × HasPlaced found g × (finding_of g ≡ f)
+
+-- these are the findings of all placings of the scripts' plan, and it ends so: clean exactly where there is nothing to
+-- find on any of them, and then each has one end. Each of them is a finding where it is said to be one, and all that is
+-- found on some placing is among them
 pub record IsJudgedAnywhere (scripts : Scripts) (found : List PlacedFinding) (ended : Ended) : Type 0 where
   pub those : AreFoundAnywhere scripts found
   pub ends : ended ≡ ended_of (length found)
   pub settled : (ended ≡ Clean) ↔ IsSettledEverywhere (plan_of scripts)
   pub one_end : ended ≡ Clean → EachHasOneEnd (plan_of scripts)
   pub there : AreFoundThere (plan_of scripts) (all_placed (plan_of scripts) found)
+  pub all : HasAllFound (plan_of scripts) (all_placed (plan_of scripts) found)
 
 -- the text of all findings of all placements, and how a check of them ends
 pub record IsVerdictAnywhere (form : Form) (name : List ℕ) (scripts : Scripts) (rows : List (List ℕ)) (text : List ℕ) (ended : Ended) : Type 0 where
