@@ -1,11 +1,13 @@
 -- From what the parts of `check --anywhere` tell to what it tells, and the same with `--same`.
-use Rattle.std.proofs.Common.{◌≡◌, ◌≢◌, ◌∙◌, ◌==◌, ◌↔◌, ◌⊎◌, inl, inr, ap, sym, refl, subst, ℕ, zero, suc, ◌<◌, List, [], ◌∷◌, ◌++◌, length, arith, Bool, false, true, Option, Result, Ok, Err, IfOk}
+use Rattle.std.proofs.Common.{◌≡◌, ◌≢◌, ◌∙◌, ◌==◌, ◌↔◌, ◌⊎◌, inl, inr, ap, sym, refl, subst, ℕ, zero, suc, ◌<◌, List, [], ◌∷◌, ◌++◌, length, arith, Bool, false, true, Option, Some, None, Result, Ok, Err, IfOk}
+use Rattle.std.specs.Prelude.{option_to_list}
 use Rattle.std.proofs.lemmas.Bool.{cases_eq, eqb-true}
 use Rattle.wire_types.specs.declared.Fault.{Fault}
 use Rattle.wire_types.specs.declared.Form.{Form}
 use Rattle.wire_content.specs.Scripts.{Scripts}
 use Rattle.wire_content.specs.Planned.{plan_of}
-use Rattle.wire_runs.specs.Plan.{Plan, Event, process_count, event_count}
+use Rattle.wire_runs.specs.Plan.{Plan, Event, process_count}
+use Rattle.wire_runs.specs.Laws.{plain_end}
 use Rattle.wire_runs.specs.FindingsAnywhere.{Placed, OnAll, OnPair, HasPlaced}
 use Rattle.wire_runs.specs.PlacingLaws.{AnywhereTells}
 use Rattle.wire_runs.specs.Placings.{IsPlacing, IsSettledAnywhere}
@@ -17,7 +19,7 @@ use Rattle.wire_anywhere.specs.Anywhere.{AreFoundAnywhere, all_placed}
 use Rattle.wire_anywhere_report.specs.Differing.{differing_form}
 use Rattle.wire_anywhere_report.specs.Forms.{TellsPlaced}
 use Rattle.wire_differing.specs.declared.Differing.{Differing}
-use Rattle.wire_differing.specs.Differing.{IsUntold, IsTold, AreToldTo, AreToldBelow, AreDiffering}
+use Rattle.wire_differing.specs.Differing.{IsUntold, IsToldBy, AreToldTo, AreToldBelow, AreDiffering}
 use Rattle.wire_script.specs.declared.Size.{Size}
 use Rattle.wire_commands.specs.declared.answer.Answer.{Answer}
 use Rattle.wire_commands.specs.declared.ended.Ended.{Ended}
@@ -113,25 +115,27 @@ both_none : (xs ys : List Differing) → xs ++ ys ≡ [] → (xs ≡ []) × (ys 
 both_none [] ys h = (refl, h)
 both_none (x ∷ xs) ys h = absurd (cc)
 
-nothing_told : (plan : Plan) (x : Event) (told : List Differing) → told ≡ [] → IsTold plan x told → IsUntold plan x
-nothing_told plan x told none (inl d) = let bad : d.0 ∷ [] ≡ [] = sym d.2 ∙ none in absurd (cc)
-nothing_told plan x told none (inr u) = u.0
+nothing_told : (plan : Plan) (x : Event) (told : Option Differing) → option_to_list told ≡ [] → IsToldBy plan x told → IsUntold plan x
+nothing_told plan x None none t = t
+nothing_told plan x (Some d) none t = absurd (cc)
 
 none_to : (plan : Plan) (p n : ℕ) (found : List Differing) → found ≡ [] → AreToldTo plan p n found → (i : ℕ) → i < n → IsUntold plan (record { proc = p; at = i })
 none_to plan p zero found none told i lt = absurd (omega (arith, lt))
 none_to plan p (suc n) found none told i lt =
-    let parts = both_none told.0 told.1 (sym told.4 ∙ none) in
+    let parts = both_none told.0 (option_to_list told.1) (sym told.4 ∙ none) in
     elim (cases_eq i n) [
       | inl s ↦ subst (λ m. IsUntold plan (record { proc = p; at = m })) (sym s) (nothing_told plan (record { proc = p; at = n }) told.1 parts.1 told.3)
       | inr ne ↦ none_to plan p n told.0 parts.0 told.2 i (omega (arith, lt, ne))
     ]
 
-none_below : (plan : Plan) (n : ℕ) (found : List Differing) → found ≡ [] → AreToldBelow plan n found → (p : ℕ) → p < n → (i : ℕ) → i < event_count plan p → IsUntold plan (record { proc = p; at = i })
+none_below : (plan : Plan) (n : ℕ) (found : List Differing) → found ≡ [] → AreToldBelow plan n found → (p : ℕ) → p < n → (i : ℕ) → i < (plain_end plan).done p →
+    IsUntold plan (record { proc = p; at = i })
 none_below plan zero found none told p lt i there = absurd (omega (arith, lt))
 none_below plan (suc n) found none told p lt i there =
     let parts = both_none told.0 told.1 (sym told.4 ∙ none) in
     elim (cases_eq p n) [
-      | inl s ↦ subst (λ q. (j : ℕ) → j < event_count plan q → IsUntold plan (record { proc = q; at = j })) (sym s) (none_to plan n (event_count plan n) told.1 parts.1 told.3) i there
+      | inl s ↦ subst (λ q. (j : ℕ) → j < (plain_end plan).done q → IsUntold plan (record { proc = q; at = j })) (sym s)
+          (none_to plan n ((plain_end plan).done n) told.1 parts.1 told.3) i there
       | inr ne ↦ none_below plan n told.0 parts.0 told.2 p (omega (arith, lt, ne)) i there
     ]
 

@@ -5,7 +5,8 @@ use Rattle.wire_types.specs.declared.Form.{Form}
 use Rattle.wire_content.specs.Scripts.{Scripts}
 use Rattle.wire_content.specs.Planned.{plan_of}
 use Rattle.wire_differing.specs.declared.Differing.{Differing}
-use Rattle.wire_runs.specs.Plan.{Plan, Event, process_count, event_count}
+use Rattle.wire_runs.specs.Plan.{Plan, Event, process_count}
+use Rattle.wire_runs.specs.Laws.{plain_end}
 use Rattle.wire_differing.specs.Differing.{IsUntold, AreDiffering}
 use Rattle.wire_anywhere_report.specs.Differing.{differing_form}
 use Rattle.wire_script.specs.declared.Size.{Size}
@@ -32,9 +33,9 @@ pub record TellsFindings (form : Form) (name : List ℕ) (scripts : Scripts) (ro
 abbrev pub IsSameVerdict : Form → List ℕ → Scripts → List (List ℕ) → List ℕ → Ended → Type 0
 IsSameVerdict form name scripts rows text ended = TellsFindings form name scripts rows text ended ⊎ TellsDiffering form name scripts rows text ended
 
--- each event isn't answered, or is a call of a reserved key or name, or replies the same on every placing
+-- each event that comes in the plain run is a call of a reserved key or name, or replies the same on every placing
 abbrev pub NoneDiffers : Plan → Type 0
-NoneDiffers plan = (x : Event) → x.proc < process_count plan → x.at < event_count plan x.proc → IsUntold plan x
+NoneDiffers plan = (x : Event) → x.proc < process_count plan → x.at < (plain_end plan).done x.proc → IsUntold plan x
 
 -- what was to come read as scripts, each placing of their plan has one end, and each answered call replies the same on
 -- all of them, calls of reserved keys and names aside
