@@ -39,6 +39,8 @@ QUESTION = ("why", "app:0", "1", "app:255", "1")
 # What is timed of all files.
 COMMANDS = (
     ("check",),
+    ("check", "--anywhere"),
+    ("check", "--anywhere", "--same"),
     ("replay",),
     ("replay", "--workers", "2"),
     ("replay", "--workers", "4"),

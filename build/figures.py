@@ -28,6 +28,9 @@ RUNS, LARGE_RUNS = 5, 2
 SMALL_RANKS, SMALL_ROUNDS = 4, 6
 # The ranks of which the cards are reported, each of which asks for those of all others.
 CARDS = 2_000
+# What is measured of each plan, `replay` last.
+COMMANDS = (("check",), ("check", "--anywhere"), ("check", "--anywhere", "--same"), ("replay",))
+PLACEMENTS = "`--anywhere`, s", "and `--same`, s"
 # The ranks up to which a replay is measured: it takes the square of them in memory, 2 GiB for so
 # many.
 MOST_REPLAYED = 16_384
@@ -48,6 +51,9 @@ class Measured:
     calls: int
     findings: int
     check: Taken
+    # On every placement, and with the replies that differ.
+    anywhere: Taken
+    same: Taken
     # None where a replay would take more memory than most machines have.
     replay: Taken | None
 
@@ -61,17 +67,20 @@ class Figures:
     def measure(
         self, name: str, what: str, pieces: Iterable[str], runs: int, *, is_replayed: bool = True
     ) -> Measured:
-        """Measures `check`, and `replay` where that is asked, of a plan of this text."""
+        """Measures `check` in its forms, and `replay` where that is asked, of a plan of this
+        text."""
         path, calls = os.path.join(self.room, "measured.plan"), 0
         with open(path, "w", encoding="ascii") as it:
             for piece in pieces:
                 it.write(piece)
                 calls += sum(not line.startswith(NO_CALLS) for line in piece.splitlines())
-        commands = ("check", "replay") if is_replayed else ("check",)
-        words = [[self.program, command, "--large", path] for command in commands]
-        check, *replay = best_of(1 if self.is_small else runs, [Command(it) for it in words])
+        commands = COMMANDS if is_replayed else COMMANDS[:-1]
+        words = [[self.program, *command, "--large", path] for command in commands]
+        taken = best_of(1 if self.is_small else runs, [Command(it) for it in words])
+        check, anywhere, same = taken[:3]
         findings = findings_in([self.program, "check", "--large", path])
-        return Measured(name, what, calls, findings, check, replay[0] if replay else None)
+        replay = taken[-1] if is_replayed else None
+        return Measured(name, what, calls, findings, check, anywhere, same, replay)
 
     def near_the_limits(self) -> Iterator[Measured]:
         """Plans near the limits of the versions."""
@@ -120,6 +129,8 @@ def rows_of(measured: Iterable[Measured], least: int) -> Iterator[list[str]]:
             f"{it.findings:,}",
             seconds(it.check),
             mebibytes(it.check, least),
+            seconds(it.anywhere),
+            seconds(it.same),
             *(replayed(it.replay, least) if it.replay else ("-", "-")),
         ]
 
@@ -181,7 +192,7 @@ def last_gate() -> str:
 
 def page(figures: Figures) -> str:
     """The whole page."""
-    heads = "plan", "calls", "findings", "check, s", "MiB", "replay, s", "MiB"
+    heads = "plan", "calls", "findings", "check, s", "MiB", *PLACEMENTS, "replay, s", "MiB"
     least, today = floor(), datetime.date.today().isoformat()
     near = table(heads, rows_of(figures.near_the_limits(), least))
     large = table(heads, rows_of(figures.of_machines(), least))
@@ -193,8 +204,8 @@ def page(figures: Figures) -> str:
 `make figures` made this page on {today}{commit()}, on {machine()}. Each time is the least of
 {RUNS} runs ({LARGE_RUNS} for whole machines), with the start of the process in it and the output
 thrown away. MiB is the greatest resident size. With findings `replay` writes these, and runs
-nothing. It takes the square of the ranks in memory, so of more than {MOST_REPLAYED:,} ranks only
-`check` is measured.
+nothing, and `check --anywhere --same` the findings alone. A replay takes the square of the ranks
+in memory, so of more than {MOST_REPLAYED:,} ranks only `check` is measured.
 
 ## Plans near the limits
 
