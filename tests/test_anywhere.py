@@ -1,16 +1,27 @@
 """`check --anywhere` of random plans of up to five ranks, held to `check` and `replay` of all their
 placements; and each race that it names, held to `check` and `witness` of the placement that `place`
-writes."""
+writes. And what the recorder says of other placements."""
+import os
 import random
 import subprocess
 import unittest
 
 import everywhere
 import grammar
+import support
 from random_plans import MeetingMaker
 from running import SECONDS, ProgramCase
+from wire_up_tools.checker import Checker
+from wire_up_tools.record.verdicts import judge_placements
 
-PLANS, MOST_RANKS = 30, 5
+PLANS, MOST_RANKS = 100, 5
+# What is found on other placements alone, of examples.
+ELSEWHERE = {
+    "two-jobs": "findings 0 on the nodes of this run, and findings 1 on other placements of its "
+    "ranks",
+    "early-get": None,
+    "standstill": None,
+}
 
 
 def small_plans(count: int) -> list[grammar.Scripts]:
@@ -64,6 +75,13 @@ class Anywhere(ProgramCase):
                         words = ["witness", *race.split(" ")[1:5]]
                         self.assertNotIn(b"no race", self.answer(words, placed))
         self.assertGreater(races, PLANS // 4)
+
+    def test_recorder(self) -> None:
+        """The recorder says what is found on other placements alone."""
+        for name, said in ELSEWHERE.items():
+            path = os.path.join(support.TOP, "examples", f"{name}.plan")
+            with self.subTest(name), open(path, encoding="ascii") as it:
+                self.assertEqual(said, judge_placements(Checker(self.program), it.read()))
 
 
 if __name__ == "__main__":

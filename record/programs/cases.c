@@ -3,10 +3,8 @@
  *   wild1, wild2      a receive from any source, of which 1 or 2 is the slower sender: a race, whoever sleeps
  *   poll              a poll that succeeds, for luck: a race that only --strict shows
  *   probe, matched, later, split, window, duplicate, epoch, inter, merged, jump
- *                     ordered by a probe, a matched probe, a collective that doesn't block, by calls that make a communicator or a window,
- *                     by a communicator that a call which doesn't block made, by an epoch of a window, by communicators of two groups, and
- *                     by a message after a jump out of MPI: no race
- *   tags              a tag for each message, received from any source
+ *                     no race: ordered by a probe, a matched probe, a collective that doesn't block, a communicator or a window that is made,
+ *                     an epoch of a window, a message after a jump out of MPI; tags: a tag for each message, received from any source
  *   limit             the recording gets no more room than it has when the first message is sent
  *   sleep             takes six seconds; many and toomany: each process publishes 100 names, or 5000, and takes each away at once
  */

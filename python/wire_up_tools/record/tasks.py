@@ -19,7 +19,7 @@ from wire_up_tools.record.places import find_call_place, find_places, read_place
 from wire_up_tools.record.planning import Choices, Plan, make_plan, make_whole_plan
 from wire_up_tools.record.recordings import Recording, read_recordings
 from wire_up_tools.record.running import BY_SIGNAL, find_libraries, make_environment, run
-from wire_up_tools.record.verdicts import compare_verdicts, judge_runs
+from wire_up_tools.record.verdicts import compare_verdicts, judge_placements, judge_runs
 from wire_up_tools.record.writing import write_answers, write_plan
 
 
@@ -93,8 +93,9 @@ def say_part(notes: Notes) -> None:
             say(f"{before}{in_part}: {count_notes(noted)}")
 
 
-def write_output(plan: Plan, recordings: Sequence[Recording], output: Output) -> None:
-    """Writes a plan, and what is asked for besides. Raises Refused, OSError."""
+def write_output(plan: Plan, recordings: Sequence[Recording], output: Output) -> str:
+    """Writes a plan, and what is asked for besides. Answers the text of the plan. Raises Refused,
+    OSError."""
     folders = dict.fromkeys(os.path.dirname(it.path) for it in recordings)
     places = find_places(plan.draft, read_places(folders))
     if output.kept:
@@ -104,6 +105,14 @@ def write_output(plan: Plan, recordings: Sequence[Recording], output: Output) ->
     if output.answers:
         write_whole(output.answers, answers)
     say_part(plan.notes)
+    return text
+
+
+def say_placements(checker: Checker, text: str) -> None:
+    """Says what is found on other placements of the ranks alone, if anything is."""
+    found = judge_placements(checker, text)
+    if found:
+        say(f"{found}: wire_up check --anywhere names them")
 
 
 def add_verdicts(plan: Plan, recordings: Sequence[Recording], checker: Checker) -> Plan:
@@ -149,6 +158,7 @@ def merge(output: Output, runs: Sequence[Sequence[str]], folder: str) -> None:
         own = [write_plan(it.plan, it.places) for it in read]
         for verdict in judge_runs(checker, text, own, bool(plan.partings)):
             say(verdict)
+        say_placements(checker, text)
 
 
 def make(output: Output, paths: Sequence[str], folder: str) -> None:
@@ -162,10 +172,12 @@ def make(output: Output, paths: Sequence[str], folder: str) -> None:
     plan = make_plan(recordings, choices)
     if plan.mpi.left_to_luck and path is not None:
         plan = add_verdicts(plan, recordings, Checker(path, choices.most is LARGE))
-    write_output(plan, recordings, output)
+    text = write_output(plan, recordings, output)
     if plan.mpi.verdicts:
         of_luck = f"which takes nothing from {plan.mpi.left_to_luck} ends of requests"
         say(f"{plan.mpi.verdicts}, {of_luck}")
+    if path is not None:
+        say_placements(Checker(path, choices.most is LARGE), text)
 
 
 def make_folder(output: Output) -> str:
