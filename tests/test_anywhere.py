@@ -35,7 +35,8 @@ def small_plans(count: int) -> list[grammar.Scripts]:
             scripts = grammar.read(b"".join(b" ".join(it) + b"\n" for it in lines))
         except grammar.Refused:
             continue
-        if 1 < len(scripts.procs) <= MOST_RANKS and not scripts.procs[0].job.startswith(b"-"):
+        is_word = not any(it.job.startswith(b"-") for it in scripts.procs)
+        if 1 < len(scripts.procs) <= MOST_RANKS and is_word:
             found.append(scripts)
     return found
 

@@ -112,7 +112,7 @@ def make_report(path: str, asker: Asker) -> Report:
 
     Raises Refused where the checker can't be run, refuses the plan, or isn't `wire_up`.
     """
-    version, plan = asker.version(), read_plan(asker.data)
+    version, plan = asker.version(), read_taken(asker)
     start = time.monotonic()
     groups = find_groups(asker, plan)
     search, order = begin_search(asker, time.monotonic() - start), find_order(plan)
@@ -123,6 +123,16 @@ def make_report(path: str, asker: Asker) -> Report:
         return Report(path, version, order, wire_up=wire_up, elsewhere=elsewhere)
     details = [find_detail(search, order, it) for it in causes[:CAUSES]]
     return Report(path, version, order, causes, details, elsewhere=elsewhere)
+
+
+def read_taken(asker: Asker) -> Plan:
+    """The plan. One that can't be read is one that the checker refuses: raises Refused then."""
+    try:
+        return read_plan(asker.data)
+    except (LookupError, ValueError):
+        answer = asker.ask("check")
+        asker.judge(answer.status, answer.stderr)
+        raise
 
 
 def find_detail(search: Search, order: Order, cause: Cause) -> Detail:
