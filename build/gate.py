@@ -38,9 +38,8 @@ from build.progress import Progress
 
 # What users and tests run, of what `rt ci` builds in the copy.
 KEPT = (BUILT, PARTS)
-# Minutes of processor time: for the 30 crates that there were when it was set, which are 32 since
-# two of them were cut in two, and for each further one.
-BUDGET, FOR_EACH, WERE = 110, 4, 32
+# The minutes of processor time that a gate may take, with all proofs from nothing.
+BUDGET = 160
 
 
 class Copied(io.StringIO):
@@ -171,11 +170,10 @@ def tell_costs(gate: Gate) -> None:
     """Prints what the gate cost, and keeps it in a file."""
     crates = crate_list.names_below(None)
     told = gate.watch.report(crates, gate.seconds)
-    budget = BUDGET + FOR_EACH * (len(crates) - WERE)
     with open(os.path.join(LOGS, "gate-costs.md"), "w", encoding="utf-8") as it:
         it.write(f"{told}\n")
     print(
-        f"{told} The budget is {budget}: more is a reason to look, and no failure, as machines"
+        f"{told} The budget is {BUDGET}: more is a reason to look, and no failure, as machines"
         " differ (`python3 -m build.speed` says by how much).",
         flush=True,
     )
