@@ -258,9 +258,9 @@ plain_reply plan x = slice_get ((plain_end plan).replies x.proc) x.at
 abbrev pub RepliesAlike : Plan → Event → Type 0
 RepliesAlike plan x = (other : Plan) → IsPlacing plan other → plain_reply other x ≡ plain_reply plan x
 
--- which calls reply the same on every placing. A get of another's key does exactly where the put is for all nodes. So
--- does a get-now of one that is committed before it, if besides its own process surely has the key by then; and any
--- other get-now. All other calls do, but for calls of reserved keys and names
+-- which calls reply the same on every placing. A get of another's key does exactly where the put is for all nodes. A
+-- get-now of a key that is committed before it does exactly where the put is for all nodes and its own process surely
+-- has the key by then; any other get-now does. All other calls do, but for calls of reserved keys and names
 pub record RepliesTell (plan : Plan) : Type 0 where
   pub get : (x : Event) (p key put : ℕ) → kind plan x ≡ Some (Get p key) → x.proc ≢ p
       → is_some (plain_reply plan x) ≡ true

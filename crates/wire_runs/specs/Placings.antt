@@ -38,8 +38,7 @@ abbrev pub TakesPart : Delivery → ℕ → Type 0
 TakesPart (ByFence members j) m = is_member members m ≡ true
 TakesPart (ByGet get) m = get.proc ≡ m
 
--- the delivery brings p's key to the node of m, another process, wherever that is, but to p's own node; all its events
--- are live
+-- the delivery brings p's key to the node of m, another process, unless that is p's own node; all its events are live
 pub record Carries (plan : Plan) (p key m : ℕ) (delivery : Delivery) : Type 0 where
   pub another : m ≢ p
   pub takes_part : TakesPart delivery m

@@ -68,8 +68,8 @@ pub fn placing_tells()
     ensures { PlacingTells }
 {}
 
-/// Of a family of placings that with two processes on one node has them there alone too: all are settled
-/// exactly where the plan has no finding of theirs.
+/// Of a family of placings which, with two processes on one node, also has them there alone: all are settled
+/// exactly where the plan has no race between processes that share a node in one of them.
 pub fn family_tells()
     ensures { FamilyTells }
 {}
