@@ -13,7 +13,7 @@ plans (model.py).
   writes.
 - `place` writes the canonical text that the second reader has, with some ranks on one node and all
   others on another.
-- Of a plan of at most 4 ranks, `check --anywhere --same` writes what `check` and `replay` of all
+- Of a plan of at most 5 ranks, `check --anywhere --same` writes what `check` and `replay` of all
   placements of its ranks make of it.
 - Without findings `replay` writes the same with 1, 2, 7 and 64 workers, its JSON form says the
   same, and so does the report of a random complete order. With findings it writes those that
@@ -50,7 +50,7 @@ SECONDS = 10
 # Longer files aren't handed over one byte at a time, and no complete order of theirs is looked for.
 MOST_BYTES, MOST_STEPS = 4_000, 24
 # Longer plans aren't held to the model, and plans of more ranks not to all their placements.
-MOST_EVENTS, MOST_RANKS = 60, 4
+MOST_EVENTS, MOST_RANKS = 60, 5
 WORKERS = (1, 2, 7, 64)
 FAULT = re.compile(rb"wire_up: fault (\d+) (\w+)( \d+)?\n")
 FAILED_CALL = re.compile(rb"wire_up: \S+:\d+ \d+ [a-z-]+ (?:[A-Z_]+|waiting|unreached)\n")
