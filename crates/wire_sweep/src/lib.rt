@@ -1,0 +1,7 @@
+//! One verdict for every number of processes: all instances of a pattern with few processes of each role are judged, on
+//! all placements.
+#![tactic(auto)]
+
+mod sizes;
+
+pub use sizes::{all_sizes, most_of};
