@@ -1,0 +1,5 @@
+pub mod Shown
+pub mod Nodes
+pub mod Tables
+pub mod Written
+pub mod Faults

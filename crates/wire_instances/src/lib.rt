@@ -1,0 +1,16 @@
+//! The instances of a pattern, as texts of plans.
+#![tactic(auto)]
+
+mod calls;
+mod cast;
+mod frame;
+mod nodes;
+mod numbers;
+mod tables;
+mod text;
+mod words;
+
+pub use cast::{Cast, Choice, Nodes, Turn, is_cast, process_total};
+pub use nodes::{all_alone, dealt, paired, per_node};
+pub use numbers::{instance_lines, pattern_fault};
+pub use text::write_instance;
