@@ -1,1 +1,4 @@
 pub mod SmallOrdered
+pub mod NumbersBack
+pub mod SameCalls
+pub mod MoreTurns

@@ -9,7 +9,7 @@ use Rattle.wire_runs.specs.Restrictions.{skip, without, restricted, CanGo}
 use Rattle.wire_runs.proofs.WholeSets.{filter_length, rises_group, single_stays}
 use Rattle.wire_runs.proofs.Skip.{group_skip, without_get}
 use Rattle.wire_runs.proofs.SmallInstances.{fewer_settle}
-use Rattle.wire_pattern_laws.specs.Ordered.{DontFall, IsInOrder, HasLeast, HasMost, AllowThree, SmallOnesAreSettled, OrderedSuffice}
+use Rattle.wire_pattern_laws.specs.Ordered.{DontFall, IsInOrder, HasLeast, AllowThree, SmallOnesAreSettled, OrderedSuffice}
 
 -- sizes of lists and groups with one left out
 length_map : (f : ℕ → ℕ) (xs : List ℕ) → length (map f xs) ≡ length xs

@@ -1,1 +1,3 @@
 pub mod Ordered
+pub mod Renumberings
+pub mod Fuller
