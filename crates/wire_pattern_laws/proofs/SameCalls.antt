@@ -139,7 +139,7 @@ module _ (coding : Coding) (cast other : Cast) (same : other.roles ≡ cast.role
   step_same i (Loop role Round lines) asked = loop_same coding cast other same v lines _ ∙ ap (loop_calls coding cast v lines) (round_same coding cast other same v i role)
   step_same i (Loop role Chosen lines) asked = loop_same coding cast other same v lines _ ∙ ap (loop_calls coding cast v lines) (chosen_same i role lines asked)
 
-  calls_same : (i : ℕ) (steps : List Step) → AskedFrom cast v SameTurn i steps → calls_from coding other v i steps ≡ calls_from coding cast v i steps
+  pub calls_same : (i : ℕ) (steps : List Step) → AskedFrom cast v SameTurn i steps → calls_from coding other v i steps ≡ calls_from coding cast v i steps
   calls_same i [] asked = refl
   calls_same i (step ∷ steps) asked =
       ap (λ cs. cs ++ calls_from coding other v (suc i) steps) (step_same i step asked.0) ∙ ap (λ cs. step_calls coding cast v i step ++ cs) (calls_same (suc i) steps asked.1)

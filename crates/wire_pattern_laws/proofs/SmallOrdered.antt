@@ -16,7 +16,7 @@ length_map : (f : ℕ → ℕ) (xs : List ℕ) → length (map f xs) ≡ length 
 length_map f [] = refl
 length_map f (x ∷ xs) = ap suc (length_map f xs)
 
-without_length : (r role : ℕ) (roles : List ℕ) → slice_get roles r ≡ Some role → suc (length (without r roles)) ≡ length roles
+pub without_length : (r role : ℕ) (roles : List ℕ) → slice_get roles r ≡ Some role → suc (length (without r roles)) ≡ length roles
 without_length r role [] is = absurd (none-some role is)
 without_length zero role (x ∷ xs) is = refl
 without_length (suc r) role (x ∷ xs) is = ap suc (without_length r role xs is)
@@ -60,7 +60,7 @@ restricted_order bound r cast o = record {
 module _ (pattern : Pattern) (coding : Coding) (bound : ℕ) (least most : ℕ → ℕ) (lawful : IsLawful pattern) (allow : AllowThree bound least most)
     (small : SmallOnesAreSettled pattern coding bound least most) where
   -- a role with more than its most, or none
-  look : (cast : Cast) (n : ℕ) → n ≤ bound → ((role : ℕ) × (role < bound) × (most role < length (group role cast.roles))) ⊎ ((role : ℕ) → role < n → length (group role cast.roles) ≤ most role)
+  pub look : (cast : Cast) (n : ℕ) → n ≤ bound → ((role : ℕ) × (role < bound) × (most role < length (group role cast.roles))) ⊎ ((role : ℕ) → role < n → length (group role cast.roles) ≤ most role)
   look cast zero le = inr (λ role lt. absurd (omega (arith, lt)))
   look cast (suc n) le = elim (cases_lt (most n) (length (group n cast.roles))) [
     | inl more ↦ inl (n, omega (arith, le), more)
@@ -73,10 +73,10 @@ module _ (pattern : Pattern) (coding : Coding) (bound : ℕ) (least most : ℕ �
     ]
   ]
 
-  fewer_cast : (cast : Cast) (r role : ℕ) → CanGo pattern cast r role → IsCastOf pattern (restricted r cast)
+  pub fewer_cast : (cast : Cast) (r role : ℕ) → CanGo pattern cast r role → IsCastOf pattern (restricted r cast)
   fewer_cast cast r role can = record { only = λ other single. (let s = single_stays pattern cast r role can other single in (s.0, s.1)) }
 
-  enough_left : (cast : Cast) (r role : ℕ) → slice_get cast.roles r ≡ Some role → role < bound → most role < length (group role cast.roles) → HasLeast bound least cast
+  pub enough_left : (cast : Cast) (r role : ℕ) → slice_get cast.roles r ≡ Some role → role < bound → most role < length (group role cast.roles) → HasLeast bound least cast
       → HasLeast bound least (restricted r cast)
   enough_left cast r role is lt more has other lo = elim (cases_eq role other) [
     | inl s ↦ subst (λ v. least v ≤ length (group v (without r cast.roles))) s (let a = one_fewer role r cast.roles in let b = (allow role lt).1 in omega (arith, a, b, more))

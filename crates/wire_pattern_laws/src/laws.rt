@@ -5,6 +5,7 @@ ghost use Rattle.wire_pattern_laws.specs.Fuller.{ReadsWhole, SameInstance};
 ghost use Rattle.wire_pattern_laws.specs.Ordered.{OrderedSuffice};
 ghost use Rattle.wire_pattern_laws.specs.Renumberings.{RenumberingTurns, RenumberedBoth, RenumberedKinds};
 ghost use Rattle.wire_pattern_laws.specs.Renumberings.{RenumberedIs, SettledByPlacing};
+ghost use Rattle.wire_pattern_laws.specs.SmallReplies.{StatusesOfSmall};
 
 /// Where each instance with at most three ranks of each role is settled, whose ranks are in the order of their
 /// roles, each instance in that order is, with any number of ranks.
@@ -45,4 +46,10 @@ pub fn reads_whole()
 /// Instances with the same roles and nodes and the same turns of optional loops are one plan.
 pub fn same_instance()
     ensures { SameInstance }
+{}
+
+/// Where the small instances are settled: with whatever status a get-now is answered in an instance of any size, a
+/// get-now of the same line is to be answered in a small one.
+pub fn statuses_of_small()
+    ensures { StatusesOfSmall }
 {}
