@@ -1,0 +1,10 @@
+pub mod SmallOrdered
+pub mod NumbersBack
+pub mod SameCalls
+pub mod MoreTurns
+pub mod FindsByOrder
+pub mod FindsBack
+pub mod OneFewer
+pub mod KeptLines
+pub mod FindsOnPairs
+pub mod SmallFinds

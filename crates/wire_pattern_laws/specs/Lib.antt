@@ -1,0 +1,5 @@
+pub mod Ordered
+pub mod Renumberings
+pub mod Fuller
+pub mod Lines
+pub mod SmallReplies
