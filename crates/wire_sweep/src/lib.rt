@@ -2,6 +2,10 @@
 //! all placements.
 #![tactic(auto)]
 
+mod choices;
+mod counterexample;
+mod judge;
 mod sizes;
 
+pub use counterexample::Counterexample;
 pub use sizes::{all_sizes, most_of};

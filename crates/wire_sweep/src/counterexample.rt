@@ -1,0 +1,85 @@
+//! The counterexample: an instance with its findings, on the first placement that has some.
+
+ghost use Rattle.std.specs.Prelude.{◌≡◌, ◌⊎◌, ◌<◌, ◌^◌, Ok, IfOk, IfErr, IfSome, OnOk, map};
+ghost use Rattle.wire_types.specs.declared.Fault.TheVariants.{Memory};
+ghost use Rattle.wire_script.specs.declared.Size.TheVariants.{OfVersion};
+ghost use Rattle.wire_script.specs.Reads.{Reads};
+ghost use Rattle.wire_findings.specs.Findings.{AreFindings};
+ghost use Rattle.wire_pattern.specs.Instances.{IsCast, instance_text, process_count};
+ghost use Rattle.wire_instances.specs.Nodes.{AreNodes};
+ghost use Rattle.wire_instances.specs.Shown.{cast_by};
+ghost use Rattle.wire_sweep.specs.Judged.{IsInstanceFault, IsFoundIn};
+
+use crate::judge::instance_scripts;
+use std::alloc::Global;
+use std::thread::Threads;
+use wire_content::Scripts;
+use wire_findings::Finding;
+use wire_instances::{Cast, Nodes, all_alone, paired};
+use wire_marks::Marks;
+use wire_pattern::Pattern;
+use wire_plan::Plan;
+use wire_races::findings;
+use wire_types::Fault;
+
+/// An instance with findings: the text of its plan, what that reads as, and all its findings.
+pub struct Counterexample {
+    pub cast: Cast,
+    pub text: Vec<u8>,
+    pub plan: Plan,
+    pub findings: Vec<Finding>,
+}
+
+// By hand and not derived: so dropping one is a call, and the proof of a function that drops one doesn't take it apart.
+impl Drop for Counterexample {
+    fn drop(self) {
+        let Counterexample {
+            cast: _,
+            text: _,
+            plan: _,
+            findings: _,
+        } = self;
+    }
+}
+
+/// All findings of a plan.
+fn find_all(rt: &(impl Threads + Sync), alloc: Global, plan: &Plan) -> Result<Vec<Finding>, Fault>
+    ensures ok { IfOk result (λ found. AreFindings plan.now found.items) }
+    ensures err { IfErr result (λ e. e ≡ Memory) }
+{
+    let marks = Marks::of(alloc, plan)?;
+    findings(rt, alloc, plan, &marks)
+}
+
+/// The plan of an instance's scripts with its findings, if there are some.
+fn find_in(
+    rt: &(impl Threads + Sync),
+    alloc: Global,
+    cast: Cast,
+    text: Vec<u8>,
+    scripts: Scripts,
+) -> Result<Option<Counterexample>, Fault>
+    ensures ok { IfOk result (λ found. IfSome found (λ c. (c.cast ≡ cast) × (c.text ≡ text) × (c.plan ≡ scripts)
+        × IsFoundIn scripts c.findings.items)) }
+    ensures err { IfErr result (λ e. e ≡ Memory) }
+{
+    let plan = Plan::build(alloc, scripts)?;
+    match find_all(rt, alloc, &plan) {
+        Ok(findings) => {
+            if findings.is_empty() {
+                drop(plan);
+                return Ok(None);
+            }
+            Ok(Some(Counterexample {
+                cast,
+                text,
+                plan,
+                findings,
+            }))
+        }
+        Err(fault) => {
+            drop(plan);
+            Err(fault)
+        }
+    }
+}
