@@ -128,6 +128,7 @@ pub record IsDeclaredAs (p : Pattern) (cast : Cast) (s : Scripts) : Type 0 where
   pub faultless : first_fault d d.processes ≡ None
   pub seen : view d ≡ expected p cast
   pub is : s ≡ scripts_of d
+  pub few : process_count cast < 10 ^ 9
 
 module _ (p : Pattern) (cast : Cast) (sound : IsSound p) (is_cast : IsCast p cast) where
   abbrev after_header : List Said
@@ -173,7 +174,7 @@ module _ (p : Pattern) (cast : Cast) (sound : IsSound p) (is_cast : IsCast p cas
       let text : statements (instance_text p cast) ≡ numbered_lines 1 (instance_said p cast) = said_again (instance_said p cast) (tt, lines_lawful p cast sound is_cast small) in
       let r = first_pass size (length (lines_of (instance_text p cast))) d small (subst (λ ls. FirstPass size ls (length (lines_of (instance_text p cast))) (Ok d)) text first) in
       let u = second_ok d s (first_fault d d.processes) m in
-      record { d = d; good = r.0; faultless = u.0; seen = r.1; is = u.1 }
+      record { d = d; good = r.0; faultless = u.0; seen = r.1; is = u.1; few = small }
 
   pub declared_as : (size : Size) (s : Scripts) → Reads size (instance_text p cast) (Ok s) → IsDeclaredAs p cast s
   declared_as size s (inl h) = absurd (let e = h.1 in cc)

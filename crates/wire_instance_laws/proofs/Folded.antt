@@ -30,22 +30,22 @@ line_taken d e n a j =
     let t = tests_passed (is_in_place d a) (is_short a) (is_known d a) (is_again d a) (has_room d a) (after d n a) e n j in
     (record { place = t.0; short = t.1; known = t.2; again = t.3; room = t.4 }, t.5)
 
+abbrev RestRuns : List Said → ℕ → Declared → Type 0
+RestRuns xs n e = (x : Declared) → JudgesAll x (numbered_lines (n + 1) xs) (Ok e) → Runs (numbered (n + 1) xs) x e
+
 -- lawful lines that are judged without a fault lead from one declaration to the other
 pub lines_run : (xs : List Said) (n : ℕ) (d e : Declared) → AllLawful xs → JudgesAll d (numbered_lines n xs) (Ok e) → Runs (numbered n xs) d e
 lines_run [] n d e lawful j = cc
 lines_run (a ∷ xs) n d e lawful j = step (λ x h. lines_run xs (n + 1) x e lawful.1 h) j.0 j.1 j.2
   where
-    abbrev Rest : Type 0
-    Rest = (x : Declared) → JudgesAll x (numbered_lines (n + 1) xs) (Ok e) → Runs (numbered (n + 1) xs) x e
-
-    after_line : Rest → (q : Result Declared Fault) → q ≡ judged d n a → MatchResult q (λ x. JudgesAll x (numbered_lines (n + 1) xs) (Ok e)) (λ f. Ok e ≡ Err f)
+    after_line : RestRuns xs n e → (q : Result Declared Fault) → q ≡ judged d n a → MatchResult q (λ x. JudgesAll x (numbered_lines (n + 1) xs) (Ok e)) (λ f. Ok e ≡ Err f)
         → Runs (numbered n (a ∷ xs)) d e
     after_line rest (Ok x) is m =
         let t = line_taken d x n a is in
         (lawful.0, t.0, subst (λ y. Runs (numbered (n + 1) xs) y e) t.1 (rest x m))
     after_line rest (Err f) is m = absurd (cc)
 
-    step : Rest → (q : Result Declared Fault) → Judges d (n, first_word a ∷ other_words a) q
+    step : RestRuns xs n e → (q : Result Declared Fault) → Judges d (n, first_word a ∷ other_words a) q
         → MatchResult q (λ x. JudgesAll x (numbered_lines (n + 1) xs) (Ok e)) (λ f. Ok e ≡ Err f) → Runs (numbered n (a ∷ xs)) d e
     step rest q (inl none) m = absurd (none.0 a (refl, lawful.0))
     step rest q (inr some) m =

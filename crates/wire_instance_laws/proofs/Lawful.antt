@@ -97,7 +97,7 @@ module _ (p : Pattern) (cast : Cast) (sound : IsSound p) (is_cast : IsCast p cas
   process_name : (q : ℕ) → q < count → IsTrue (is_name (job_name p (job_at p cast q)))
   process_name q low = name_lawful p cast sound is_cast (job_at p cast q) (job_low p cast sound is_cast q (few q low))
 
-  process_lawful : (q : ℕ) → q < count → IsLawfulItem (process_item p cast q)
+  pub process_lawful : (q : ℕ) → q < count → IsLawfulItem (process_item p cast q)
   process_lawful q low = (process_name q low, rank_small q low)
 
   pub text_lawful : (q : ℕ) → q < count → list_all is_word_byte (process_text p cast q) ≡ true

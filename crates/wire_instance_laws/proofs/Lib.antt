@@ -8,3 +8,7 @@ pub mod Rows
 pub mod Declared
 pub mod Words
 pub mod Sets
+pub mod Calls
+pub mod Matched
+pub mod Apart
+pub mod Read
