@@ -1,10 +1,10 @@
 -- What a get-now finds in a large plan, its image finds in a small one that stands in it.
-use Rattle.std.proofs.Common.{◌≡◌, ℕ, suc, ◌<◌, ◌≤◌, List, true, false, Option, Some, None, is_some, ◌⊎◌, inl, inr, refl, sym, ap, ◌∙◌, subst, arith}
+use Rattle.std.proofs.Common.{◌≡◌, ℕ, suc, ◌≤◌, true, false, Some, is_some, inl, inr, refl, sym, ap, ◌∙◌, subst, arith}
 use Rattle.std.specs.Prelude.{option_map}
 use Rattle.std.proofs.lemmas.Bool.{cases_lt, true≢false}
 use Rattle.wire_types.specs.declared.Status.{Status}
 use Rattle.wire_types.specs.declared.Status.TheVariants as status
-use Rattle.wire_runs.specs.Plan.{Plan, Event, GetNow, kind, event_count, node_of, same_node, admits}
+use Rattle.wire_runs.specs.Plan.{Plan, Event, GetNow, kind, event_count, node_of, admits}
 use Rattle.wire_runs.specs.Puts.{own, stored, scope_of}
 use Rattle.wire_runs.specs.Fences.{is_member}
 use Rattle.wire_runs.specs.Order.{Stores, IsArrival, Live, Before}
@@ -17,7 +17,8 @@ use Rattle.wire_runs.proofs.Arrivals.{left_first, left_full, left_arrived, node_
 use Rattle.wire_runs.proofs.Images.{mapped_some, own_some, stored_end, stores_into, full_back, arrival_into, arrival_back}
 use Rattle.wire_runs.proofs.EmbeddedOrder.{chain_into, live_back}
 use Rattle.wire_runs.proofs.EmbeddedFindings.{mate_within, scope_same, get_delivers_back, fence_delivers_back}
-use Rattle.wire_pattern_laws.proofs.FindsByOrder.{event_in, shown_status, FindsOwn, own_nothing, own_value, FindsNear, near_nothing, near_value, FindsFar, far_nothing, far_value}
+use Rattle.wire_pattern_laws.specs.StatusesTold.{event_in, shown_status}
+use Rattle.wire_pattern_laws.proofs.FindsByOrder.{FindsOwn, own_nothing, own_value, FindsNear, near_nothing, near_value, FindsFar, far_nothing, far_value}
 
 -- a process stores a key once
 pub stores_one : (plan : Plan) (p key i j : ℕ) → Stores plan (event_in p i) key → Stores plan (event_in p j) key → i ≡ j

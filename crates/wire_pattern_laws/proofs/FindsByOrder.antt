@@ -1,20 +1,20 @@
 -- What a get-now finds, told by the order of calls alone: so it can be handed on to a plan of which no run is known.
-use Rattle.std.proofs.Common.{◌≡◌, ℕ, suc, ◌<◌, ◌≤◌, List, true, false, Bool, Option, Some, None, is_some, ◌==◌, ◌⊎◌, inl, inr, refl, sym, ap, ◌∙◌, subst, arith, eq-eqb, ne_eqb}
-use Rattle.std.specs.Prelude.{slice_get, if◌then◌else◌}
-use Rattle.std.proofs.lemmas.Bool.{cond-true, cond-false, cond_both, cases_eq, cases_lt, cases_Bool, and_from, true≢false}
+use Rattle.std.proofs.Common.{◌≡◌, ℕ, suc, ◌<◌, ◌≤◌, true, false, Bool, Option, Some, None, is_some, inl, inr, refl, sym, ap, ◌∙◌, subst, arith, eq-eqb, ne_eqb}
+use Rattle.std.specs.Prelude.{if◌then◌else◌}
+use Rattle.std.proofs.lemmas.Bool.{cond-true, cond-false, cases_eq, cases_lt, cases_Bool, and_from, true≢false}
 use Rattle.std.proofs.lemmas.Option.{none-some, same_Some}
 use Rattle.wire_types.specs.declared.Status.{Status}
 use Rattle.wire_types.specs.declared.Status.TheVariants as status
-use Rattle.wire_runs.specs.Plan.{Plan, Event, GetNow, Get, kind, event_count, node_of, same_node, admits}
-use Rattle.wire_runs.specs.State.{Answer, State, IsDone}
+use Rattle.wire_runs.specs.Plan.{Plan, Event, GetNow, kind, event_count, process_count, node_of, same_node, admits}
+use Rattle.wire_runs.specs.State.{Answer, Silent, State, IsDone}
 use Rattle.wire_runs.specs.Puts.{own, stored, scope_of}
 use Rattle.wire_runs.specs.Fences.{arrivals}
 use Rattle.wire_runs.specs.Sight.{Outside, Shown, held, served, has_brought, brought, get_now_sees}
 use Rattle.wire_runs.specs.Step.{may_do, sight_reply, reply}
-use Rattle.wire_runs.specs.Order.{Stores, IsArrival, Live, Before}
+use Rattle.wire_runs.specs.Order.{Stores, Live, Before}
 use Rattle.wire_runs.specs.Races.{Delivery, ByFence, ByGet, IsOf, FenceDelivers, GetDelivers, Delivers, ComesSurely, IsSettled}
-use Rattle.wire_runs.specs.Fate.{Fate, Waits, Says, fate_in, HasFate, dead, told, IsPast}
-use Rattle.wire_runs.proofs.Basics.{event_within, stored_own, stored_stays}
+use Rattle.wire_runs.specs.Fate.{Fate, Waits, Says, HasFate, dead, told, IsPast}
+use Rattle.wire_runs.proofs.Basics.{event_within, process_within, stored_own, stored_stays, stores_commit}
 use Rattle.wire_runs.proofs.Due.{ClosedCut, chain_in, arrived}
 use Rattle.wire_runs.proofs.Puts.{stored_fixed, put_once, first_stores}
 use Rattle.wire_runs.proofs.Brought.{no_least, complete_more, complete_if_arrived}
@@ -24,14 +24,7 @@ use Rattle.wire_runs.proofs.Fates.{get_fate, past_closed, past_known, past_not_y
 use Rattle.wire_runs.proofs.Histories.{before_live}
 use Rattle.wire_runs.proofs.Arrivals.{all_undenied}
 use Rattle.wire_pattern_laws.specs.SmallReplies.{status_of}
-
-abbrev pub event_in : ℕ → ℕ → Event
-event_in p i = record { proc = p; at = i }
-
--- the status of what an owner's server shows
-abbrev pub shown_status : Bool → Status
-shown_status true = status.Success
-shown_status false = status.ExistsOutsideScope
+use Rattle.wire_pattern_laws.specs.StatusesTold.{shown_status, event_in}
 
 -- of a get-now of its own process's key
 pub data FindsOwn (plan : Plan) (get : Event) (owner key : ℕ) (found : Status) : Type 0 where
@@ -132,6 +125,18 @@ brought_is_stored plan owner key node (ByGet get) delivers =
     let d : GetDelivers plan owner key node get = delivers.brings_it in
     ap is_some d.away.committed
 
+-- of an owner that isn't a process nothing is found
+pub absent : (plan : Plan) (get : Event) (owner key : ℕ) (found : Status) → (get.proc ≡ owner → ⊥) → process_count plan ≤ owner → found ≡ status.NotFound → Finds plan get owner key found
+absent plan get owner key found ne none is_found = elim (cases_Bool (same_node plan owner get.proc)) [
+  | inl near ↦ from_near ne near (near_nothing (λ i stores b. stores_nothing i stores) is_found)
+  | inr away ↦ from_far ne away (far_nothing (λ sure. (
+      let first = first_stores plan owner key (event_count plan owner) (brought_is_stored plan owner key (node_of plan get.proc) sure.delivery sure.delivers) in
+      stores_nothing first.0 first.2)) is_found)
+]
+  where
+    stores_nothing : (i : ℕ) → Stores plan (event_in owner i) key → ⊥
+    stores_nothing i stores = let w = process_within plan owner i _ (stores_commit plan (event_in owner i) key stores) in omega (arith, none, w)
+
 module _ (plan : Plan) (settled : IsSettled plan) (get : Event) (owner key : ℕ) (is : kind plan get ≡ Some (GetNow owner key)) (is_live : Live plan get) where
   -- where there is a delivery, and the get is before none of its events, it isn't denied that one comes surely
   module _ (away : same_node plan owner get.proc ≡ false) (not_sure : ComesSurely plan owner key (node_of plan get.proc) get → ⊥) (d : Delivery) (delivers : Delivers plan owner key (node_of plan get.proc) d)
@@ -160,7 +165,7 @@ module _ (plan : Plan) (settled : IsSettled plan) (get : Event) (owner key : ℕ
     no_late : (z : Event) → IsOf plan d z → (Before plan z get → ⊥) → ⊥
     no_late z a not = no_least Late no_first (suc z.proc) z.proc (omega arith) (z, a, not, refl)
 
-  undenied : same_node plan owner get.proc ≡ false → (ComesSurely plan owner key (node_of plan get.proc) get → ⊥) → (d : Delivery) → Delivers plan owner key (node_of plan get.proc) d →
+  pub undenied : same_node plan owner get.proc ≡ false → (ComesSurely plan owner key (node_of plan get.proc) get → ⊥) → (d : Delivery) → Delivers plan owner key (node_of plan get.proc) d →
       ((z : Event) → IsOf plan d z → Before plan get z → ⊥) → ⊥
   undenied away not_sure (ByGet g) delivers none =
       no_late away not_sure (ByGet g) delivers none g refl
@@ -292,6 +297,16 @@ past_answered plan settled y fate_of all past is_past z t key d is other =
     let b = (is_past.cut z).0 d in
     is_past.replies z _ b (get_fate plan settled z (fate_of z) (before_live b) t key is other (all z b))
 
+past_poised : (plan : Plan) → IsSettled plan → (get : Event) → Live plan get → (fate_of : Event → Fate) → ((z : Event) → Before plan z get → HasFate plan z (fate_of z)) → (past : State) →
+    IsPast plan get fate_of past → Poised plan past get
+past_poised plan settled get l fate_of all past is_past = record {
+  closed = past_closed plan settled get l fate_of past is_past;
+  answered = past_answered plan settled get fate_of all past is_past;
+  known = past_known plan settled get l fate_of past is_past;
+  not_yet = past_not_yet plan settled get l fate_of past is_past;
+  is_live = l;
+}
+
 abbrev pub SaysStatus : Fate → Status → Type 0
 SaysStatus fate found = (a : Answer) × (fate ≡ Says a) × (status_of a ≡ found)
 
@@ -299,15 +314,23 @@ pub fate_finds : (plan : Plan) → IsSettled plan → (get : Event) (owner key :
     SaysStatus fate found
 fate_finds plan settled get owner key is l found finds fate (dead not_live e) = absurd (not_live l)
 fate_finds plan settled get owner key is l found finds fate (told m fate_of all past is_past e) =
-    let at : Poised plan past get = record {
-      closed = past_closed plan settled get m fate_of past is_past;
-      answered = past_answered plan settled get fate_of all past is_past;
-      known = past_known plan settled get m fate_of past is_past;
-      not_yet = past_not_yet plan settled get m fate_of past is_past;
-      is_live = m;
-    } in
-    let w = sees plan settled past get owner key at in (
+    let w = sees plan settled past get owner key (past_poised plan settled get m fate_of all past is_past) in (
       sight_reply owner (get_now_sees plan past get.proc get.at owner key),
       e ∙ ap (λ o. if may_do plan past get o then Says (reply plan past get o) else Waits) is,
       w.shows ∙ one_finding plan settled get owner key is l w.found found w.finds finds,
     )
+
+answer_in : Fate → Answer
+answer_in Waits = Silent
+answer_in (Says a) = a
+
+-- and what a get-now is to answer, it finds
+pub fate_found : (plan : Plan) → IsSettled plan → (get : Event) (owner key : ℕ) → kind plan get ≡ Some (GetNow owner key) → Live plan get → (found : Status) → (fate : Fate) → HasFate plan get fate →
+    SaysStatus fate found → Finds plan get owner key found
+unfolding answer_in
+fate_found plan settled get owner key is l found fate (dead not_live e) says = absurd (not_live l)
+fate_found plan settled get owner key is l found fate (told m fate_of all past is_past e) says =
+    let w = sees plan settled past get owner key (past_poised plan settled get m fate_of all past is_past) in
+    let same : Says says.0 ≡ Says (sight_reply owner (get_now_sees plan past get.proc get.at owner key)) =
+    sym says.1 ∙ e ∙ ap (λ o. if may_do plan past get o then Says (reply plan past get o) else Waits) is in
+    subst (λ f. Finds plan get owner key f) (sym w.shows ∙ sym (ap (λ f. status_of (answer_in f)) same) ∙ says.2) w.finds

@@ -1,20 +1,19 @@
 -- Without one rank an event is of the same line.
-use Rattle.std.proofs.Common.{◌≡◌, ℕ, zero, suc, ◌+◌, List, [], ◌∷◌, ◌++◌, map, length, Bool, not, ◌==◌, ◌&&◌, nat_lt, Option, Some, None, inl, inr, refl, sym, ap, ◌∙◌, subst, arith, eq-eqb, ne_eqb}
-use Rattle.std.specs.Prelude.{slice_get, filter, cond, replicate}
+use Rattle.std.proofs.Common.{◌≡◌, ℕ, zero, suc, ◌+◌, List, [], ◌∷◌, ◌++◌, map, Bool, not, ◌==◌, ◌&&◌, nat_lt, Some, inl, inr, refl, sym, ap, ◌∙◌, subst, eq-eqb, ne_eqb}
+use Rattle.std.specs.Prelude.{slice_get, filter}
 use Rattle.std.proofs.lemmas.Bool.{cond-true, cond-false, cases_eq, cases_Bool}
 use Rattle.std.proofs.lemmas.List.{map-append}
 use Rattle.std.proofs.lemmas.List.Elements.{filter-append, filter_agree}
-use Rattle.std.proofs.lemmas.Option.{none-some}
-use Rattle.wire_runs.specs.Plan.{Event, kinds_of}
+use Rattle.wire_runs.specs.Plan.{Event}
 use Rattle.wire_runs.specs.Fences.{is_member}
 use Rattle.wire_runs.specs.Embeddings.{image}
 use Rattle.wire_runs.specs.Parts.{Piece, Kept, Left, place_in}
 use Rattle.wire_runs.specs.Patterns.{Line, LinePut, LineCommit, LineFence, LineGet, LineGetNow, LinePublish, LineLookup, LineLookupWait, LineUnpublish, LineUnpublishAll, LineFixed}
 use Rattle.wire_runs.specs.Patterns.{Turns, InOrder, Round, Chosen, Step, Once, Loop, Pattern, Coding, Cast, group, call_in, turns}
-use Rattle.wire_runs.specs.Restrictions.{skip, back, without, restricted, keep_calls, leave_calls, loop_pieces, step_pieces, pieces_from, script_in, pieces_of, removal, CanGo}
+use Rattle.wire_runs.specs.Restrictions.{skip, back, without, restricted, keep_calls, leave_calls, loop_pieces, step_pieces, pieces_from, script_in, removal, CanGo}
 use Rattle.wire_runs.proofs.Skip.{skip_eq, skip_lt, group_skip, filter_map, filter_comm, without_get}
 use Rattle.wire_runs.proofs.WholeSets.{member_group}
-use Rattle.wire_pattern_laws.specs.Lines.{line_size, numbers, turn_numbers, step_numbers, step_lines, numbers_from, IsOfLine}
+use Rattle.wire_pattern_laws.specs.Lines.{numbers, turn_numbers, step_numbers, step_lines, numbers_from, IsOfLine}
 
 -- the numbers of all events, and those of the kept ones, along the pieces
 abbrev Along : List ℕ → List ℕ → List Piece → Type 0

@@ -8,3 +8,6 @@ pub mod OneFewer
 pub mod KeptLines
 pub mod FindsOnPairs
 pub mod SmallFinds
+pub mod RenumberedEmbeds
+pub mod StatusesPlaced
+pub mod StatusesNumbered

@@ -1,5 +1,5 @@
 -- What is answered in an instance of any size is found in a small one.
-use Rattle.std.proofs.Common.{◌≡◌, ℕ, zero, suc, ◌<◌, ◌≤◌, List, [], ◌∷◌, length, true, Some, ◌⊎◌, inl, inr, refl, sym, ap, ◌∙◌, subst, arith}
+use Rattle.std.proofs.Common.{◌≡◌, ℕ, zero, suc, ◌<◌, ◌≤◌, List, [], ◌∷◌, length, true, Some, inl, inr, refl, sym, ap, ◌∙◌, subst, arith}
 use Rattle.std.specs.Prelude.{slice_get}
 use Rattle.std.proofs.lemmas.Option.{same_Some, slice_get_within}
 use Rattle.wire_types.specs.declared.Status.{Status}
@@ -8,9 +8,9 @@ use Rattle.wire_runs.specs.State.{Answer, State, start, next_event, IsDone}
 use Rattle.wire_runs.specs.Step.{is_enabled, reply, step, IsInterleaving, run_from, IsReachable}
 use Rattle.wire_runs.specs.Order.{Live, Before}
 use Rattle.wire_runs.specs.Races.{IsSettled}
-use Rattle.wire_runs.specs.Embeddings.{image, pair}
+use Rattle.wire_runs.specs.Embeddings.{pair}
 use Rattle.wire_runs.specs.Patterns.{Pattern, Coding, Cast, group, instance_of, IsLawful, IsCastOf}
-use Rattle.wire_runs.specs.Restrictions.{restricted, removal, CanGo, on_nodes}
+use Rattle.wire_runs.specs.Restrictions.{restricted, CanGo, on_nodes}
 use Rattle.wire_runs.proofs.Due.{closed_cut, done_was, due}
 use Rattle.wire_runs.proofs.Known.{Known, known_start, known_step, reply_kept, reply_now, reachable_known}
 use Rattle.wire_runs.proofs.PlacingReplies.{CameTo}
@@ -100,8 +100,10 @@ module _ (pattern : Pattern) (coding : Coding) (bound : ℕ) (least most : ℕ �
         owner = f.owner;
         key = f.key;
         is = b.is_there;
-        is_live = b.is_live;
-        says = fate_finds (instance_of pattern coding on) (small on cast_is in_order f.has_least has_most) f.get f.owner f.key b.is_there b.is_live found b.finds;
+        to_say = record {
+          is_live = b.is_live;
+          says = fate_finds (instance_of pattern coding on) (small on cast_is in_order f.has_least has_most) f.get f.owner f.key b.is_there b.is_live found b.finds;
+        };
       }
 
   -- one with one rank fewer

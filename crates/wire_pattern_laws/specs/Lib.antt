@@ -3,3 +3,4 @@ pub mod Renumberings
 pub mod Fuller
 pub mod Lines
 pub mod SmallReplies
+pub mod StatusesTold

@@ -2,7 +2,7 @@
 use Rattle.std.specs.Prelude.{◌≡◌, ℕ, Some, slice_get}
 use Rattle.wire_types.specs.declared.Status.{Status}
 use Rattle.wire_types.specs.declared.Status.TheVariants as status
-use Rattle.wire_runs.specs.Plan.{Event, GetNow, kind}
+use Rattle.wire_runs.specs.Plan.{Plan, Event, GetNow, kind}
 use Rattle.wire_runs.specs.State.{Answer, NotFound, ExistsOutside, Duplicate, Reserved, State}
 use Rattle.wire_runs.specs.Step.{IsReachable}
 use Rattle.wire_runs.specs.Order.{Live}
@@ -20,8 +20,13 @@ status_of Duplicate = status.DuplicateKey
 status_of (Reserved reply) = reply.status
 status_of answer = status.Success
 
--- a small instance, with each process on a node of its own but perhaps one on that of the get, has a live get-now of
--- line number n of the role, whose fate is to answer with this status
+-- the get is live, and its fate is to answer with this status
+pub record IsToSay (plan : Plan) (get : Event) (found : Status) : Type 0 where
+  pub is_live : Live plan get
+  pub says : (fate : Fate) → HasFate plan get fate → (a : Answer) × (fate ≡ Says a) × (status_of a ≡ found)
+
+-- a small instance, with each process on a node of its own but perhaps one on that of the get, has a get-now of line
+-- number n of the role that is to answer with this status
 pub record HasSmall (pattern : Pattern) (coding : Coding) (bound : ℕ) (least most : ℕ → ℕ) (role n : ℕ) (found : Status) : Type 0 where
   pub cast : Cast
   pub cast_is : IsCastOf pattern cast
@@ -35,9 +40,7 @@ pub record HasSmall (pattern : Pattern) (coding : Coding) (bound : ℕ) (least m
   pub owner : ℕ
   pub key : ℕ
   pub is : kind (instance_of pattern coding cast) get ≡ Some (GetNow owner key)
-  pub is_live : Live (instance_of pattern coding cast) get
-  pub says : (fate : Fate) → HasFate (instance_of pattern coding cast) get fate
-      → (a : Answer) × (fate ≡ Says a) × (status_of a ≡ found)
+  pub to_say : IsToSay (instance_of pattern coding cast) get found
 
 -- where the small instances are settled: with whatever status a get-now is answered in some run of an instance of any
 -- size, a get-now of the same line has that status in a small instance

@@ -6,6 +6,7 @@ ghost use Rattle.wire_pattern_laws.specs.Ordered.{OrderedSuffice};
 ghost use Rattle.wire_pattern_laws.specs.Renumberings.{RenumberingTurns, RenumberedBoth, RenumberedKinds};
 ghost use Rattle.wire_pattern_laws.specs.Renumberings.{RenumberedIs, SettledByPlacing};
 ghost use Rattle.wire_pattern_laws.specs.SmallReplies.{StatusesOfSmall};
+ghost use Rattle.wire_pattern_laws.specs.StatusesTold.{StatusesTold, RenumberedSays, MarksThere};
 
 /// Where each instance with at most three ranks of each role is settled, whose ranks are in the order of their
 /// roles, each instance in that order is, with any number of ranks.
@@ -52,4 +53,19 @@ pub fn same_instance()
 /// get-now of the same line is to be answered in a small one.
 pub fn statuses_of_small()
     ensures { StatusesOfSmall }
+{}
+
+/// The statuses with which a get-now can be answered on all nodes are told by the order of the plan's calls.
+pub fn statuses_told()
+    ensures { StatusesTold }
+{}
+
+/// Numbers of keys and names say nothing of the status of a get-now.
+pub fn renumbered_says()
+    ensures { RenumberedSays }
+{}
+
+/// Marks of a plan are marks of its placings, and of the plan under other numbers.
+pub fn marks_there()
+    ensures { MarksThere }
 {}
