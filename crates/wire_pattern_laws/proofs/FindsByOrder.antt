@@ -1,12 +1,12 @@
 -- What a get-now finds, told by the order of calls alone: so it can be handed on to a plan of which no run is known.
-use Rattle.std.proofs.Common.{◌≡◌, ℕ, suc, ◌<◌, ◌≤◌, true, false, Bool, Option, Some, None, is_some, inl, inr, refl, sym, ap, ◌∙◌, subst, arith, eq-eqb, ne_eqb}
+use Rattle.std.proofs.Common.{◌≡◌, ℕ, suc, ◌<◌, ◌≤◌, true, false, Option, Some, None, is_some, inl, inr, refl, sym, ap, ◌∙◌, subst, arith, eq-eqb, ne_eqb}
 use Rattle.std.specs.Prelude.{if◌then◌else◌}
 use Rattle.std.proofs.lemmas.Bool.{cond-true, cond-false, cases_eq, cases_lt, cases_Bool, and_from, true≢false}
 use Rattle.std.proofs.lemmas.Option.{none-some, same_Some}
 use Rattle.wire_types.specs.declared.Status.{Status}
 use Rattle.wire_types.specs.declared.Status.TheVariants as status
 use Rattle.wire_runs.specs.Plan.{Plan, Event, GetNow, kind, event_count, process_count, node_of, same_node, admits}
-use Rattle.wire_runs.specs.State.{Answer, Silent, State, IsDone}
+use Rattle.wire_runs.specs.State.{Answer, State, IsDone}
 use Rattle.wire_runs.specs.Puts.{own, stored, scope_of}
 use Rattle.wire_runs.specs.Fences.{arrivals}
 use Rattle.wire_runs.specs.Sight.{Outside, Shown, held, served, has_brought, brought, get_now_sees}
@@ -23,30 +23,7 @@ use Rattle.wire_runs.proofs.Came.{Came, by_fence, by_get, came, came_is, brings_
 use Rattle.wire_runs.proofs.Fates.{get_fate, past_closed, past_known, past_not_yet}
 use Rattle.wire_runs.proofs.Histories.{before_live}
 use Rattle.wire_runs.proofs.Arrivals.{all_undenied}
-use Rattle.wire_pattern_laws.specs.SmallReplies.{status_of}
-use Rattle.wire_pattern_laws.specs.StatusesTold.{shown_status, event_in}
-
--- of a get-now of its own process's key
-pub data FindsOwn (plan : Plan) (get : Event) (owner key : ℕ) (found : Status) : Type 0 where
-  own_nothing : is_some (own plan owner key get.at) ≡ false → found ≡ status.NotFound → FindsOwn plan get owner key found
-  own_value : is_some (own plan owner key get.at) ≡ true → found ≡ status.Success → FindsOwn plan get owner key found
-
--- of one on the owner's node: no commit that stores the key is before it; or there is one, live, and the get isn't
--- before it
-pub data FindsNear (plan : Plan) (get : Event) (owner key : ℕ) (found : Status) : Type 0 where
-  near_nothing : ((i : ℕ) → Stores plan (event_in owner i) key → Before plan (event_in owner i) get → ⊥) → found ≡ status.NotFound → FindsNear plan get owner key found
-  near_value : (i : ℕ) → Stores plan (event_in owner i) key → Live plan (event_in owner i) → (Before plan get (event_in owner i) → ⊥) → (put : ℕ) →
-      stored plan owner key (event_count plan owner) ≡ Some put → found ≡ shown_status (admits (scope_of plan owner put) true) → FindsNear plan get owner key found
-
--- of one elsewhere: no delivery comes surely; or there is one, and the get is before none of its events
-pub data FindsFar (plan : Plan) (get : Event) (owner key : ℕ) (found : Status) : Type 0 where
-  far_nothing : (ComesSurely plan owner key (node_of plan get.proc) get → ⊥) → found ≡ status.NotFound → FindsFar plan get owner key found
-  far_value : (d : Delivery) → Delivers plan owner key (node_of plan get.proc) d → ((z : Event) → IsOf plan d z → Before plan get z → ⊥) → found ≡ status.Success → FindsFar plan get owner key found
-
-pub data Finds (plan : Plan) (get : Event) (owner key : ℕ) (found : Status) : Type 0 where
-  from_own : get.proc ≡ owner → FindsOwn plan get owner key found → Finds plan get owner key found
-  from_near : (get.proc ≡ owner → ⊥) → same_node plan owner get.proc ≡ true → FindsNear plan get owner key found → Finds plan get owner key found
-  from_far : (get.proc ≡ owner → ⊥) → same_node plan owner get.proc ≡ false → FindsFar plan get owner key found → Finds plan get owner key found
+use Rattle.wire_pattern_laws.specs.Finds.{status_of, found_status, shown_status, event_in, FindsOwn, FindsNear, near_nothing, near_value, FindsFar, far_nothing, far_value, Finds, from_own, from_near, from_far}
 
 -- a state that has all that is before the get, and not the get
 pub record Poised (plan : Plan) (s : State) (get : Event) : Type 0 where
@@ -176,10 +153,7 @@ module _ (plan : Plan) (settled : IsSettled plan) (get : Event) (owner key : ℕ
 
   -- in a settled plan it finds one thing
   one_own : (a b : Status) → FindsOwn plan get owner key a → FindsOwn plan get owner key b → a ≡ b
-  one_own a b (own_nothing n ea) (own_nothing m eb) = ea ∙ sym eb
-  one_own a b (own_value n ea) (own_value m eb) = ea ∙ sym eb
-  one_own a b (own_nothing n ea) (own_value m eb) = absurd (true≢false (sym m ∙ n))
-  one_own a b (own_value n ea) (own_nothing m eb) = absurd (true≢false (sym n ∙ m))
+  one_own a b f g = f ∙ sym g
 
   race_near : (get.proc ≡ owner → ⊥) → same_node plan owner get.proc ≡ true → ((i : ℕ) → Stores plan (event_in owner i) key → Before plan (event_in owner i) get → ⊥) →
       (i : ℕ) → Stores plan (event_in owner i) key → Live plan (event_in owner i) → (Before plan get (event_in owner i) → ⊥) → (put : ℕ) → stored plan owner key (event_count plan owner) ≡ Some put → ⊥
@@ -196,9 +170,9 @@ module _ (plan : Plan) (settled : IsSettled plan) (get : Event) (owner key : ℕ
 
   one_near : (get.proc ≡ owner → ⊥) → same_node plan owner get.proc ≡ true → (a b : Status) → FindsNear plan get owner key a → FindsNear plan get owner key b → a ≡ b
   one_near ne near a b (near_nothing n ea) (near_nothing m eb) = ea ∙ sym eb
-  one_near ne near a b (near_nothing n ea) (near_value i st l nb put is_put eb) = absurd (race_near ne near n i st l nb put is_put)
-  one_near ne near a b (near_value i st l nb put is_put ea) (near_nothing m eb) = absurd (race_near ne near m i st l nb put is_put)
-  one_near ne near a b (near_value i st l nb put is_put ea) (near_value i' st' l' nb' put' is_put' eb) =
+  one_near ne near a b (near_nothing n ea) (near_value i put st l nb is_put eb) = absurd (race_near ne near n i st l nb put is_put)
+  one_near ne near a b (near_value i put st l nb is_put ea) (near_nothing m eb) = absurd (race_near ne near m i st l nb put is_put)
+  one_near ne near a b (near_value i put st l nb is_put ea) (near_value i' put' st' l' nb' is_put' eb) =
       ea ∙ ap (λ v. shown_status (admits (scope_of plan owner v) true)) (same_Some _ _ (sym is_put ∙ is_put')) ∙ sym eb
 
   one_far : same_node plan owner get.proc ≡ false → (a b : Status) → FindsFar plan get owner key a → FindsFar plan get owner key b → a ≡ b
@@ -228,12 +202,12 @@ module _ (plan : Plan) (settled : IsSettled plan) (s : State) (get : Event) (own
   shows_own : (e : get.proc ≡ owner) → (o : Option ℕ) → own plan owner key get.at ≡ o → Sees
   shows_own e None is = record {
     found = status.NotFound;
-    finds = from_own e (own_nothing (ap is_some is) refl);
+    finds = from_own e (sym (ap found_status (ap is_some is)));
     shows = ap (λ v. status_of (sight_reply owner v)) (cond-true _ _ _ (eq-eqb get.proc owner e) ∙ ap held is);
   }
   shows_own e (Some put) is = record {
     found = status.Success;
-    finds = from_own e (own_value (ap is_some is) refl);
+    finds = from_own e (sym (ap found_status (ap is_some is)));
     shows = ap (λ v. status_of (sight_reply owner v)) (cond-true _ _ _ (eq-eqb get.proc owner e) ∙ ap held is);
   }
 
@@ -254,7 +228,7 @@ module _ (plan : Plan) (settled : IsSettled plan) (s : State) (get : Event) (own
       let first = first_stores plan owner key (s.done owner) (ap is_some is) in
       record {
         found = shown_status (admits (scope_of plan owner put) true);
-        finds = from_near ne near (near_value first.0 first.2 (at.closed.all_live (event_in owner first.0) first.1) (never_after plan s get at (event_in owner first.0) first.1) put
+        finds = from_near ne near (near_value first.0 put first.2 (at.closed.all_live (event_in owner first.0) first.1) (never_after plan s get at (event_in owner first.0) first.1)
             (stored_fixed plan settled owner key (s.done owner) (event_count plan owner) (at.closed.within owner) (ap is_some is) ∙ is) refl);
         shows = ap (λ v. status_of (sight_reply owner v)) (cond-false _ _ _ (ne_eqb get.proc owner ne) ∙ cond-true _ _ _ near ∙ ap (served plan owner true) is) ∙ served_status put;
       }
@@ -320,17 +294,9 @@ fate_finds plan settled get owner key is l found finds fate (told m fate_of all 
       w.shows ∙ one_finding plan settled get owner key is l w.found found w.finds finds,
     )
 
-answer_in : Fate → Answer
-answer_in Waits = Silent
-answer_in (Says a) = a
-
--- and what a get-now is to answer, it finds
-pub fate_found : (plan : Plan) → IsSettled plan → (get : Event) (owner key : ℕ) → kind plan get ≡ Some (GetNow owner key) → Live plan get → (found : Status) → (fate : Fate) → HasFate plan get fate →
-    SaysStatus fate found → Finds plan get owner key found
-unfolding answer_in
-fate_found plan settled get owner key is l found fate (dead not_live e) says = absurd (not_live l)
-fate_found plan settled get owner key is l found fate (told m fate_of all past is_past e) says =
+-- with marks a live one finds something
+pub fate_found : (plan : Plan) → IsSettled plan → (get : Event) (owner key : ℕ) → Live plan get → (fate : Fate) → HasFate plan get fate → (found : Status) × Finds plan get owner key found
+fate_found plan settled get owner key l fate (dead not_live e) = absurd (not_live l)
+fate_found plan settled get owner key l fate (told m fate_of all past is_past e) =
     let w = sees plan settled past get owner key (past_poised plan settled get m fate_of all past is_past) in
-    let same : Says says.0 ≡ Says (sight_reply owner (get_now_sees plan past get.proc get.at owner key)) =
-    sym says.1 ∙ e ∙ ap (λ o. if may_do plan past get o then Says (reply plan past get o) else Waits) is in
-    subst (λ f. Finds plan get owner key f) (sym w.shows ∙ sym (ap (λ f. status_of (answer_in f)) same) ∙ says.2) w.finds
+    (w.found, w.finds)

@@ -1,25 +1,23 @@
 -- What a get-now finds on some nodes, it finds where each process has a node of its own, but one of them that of the get.
-use Rattle.std.proofs.Common.{◌≡◌, ℕ, ◌<◌, ◌≤◌, List, length, true, false, Option, Some, None, is_some, inl, inr, refl, sym, ap, ◌∙◌, arith, eq-eqb, eqb-true, ne_eqb}
+use Rattle.std.proofs.Common.{◌≡◌, ℕ, ◌<◌, ◌≤◌, List, length, true, false, Option, Some, None, inl, inr, refl, sym, ap, ◌∙◌, arith, eq-eqb, eqb-true, ne_eqb}
 use Rattle.std.specs.Prelude.{slice_get}
-use Rattle.std.proofs.lemmas.Bool.{cond-true, cond-false, cases_eq, cases_lt, cases_Bool, true≢false}
+use Rattle.std.proofs.lemmas.Bool.{cond-true, cond-false, cases_eq, cases_lt, true≢false}
 use Rattle.std.proofs.lemmas.Option.{slice_get_cases}
 use Rattle.wire_types.specs.declared.Status.{Status}
 use Rattle.wire_types.specs.declared.Status.TheVariants as status
-use Rattle.wire_runs.specs.Plan.{Plan, Event, GetNow, kind, kind_at, kinds, kinds_of, event_count, process_count, node_of, same_node}
-use Rattle.wire_runs.specs.Puts.{stored}
-use Rattle.wire_runs.specs.Order.{Stores, Live}
+use Rattle.wire_runs.specs.Plan.{Plan, Event, GetNow, kind, kind_at, kinds, kinds_of, process_count, node_of, same_node}
+use Rattle.wire_runs.specs.Order.{Live}
 use Rattle.wire_runs.specs.Embeddings.{IsEmbedding, pair}
 use Rattle.wire_runs.specs.Patterns.{Pattern, Coding, Cast, calls_from, instance_of}
 use Rattle.wire_runs.specs.Restrictions.{script_in, on_nodes}
 use Rattle.wire_runs.proofs.Basics.{process_within, stores_commit}
-use Rattle.wire_runs.proofs.Puts.{first_stores}
 use Rattle.wire_runs.proofs.EmbeddedOrder.{live_back}
 use Rattle.wire_runs.proofs.Placements.{itself, same_calls, mate_of}
 use Rattle.wire_runs.proofs.RestrictedCalls.{instance_kinds}
 use Rattle.wire_runs.proofs.RestrictedWhole.{instance_node, instance_count}
 use Rattle.wire_pattern_laws.proofs.SameCalls.{calls_same, ask_all}
-use Rattle.wire_pattern_laws.specs.StatusesTold.{event_in}
-use Rattle.wire_pattern_laws.proofs.FindsByOrder.{FindsNear, near_nothing, near_value, FindsFar, far_nothing, far_value, Finds, from_own, from_near, from_far, absent}
+use Rattle.wire_pattern_laws.specs.Finds.{event_in, FindsNear, near_nothing, near_value, FindsFar, far_nothing, far_value, Finds, from_own, from_near, from_far}
+use Rattle.wire_pattern_laws.proofs.FindsByOrder.{absent}
 use Rattle.wire_pattern_laws.proofs.FindsBack.{own_back, near_back, far_nothing_back, far_value_back}
 
 -- which two share a node
@@ -123,10 +121,10 @@ module _ (pattern : Pattern) (coding : Coding) (cast : Cast) where
         | inl lt ↦ near_beside near (near_nothing none is_found) lt
         | inr past ↦ beside_none past is_found
       ]
-      near_case near (near_value i stores l not_before put is_put is_found) =
+      near_case near (near_value i put stores l not_before is_put is_found) =
           let w = process_within plan owner i _ (stores_commit plan (event_in owner i) key stores) in
           let c = instance_count pattern coding cast in
-          near_beside near (near_value i stores l not_before put is_put is_found) (omega (arith, w, c))
+          near_beside near (near_value i put stores l not_before is_put is_found) (omega (arith, w, c))
 
       far_case : same_node plan owner get.proc ≡ false → FindsFar plan get owner key found → FindsBeside
       far_case away (far_nothing none is_found) = elim (cases_lt owner (length cast.roles)) [

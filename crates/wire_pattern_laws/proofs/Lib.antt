@@ -11,3 +11,5 @@ pub mod SmallFinds
 pub mod RenumberedEmbeds
 pub mod StatusesPlaced
 pub mod StatusesNumbered
+pub mod ReadsLive
+pub mod FindsInFuller

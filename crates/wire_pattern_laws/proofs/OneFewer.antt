@@ -23,8 +23,7 @@ use Rattle.wire_runs.proofs.EmbeddedFindings.{now_back}
 use Rattle.wire_runs.proofs.TurnMarks.{marks_of, is_image}
 use Rattle.wire_runs.proofs.TurnOrigins.{Origin, InScript, InLoop, origin_of, fence_line, get_line}
 use Rattle.wire_runs.proofs.FewerFindings.{spare, mark_at}
-use Rattle.wire_pattern_laws.specs.StatusesTold.{event_in}
-use Rattle.wire_pattern_laws.proofs.FindsByOrder.{FindsOwn, FindsNear, far_nothing, far_value, Finds, from_own, from_near, from_far}
+use Rattle.wire_pattern_laws.specs.Finds.{event_in, FindsOwn, FindsNear, far_nothing, far_value, Finds, from_own, from_near, from_far}
 use Rattle.wire_pattern_laws.proofs.FindsBack.{own_back, near_back, far_nothing_back, far_value_back}
 
 -- nodes with one left out, of any number

@@ -1,13 +1,13 @@
 -- A plan under other numbers has the plan standing in it, each event where it is.
-use Rattle.std.proofs.Common.{◌≡◌, ℕ, zero, suc, List, [], ◌∷◌, map, true, false, ◌==◌, Option, Some, None, inl, inr, refl, sym, ap, ◌∙◌, subst, arith, eq-eqb, eqb-true}
+use Rattle.std.proofs.Common.{◌≡◌, ℕ, zero, suc, List, [], ◌∷◌, map, true, false, Option, Some, None, inl, inr, refl, sym, ap, ◌∙◌, subst, arith, eq-eqb, eqb-true}
 use Rattle.std.proofs.lemmas.Bool.{true≢false, false_from_ne_true}
 use Rattle.std.proofs.lemmas.Option.{same_Some}
-use Rattle.wire_runs.specs.Plan.{Plan, Event, Kind, Publish, Unpublish, UnpublishAll, kind, kind_at, kinds, event_count, node_of, same_node}
+use Rattle.wire_runs.specs.Plan.{Plan, Event, Kind, Publish, Unpublish, UnpublishAll, kind, kind_at, kinds, event_count, node_of}
 use Rattle.wire_runs.specs.Fences.{collects, is_collecting}
 use Rattle.wire_runs.specs.Names.{publishes, takes_name}
-use Rattle.wire_runs.specs.Order.{PublishesOnce, Live, Before}
+use Rattle.wire_runs.specs.Order.{PublishesOnce}
 use Rattle.wire_runs.specs.Races.{Delivery, ByFence, ByGet, Delivers, FenceDelivers, GetDelivers}
-use Rattle.wire_runs.specs.Embeddings.{Renaming, image, name_of, IsNameOf, IsSetOf, IsEmbedding, IsKept}
+use Rattle.wire_runs.specs.Embeddings.{Renaming, image, IsNameOf, IsSetOf, IsEmbedding, IsKept}
 use Rattle.wire_runs.specs.Parts.{Piece, Kept, place_in, MayLeave, IsPartEach}
 use Rattle.wire_runs.specs.Renamed.{renumbering, IsRenumbered}
 use Rattle.wire_runs.proofs.Basics.{event_within, list_all_at_member}

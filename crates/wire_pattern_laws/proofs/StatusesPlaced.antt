@@ -1,50 +1,23 @@
 -- The statuses of a get-now on all placings are told by the order of the plan's calls.
-use Rattle.std.proofs.Common.{◌≡◌, ℕ, zero, suc, ◌<◌, ◌≤◌, true, false, Bool, Option, Some, is_some, ◌⊎◌, inl, inr, refl, sym, ap, ◌∙◌, subst, arith, eq-eqb, eqb-true, ne_eqb}
+use Rattle.std.proofs.Common.{◌≡◌, ℕ, zero, suc, ◌<◌, true, false, Some, is_some, ◌⊎◌, inl, inr, refl, sym, ap, ◌∙◌, subst, arith, eq-eqb, ne_eqb}
 use Rattle.std.proofs.lemmas.Bool.{cases_eq, cases_lt, cases_Bool, true≢false}
 use Rattle.wire_types.specs.declared.Status.{Status}
-use Rattle.wire_types.specs.declared.Status.TheVariants as status
 use Rattle.wire_runs.specs.Plan.{Plan, Event, GetNow, kind, event_count, process_count, node_of, same_node, admits}
-use Rattle.wire_runs.specs.Puts.{own, stored, scope_of}
-use Rattle.wire_runs.specs.Order.{Stores, Live, Before}
-use Rattle.wire_runs.specs.Races.{ComesSurely, IsOf, IsSettled}
+use Rattle.wire_runs.specs.Puts.{stored}
+use Rattle.wire_runs.specs.Order.{Live}
+use Rattle.wire_runs.specs.Races.{IsSettled}
 use Rattle.wire_runs.specs.Laws.{Marks}
 use Rattle.wire_runs.specs.Placings.{IsPlacing, paired, HasSurely, IsSettledAnywhere}
 use Rattle.wire_runs.proofs.Basics.{process_within, stored_own, stores_commit}
 use Rattle.wire_runs.proofs.Puts.{put_once}
 use Rattle.wire_runs.proofs.Histories.{before_live, joined, no_cycle}
-use Rattle.wire_runs.proofs.HaveFates.{have_fates}
 use Rattle.wire_runs.proofs.LeastFar.{have_least}
 use Rattle.wire_runs.proofs.PlacingKeeps.{turned, placing_keeps, counts, kind_kept, own_same, stored_same, scope_same, surely_kept}
 use Rattle.wire_runs.proofs.PlacingReplies.{reflexive, near_is, alone_is}
 use Rattle.wire_runs.proofs.Anywhere.{placing_is, pair_node, first_of_pair, second_of_pair, of_pair, to_node, to_process, part_within, settled_there}
-use Rattle.wire_pattern_laws.specs.SmallReplies.{IsToSay}
-use Rattle.wire_pattern_laws.specs.StatusesTold.{shown_status, found_status, event_in, CanSay, Own, Near, NearNothing, Far, FarNothing, StatusesTold}
-use Rattle.wire_pattern_laws.proofs.FindsByOrder.{FindsOwn, own_nothing, own_value, FindsNear, near_nothing, near_value, FindsFar, far_nothing, far_value, Finds, from_own, from_near, from_far, absent, undenied, fate_finds, fate_found}
-
-pub marks_placed : (plan other : Plan) → IsPlacing plan other → Marks plan → Marks other
-marks_placed plan other same marks =
-    let kept = placing_keeps plan other same in
-    record {
-      alive = marks.alive;
-      before = marks.before;
-      tells_live = λ y. ((λ t. (kept.lives y).0 ((marks.tells_live y).0 t)), (λ l. (marks.tells_live y).1 ((kept.lives y).1 l)));
-      tells_before = λ x y. ((λ t. (kept.chains x y).0 ((marks.tells_before x y).0 t)), (λ b. (marks.tells_before x y).1 ((kept.chains x y).1 b)));
-    }
-
--- with marks, what a get-now is to say it finds
-pub to_say_finds : (plan : Plan) → IsSettled plan → Marks plan → (get : Event) (owner key : ℕ) → kind plan get ≡ Some (GetNow owner key) → (found : Status) → IsToSay plan get found → Finds plan get owner key found
-to_say_finds plan settled marks get owner key is found say =
-    let f = have_fates plan settled marks get in
-    fate_found plan settled get owner key is say.is_live found f.0 f.1 (say.says f.0 f.1)
-
-pub finds_to_say : (plan : Plan) → IsSettled plan → (get : Event) (owner key : ℕ) → kind plan get ≡ Some (GetNow owner key) → Live plan get → (found : Status) → Finds plan get owner key found → IsToSay plan get found
-finds_to_say plan settled get owner key is l found finds = record { is_live = l; says = fate_finds plan settled get owner key is l found finds }
-
-own_found : (o : Option ℕ) (found : Status) → found ≡ found_status (is_some o) → ((is_some o ≡ false) × (found ≡ status.NotFound)) ⊎ ((is_some o ≡ true) × (found ≡ status.Success))
-own_found o found is = elim (cases_Bool (is_some o)) [
-  | inl t ↦ inr (t, is ∙ ap found_status t)
-  | inr f ↦ inl (f, is ∙ ap found_status f)
-]
+use Rattle.wire_pattern_laws.specs.Finds.{found_status, shown_status, event_in, FindsOwn, FindsNear, near_nothing, near_value, FindsFar, far_nothing, far_value, Finds, from_own, from_near, from_far}
+use Rattle.wire_pattern_laws.specs.StatusesTold.{CanSay, Own, Near, NearNothing, Far, FarNothing, StatusesTold}
+use Rattle.wire_pattern_laws.proofs.FindsByOrder.{absent, undenied}
 
 module _ (plan : Plan) (everywhere : IsSettledAnywhere plan) (marks : Marks plan) (get : Event) (owner key : ℕ) (is : kind plan get ≡ Some (GetNow owner key)) (is_live : Live plan get) (found : Status) where
   here : IsSettled plan
@@ -56,14 +29,13 @@ module _ (plan : Plan) (everywhere : IsSettledAnywhere plan) (marks : Marks plan
     there = settled_there plan other same everywhere
 
     own_told : get.proc ≡ owner → FindsOwn other get owner key found → CanSay plan get owner key found
-    own_told s (own_nothing n f) = Own s (f ∙ sym (ap found_status (ap is_some (own_same plan other same owner key get.at) ∙ n)))
-    own_told s (own_value n f) = Own s (f ∙ sym (ap found_status (ap is_some (own_same plan other same owner key get.at) ∙ n)))
+    own_told s f = Own s (f ∙ sym (ap (λ o. found_status (is_some o)) (own_same plan other same owner key get.at)))
 
     near_told : (get.proc ≡ owner → ⊥) → FindsNear other get owner key found → CanSay plan get owner key found
     near_told ne (near_nothing none f) =
         let kept = placing_keeps plan other same in
         NearNothing ne (λ i stores b. none i ((kept.stores (event_in owner i) key).0 stores) ((kept.chains (event_in owner i) get).0 b)) f
-    near_told ne (near_value i stores l not_before put is_put f) =
+    near_told ne (near_value i put stores l not_before is_put f) =
         let kept = placing_keeps plan other same in
         let commit = event_in owner i in
         let stores' = (kept.stores commit key).1 stores in
@@ -117,18 +89,15 @@ module _ (plan : Plan) (everywhere : IsSettledAnywhere plan) (marks : Marks plan
     told (from_near ne near f) = near_told ne f
     told (from_far ne away f) = far_told ne away f
 
-  told_there : (other : Plan) × IsPlacing plan other × IsToSay other get found → CanSay plan get owner key found
-  told_there o =
-      let kind_there = kind_kept plan o.0 o.1 get (GetNow owner key) refl is in
-      told o.0 o.1 (to_say_finds o.0 (there o.0 o.1) (marks_placed plan o.0 o.1 marks) get owner key kind_there found o.2)
+  told_there : (other : Plan) × IsPlacing plan other × Finds other get owner key found → CanSay plan get owner key found
+  told_there o = told o.0 o.1 o.2
 
   -- and back
   abbrev Somewhere : Type 0
-  Somewhere = (other : Plan) × IsPlacing plan other × IsToSay other get found
+  Somewhere = (other : Plan) × IsPlacing plan other × Finds other get owner key found
 
   on : (other : Plan) → IsPlacing plan other → Finds other get owner key found → Somewhere
-  on other same finds =
-      (other, same, finds_to_say other (there other same) get owner key (kind_kept plan other same get (GetNow owner key) refl is) (((placing_keeps plan other same).lives get).0 is_live) found finds)
+  on other same finds = (other, same, finds)
 
   reader_within : get.proc < process_count plan
   reader_within = process_within plan get.proc get.at _ is
@@ -142,10 +111,7 @@ module _ (plan : Plan) (everywhere : IsSettledAnywhere plan) (marks : Marks plan
       go (inr s) = not_mate s
 
   somewhere : CanSay plan get owner key found → Somewhere
-  somewhere (Own s f) = elim (own_found (own plan owner key get.at) found f) [
-    | inl n ↦ on plan (reflexive plan) (from_own s (own_nothing n.0 n.1))
-    | inr v ↦ on plan (reflexive plan) (from_own s (own_value v.0 v.1))
-  ]
+  somewhere (Own s f) = on plan (reflexive plan) (from_own s f)
   somewhere (Near ne i put stores before is_put f) =
       let other = paired plan owner get.proc in
       let same = placing_is plan (pair_node owner get.proc) in
@@ -153,9 +119,9 @@ module _ (plan : Plan) (everywhere : IsSettledAnywhere plan) (marks : Marks plan
       let commit = event_in owner i in
       let owner_lt = process_within plan owner i _ (stores_commit plan commit key stores) in
       on other same (from_near ne (near_is plan owner get.proc owner_lt reader_within)
-      (near_value i ((kept.stores commit key).0 stores) ((kept.lives commit).0 (before_live before))
+      (near_value i put ((kept.stores commit key).0 stores) ((kept.lives commit).0 (before_live before))
       (λ b. no_cycle (before_live before) (joined before ((kept.chains get commit).1 b)))
-      put (sym (stored_same plan other same owner key (event_count other owner)) ∙ ap (stored plan owner key) (sym (counts plan other same owner)) ∙ is_put)
+      (sym (stored_same plan other same owner key (event_count other owner)) ∙ ap (stored plan owner key) (sym (counts plan other same owner)) ∙ is_put)
       (f ∙ ap (λ s. shown_status (admits s true)) (scope_same plan other same owner put))))
   somewhere (NearNothing ne none f) = elim (cases_lt owner (process_count plan)) [
     | inr past ↦ on plan (reflexive plan) (absent plan get owner key found ne past f)
