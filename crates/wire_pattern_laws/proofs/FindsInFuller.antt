@@ -50,8 +50,12 @@ module _ (small large : Plan) (pieces : ℕ → List Piece) (adds : AddsReads sm
   kept (ByGet g) delivers =
       let d : GetDelivers large owner key (node_of large get.proc) g = delivers.brings_it in
       elim (spot small large pieces adds g _ d.away.is) [
-        | inl s ↦ (s.0, s.1, (let proc_is : s.0.proc ≡ g.proc = ap (λ (v : Event). v.proc) s.1 in
-            sym (adds.nodes s.0.proc) ∙ ap (node_of large) proc_is ∙ d.there ∙ adds.nodes get.proc))
+        | inl s ↦ (
+          s.0,
+          s.1,
+          (let proc_is : s.0.proc ≡ g.proc = ap (λ (v : Event). v.proc) s.1 in
+              sym (adds.nodes s.0.proc) ∙ ap (node_of large) proc_is ∙ d.there ∙ adds.nodes get.proc),
+        )
         | inr r ↦ absurd r
       ]
 

@@ -43,17 +43,17 @@ module _ (plan : Plan) (everywhere : IsSettledAnywhere plan) (marks : Marks plan
         elim (cases_Bool (marks.before commit get)) [
           | inl t ↦ Near ne i put stores' ((marks.tells_before commit get).0 t) is_put' (f ∙ ap (λ s. shown_status (admits s true)) (sym (scope_same plan other same owner put)))
           | inr n ↦ absurd (everywhere.no_near_race commit get key (record {
-              is = is;
-              another = ne;
-              once = put_once plan here owner key (event_count plan owner) (stored_own plan owner key (event_count plan owner) (ap is_some is_put'));
-              stores = stores';
-              unordered = record {
-                live_x = (kept.lives commit).1 l;
-                live_y = is_live;
-                not_before = λ b. true≢false (sym ((marks.tells_before commit get).1 b) ∙ n);
-                not_after = λ b. not_before ((kept.chains get commit).0 b);
-              };
-            }))
+            is = is;
+            another = ne;
+            once = put_once plan here owner key (event_count plan owner) (stored_own plan owner key (event_count plan owner) (ap is_some is_put'));
+            stores = stores';
+            unordered = record {
+              live_x = (kept.lives commit).1 l;
+              live_y = is_live;
+              not_before = λ b. true≢false (sym ((marks.tells_before commit get).1 b) ∙ n);
+              not_after = λ b. not_before ((kept.chains get commit).0 b);
+            };
+          }))
         ]
 
     -- of the first n processes one that is on the get's node and surely has the key, or none

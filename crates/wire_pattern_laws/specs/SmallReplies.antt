@@ -16,7 +16,8 @@ use Rattle.wire_pattern_laws.specs.Finds.{status_of, Finds}
 
 -- a small instance, with each process on a node of its own but perhaps one on that of the get, has a live get-now of
 -- line number n of the role that finds this
-pub record HasSmall (pattern : Pattern) (coding : Coding) (bound : ℕ) (least most : ℕ → ℕ) (role n : ℕ) (found : Status) : Type 0 where
+pub record HasSmall (pattern : Pattern) (coding : Coding) (bound : ℕ) (least most : ℕ → ℕ) (role n : ℕ)
+    (found : Status) : Type 0 where
   pub cast : Cast
   pub cast_is : IsCastOf pattern cast
   pub in_order : IsInOrder bound cast
@@ -45,7 +46,8 @@ StatusesOfSmall = (pattern : Pattern) (coding : Coding) (bound : ℕ) (least mos
     → HasSmall pattern coding bound least most role n (status_of a)
 
 -- what a get-now finds in an instance, one of its line finds where loops that only read take more turns
-pub record FindsInFuller (pattern : Pattern) (coding : Coding) (fuller : Cast) (role n owner key : ℕ) (found : Status) : Type 0 where
+pub record FindsInFuller (pattern : Pattern) (coding : Coding) (fuller : Cast) (role n owner key : ℕ)
+    (found : Status) : Type 0 where
   pub get : Event
   pub of_line : IsOfLine pattern fuller get role n
   pub is : kind (instance_of pattern coding fuller) get ≡ Some (GetNow owner key)

@@ -18,7 +18,8 @@ pub data CanSay (plan : Plan) (get : Event) (owner key : ℕ) (found : Status) :
   Near : get.proc ≢ owner → (i put : ℕ) → Stores plan (event_in owner i) key → Before plan (event_in owner i) get
       → stored plan owner key (event_count plan owner) ≡ Some put
       → found ≡ shown_status (admits (scope_of plan owner put) true) → CanSay plan get owner key found
-  NearNothing : get.proc ≢ owner → ((i : ℕ) → Stores plan (event_in owner i) key → ¬ (Before plan (event_in owner i) get))
+  NearNothing : get.proc ≢ owner
+      → ((i : ℕ) → Stores plan (event_in owner i) key → ¬ (Before plan (event_in owner i) get))
       → found ≡ status.NotFound → CanSay plan get owner key found
   Far : get.proc ≢ owner → (m : ℕ) → HasSurely plan owner key m get → found ≡ status.Success
       → CanSay plan get owner key found
