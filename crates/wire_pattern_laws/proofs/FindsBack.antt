@@ -1,10 +1,10 @@
 -- What a get-now finds in a large plan, its image finds in a small one that stands in it.
-use Rattle.std.proofs.Common.{◌≡◌, ℕ, suc, ◌<◌, ◌≤◌, List, true, false, Option, Some, None, is_some, ◌⊎◌, inl, inr, refl, sym, ap, ◌∙◌, subst, arith}
+use Rattle.std.proofs.Common.{◌≡◌, ℕ, suc, ◌≤◌, true, false, Some, is_some, inl, inr, refl, sym, ap, ◌∙◌, subst, arith}
 use Rattle.std.specs.Prelude.{option_map}
 use Rattle.std.proofs.lemmas.Bool.{cases_lt, true≢false}
 use Rattle.wire_types.specs.declared.Status.{Status}
 use Rattle.wire_types.specs.declared.Status.TheVariants as status
-use Rattle.wire_runs.specs.Plan.{Plan, Event, GetNow, kind, event_count, node_of, same_node, admits}
+use Rattle.wire_runs.specs.Plan.{Plan, Event, GetNow, kind, event_count, node_of, admits}
 use Rattle.wire_runs.specs.Puts.{own, stored, scope_of}
 use Rattle.wire_runs.specs.Fences.{is_member}
 use Rattle.wire_runs.specs.Order.{Stores, IsArrival, Live, Before}
@@ -17,7 +17,7 @@ use Rattle.wire_runs.proofs.Arrivals.{left_first, left_full, left_arrived, node_
 use Rattle.wire_runs.proofs.Images.{mapped_some, own_some, stored_end, stores_into, full_back, arrival_into, arrival_back}
 use Rattle.wire_runs.proofs.EmbeddedOrder.{chain_into, live_back}
 use Rattle.wire_runs.proofs.EmbeddedFindings.{mate_within, scope_same, get_delivers_back, fence_delivers_back}
-use Rattle.wire_pattern_laws.proofs.FindsByOrder.{event_in, shown_status, FindsOwn, own_nothing, own_value, FindsNear, near_nothing, near_value, FindsFar, far_nothing, far_value}
+use Rattle.wire_pattern_laws.specs.Finds.{found_status, shown_status, event_in, FindsOwn, FindsNear, near_nothing, near_value, FindsFar, far_nothing, far_value}
 
 -- a process stores a key once
 pub stores_one : (plan : Plan) (p key i j : ℕ) → Stores plan (event_in p i) key → Stores plan (event_in p j) key → i ≡ j
@@ -34,7 +34,7 @@ module _ (to : Renaming) (small large : Plan) (e : IsEmbedding to small large) (
   on_key = (get, GetNow owner key, is, refl)
 
   pub own_back : (found : Status) → get.proc ≡ owner → FindsOwn large (image to get) (to.process owner) (to.key key) found → FindsOwn small get owner key found
-  own_back found s f = go f
+  own_back found s f = f ∙ ap found_status same
     where
       within : get.at ≤ event_count small owner
       within = let w = event_within small get.proc get.at _ is in subst (λ p. get.at ≤ event_count small p) s (omega (arith, w))
@@ -42,22 +42,18 @@ module _ (to : Renaming) (small large : Plan) (e : IsEmbedding to small large) (
       same : is_some (own large (to.process owner) (to.key key) (to.place get.proc get.at)) ≡ is_some (own small owner key get.at)
       same = ap (λ p. is_some (own large (to.process owner) (to.key key) (to.place p get.at))) s ∙ own_some to small large e owner key get.at on_key within
 
-      go : FindsOwn large (image to get) (to.process owner) (to.key key) found → FindsOwn small get owner key found
-      go (own_nothing n is_found) = own_nothing (sym same ∙ n) is_found
-      go (own_value n is_found) = own_value (sym same ∙ n) is_found
-
   pub near_back : (found : Status) → FindsNear large (image to get) (to.process owner) (to.key key) found → FindsNear small get owner key found
   near_back found (near_nothing none is_found) =
       near_nothing (λ i stores b. none (to.place owner i) (stores_into to small large e (event_in owner i) key on_key stores) (chain_into to small large e b live_get)) is_found
-  near_back found (near_value i stores l not_before put is_put is_found) =
+  near_back found (near_value i put stores l not_before is_put is_found) =
       let v = mapped_some (to.place owner) (stored small owner key (event_count small owner)) put (sym (stored_end to small large e owner key on_key) ∙ is_put) in
       let first = first_stores small owner key (event_count small owner) (ap is_some v.1) in
       let into = stores_into to small large e (event_in owner first.0) key on_key first.2 in
       let one : to.place owner first.0 ≡ i = stores_one large (to.process owner) (to.key key) (to.place owner first.0) i into stores in
       let l' : Live large (image to (event_in owner first.0)) = subst (λ j. Live large (event_in (to.process owner) j)) (sym one) l in
-      near_value first.0 first.2 (live_back to small large e (event_in owner first.0) l')
+      near_value first.0 v.0 first.2 (live_back to small large e (event_in owner first.0) l')
       (λ b. not_before (subst (λ j. Before large (image to get) (event_in (to.process owner) j)) one (chain_into to small large e b l')))
-      v.0 v.1
+      v.1
       (is_found ∙ ap (λ u. shown_status (admits (scope_of large (to.process owner) u) true)) (sym v.2)
       ∙ ap (λ s. shown_status (admits s true)) (scope_same to small large e owner key (event_count small owner) v.0 v.1))
 

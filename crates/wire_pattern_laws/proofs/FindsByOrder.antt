@@ -1,20 +1,20 @@
 -- What a get-now finds, told by the order of calls alone: so it can be handed on to a plan of which no run is known.
-use Rattle.std.proofs.Common.{◌≡◌, ℕ, suc, ◌<◌, ◌≤◌, List, true, false, Bool, Option, Some, None, is_some, ◌==◌, ◌⊎◌, inl, inr, refl, sym, ap, ◌∙◌, subst, arith, eq-eqb, ne_eqb}
-use Rattle.std.specs.Prelude.{slice_get, if◌then◌else◌}
-use Rattle.std.proofs.lemmas.Bool.{cond-true, cond-false, cond_both, cases_eq, cases_lt, cases_Bool, and_from, true≢false}
+use Rattle.std.proofs.Common.{◌≡◌, ℕ, suc, ◌<◌, ◌≤◌, true, false, Option, Some, None, is_some, inl, inr, refl, sym, ap, ◌∙◌, subst, arith, eq-eqb, ne_eqb}
+use Rattle.std.specs.Prelude.{if◌then◌else◌}
+use Rattle.std.proofs.lemmas.Bool.{cond-true, cond-false, cases_eq, cases_lt, cases_Bool, and_from, true≢false}
 use Rattle.std.proofs.lemmas.Option.{none-some, same_Some}
 use Rattle.wire_types.specs.declared.Status.{Status}
 use Rattle.wire_types.specs.declared.Status.TheVariants as status
-use Rattle.wire_runs.specs.Plan.{Plan, Event, GetNow, Get, kind, event_count, node_of, same_node, admits}
+use Rattle.wire_runs.specs.Plan.{Plan, Event, GetNow, kind, event_count, process_count, node_of, same_node, admits}
 use Rattle.wire_runs.specs.State.{Answer, State, IsDone}
 use Rattle.wire_runs.specs.Puts.{own, stored, scope_of}
 use Rattle.wire_runs.specs.Fences.{arrivals}
 use Rattle.wire_runs.specs.Sight.{Outside, Shown, held, served, has_brought, brought, get_now_sees}
 use Rattle.wire_runs.specs.Step.{may_do, sight_reply, reply}
-use Rattle.wire_runs.specs.Order.{Stores, IsArrival, Live, Before}
+use Rattle.wire_runs.specs.Order.{Stores, Live, Before}
 use Rattle.wire_runs.specs.Races.{Delivery, ByFence, ByGet, IsOf, FenceDelivers, GetDelivers, Delivers, ComesSurely, IsSettled}
-use Rattle.wire_runs.specs.Fate.{Fate, Waits, Says, fate_in, HasFate, dead, told, IsPast}
-use Rattle.wire_runs.proofs.Basics.{event_within, stored_own, stored_stays}
+use Rattle.wire_runs.specs.Fate.{Fate, Waits, Says, HasFate, dead, told, IsPast}
+use Rattle.wire_runs.proofs.Basics.{event_within, process_within, stored_own, stored_stays, stores_commit}
 use Rattle.wire_runs.proofs.Due.{ClosedCut, chain_in, arrived}
 use Rattle.wire_runs.proofs.Puts.{stored_fixed, put_once, first_stores}
 use Rattle.wire_runs.proofs.Brought.{no_least, complete_more, complete_if_arrived}
@@ -23,37 +23,7 @@ use Rattle.wire_runs.proofs.Came.{Came, by_fence, by_get, came, came_is, brings_
 use Rattle.wire_runs.proofs.Fates.{get_fate, past_closed, past_known, past_not_yet}
 use Rattle.wire_runs.proofs.Histories.{before_live}
 use Rattle.wire_runs.proofs.Arrivals.{all_undenied}
-use Rattle.wire_pattern_laws.specs.SmallReplies.{status_of}
-
-abbrev pub event_in : ℕ → ℕ → Event
-event_in p i = record { proc = p; at = i }
-
--- the status of what an owner's server shows
-abbrev pub shown_status : Bool → Status
-shown_status true = status.Success
-shown_status false = status.ExistsOutsideScope
-
--- of a get-now of its own process's key
-pub data FindsOwn (plan : Plan) (get : Event) (owner key : ℕ) (found : Status) : Type 0 where
-  own_nothing : is_some (own plan owner key get.at) ≡ false → found ≡ status.NotFound → FindsOwn plan get owner key found
-  own_value : is_some (own plan owner key get.at) ≡ true → found ≡ status.Success → FindsOwn plan get owner key found
-
--- of one on the owner's node: no commit that stores the key is before it; or there is one, live, and the get isn't
--- before it
-pub data FindsNear (plan : Plan) (get : Event) (owner key : ℕ) (found : Status) : Type 0 where
-  near_nothing : ((i : ℕ) → Stores plan (event_in owner i) key → Before plan (event_in owner i) get → ⊥) → found ≡ status.NotFound → FindsNear plan get owner key found
-  near_value : (i : ℕ) → Stores plan (event_in owner i) key → Live plan (event_in owner i) → (Before plan get (event_in owner i) → ⊥) → (put : ℕ) →
-      stored plan owner key (event_count plan owner) ≡ Some put → found ≡ shown_status (admits (scope_of plan owner put) true) → FindsNear plan get owner key found
-
--- of one elsewhere: no delivery comes surely; or there is one, and the get is before none of its events
-pub data FindsFar (plan : Plan) (get : Event) (owner key : ℕ) (found : Status) : Type 0 where
-  far_nothing : (ComesSurely plan owner key (node_of plan get.proc) get → ⊥) → found ≡ status.NotFound → FindsFar plan get owner key found
-  far_value : (d : Delivery) → Delivers plan owner key (node_of plan get.proc) d → ((z : Event) → IsOf plan d z → Before plan get z → ⊥) → found ≡ status.Success → FindsFar plan get owner key found
-
-pub data Finds (plan : Plan) (get : Event) (owner key : ℕ) (found : Status) : Type 0 where
-  from_own : get.proc ≡ owner → FindsOwn plan get owner key found → Finds plan get owner key found
-  from_near : (get.proc ≡ owner → ⊥) → same_node plan owner get.proc ≡ true → FindsNear plan get owner key found → Finds plan get owner key found
-  from_far : (get.proc ≡ owner → ⊥) → same_node plan owner get.proc ≡ false → FindsFar plan get owner key found → Finds plan get owner key found
+use Rattle.wire_pattern_laws.specs.Finds.{status_of, found_status, shown_status, event_in, FindsOwn, FindsNear, near_nothing, near_value, FindsFar, far_nothing, far_value, Finds, from_own, from_near, from_far}
 
 -- a state that has all that is before the get, and not the get
 pub record Poised (plan : Plan) (s : State) (get : Event) : Type 0 where
@@ -132,6 +102,18 @@ brought_is_stored plan owner key node (ByGet get) delivers =
     let d : GetDelivers plan owner key node get = delivers.brings_it in
     ap is_some d.away.committed
 
+-- of an owner that isn't a process nothing is found
+pub absent : (plan : Plan) (get : Event) (owner key : ℕ) (found : Status) → (get.proc ≡ owner → ⊥) → process_count plan ≤ owner → found ≡ status.NotFound → Finds plan get owner key found
+absent plan get owner key found ne none is_found = elim (cases_Bool (same_node plan owner get.proc)) [
+  | inl near ↦ from_near ne near (near_nothing (λ i stores b. stores_nothing i stores) is_found)
+  | inr away ↦ from_far ne away (far_nothing (λ sure. (
+      let first = first_stores plan owner key (event_count plan owner) (brought_is_stored plan owner key (node_of plan get.proc) sure.delivery sure.delivers) in
+      stores_nothing first.0 first.2)) is_found)
+]
+  where
+    stores_nothing : (i : ℕ) → Stores plan (event_in owner i) key → ⊥
+    stores_nothing i stores = let w = process_within plan owner i _ (stores_commit plan (event_in owner i) key stores) in omega (arith, none, w)
+
 module _ (plan : Plan) (settled : IsSettled plan) (get : Event) (owner key : ℕ) (is : kind plan get ≡ Some (GetNow owner key)) (is_live : Live plan get) where
   -- where there is a delivery, and the get is before none of its events, it isn't denied that one comes surely
   module _ (away : same_node plan owner get.proc ≡ false) (not_sure : ComesSurely plan owner key (node_of plan get.proc) get → ⊥) (d : Delivery) (delivers : Delivers plan owner key (node_of plan get.proc) d)
@@ -160,7 +142,7 @@ module _ (plan : Plan) (settled : IsSettled plan) (get : Event) (owner key : ℕ
     no_late : (z : Event) → IsOf plan d z → (Before plan z get → ⊥) → ⊥
     no_late z a not = no_least Late no_first (suc z.proc) z.proc (omega arith) (z, a, not, refl)
 
-  undenied : same_node plan owner get.proc ≡ false → (ComesSurely plan owner key (node_of plan get.proc) get → ⊥) → (d : Delivery) → Delivers plan owner key (node_of plan get.proc) d →
+  pub undenied : same_node plan owner get.proc ≡ false → (ComesSurely plan owner key (node_of plan get.proc) get → ⊥) → (d : Delivery) → Delivers plan owner key (node_of plan get.proc) d →
       ((z : Event) → IsOf plan d z → Before plan get z → ⊥) → ⊥
   undenied away not_sure (ByGet g) delivers none =
       no_late away not_sure (ByGet g) delivers none g refl
@@ -171,10 +153,7 @@ module _ (plan : Plan) (settled : IsSettled plan) (get : Event) (owner key : ℕ
 
   -- in a settled plan it finds one thing
   one_own : (a b : Status) → FindsOwn plan get owner key a → FindsOwn plan get owner key b → a ≡ b
-  one_own a b (own_nothing n ea) (own_nothing m eb) = ea ∙ sym eb
-  one_own a b (own_value n ea) (own_value m eb) = ea ∙ sym eb
-  one_own a b (own_nothing n ea) (own_value m eb) = absurd (true≢false (sym m ∙ n))
-  one_own a b (own_value n ea) (own_nothing m eb) = absurd (true≢false (sym n ∙ m))
+  one_own a b f g = f ∙ sym g
 
   race_near : (get.proc ≡ owner → ⊥) → same_node plan owner get.proc ≡ true → ((i : ℕ) → Stores plan (event_in owner i) key → Before plan (event_in owner i) get → ⊥) →
       (i : ℕ) → Stores plan (event_in owner i) key → Live plan (event_in owner i) → (Before plan get (event_in owner i) → ⊥) → (put : ℕ) → stored plan owner key (event_count plan owner) ≡ Some put → ⊥
@@ -191,9 +170,9 @@ module _ (plan : Plan) (settled : IsSettled plan) (get : Event) (owner key : ℕ
 
   one_near : (get.proc ≡ owner → ⊥) → same_node plan owner get.proc ≡ true → (a b : Status) → FindsNear plan get owner key a → FindsNear plan get owner key b → a ≡ b
   one_near ne near a b (near_nothing n ea) (near_nothing m eb) = ea ∙ sym eb
-  one_near ne near a b (near_nothing n ea) (near_value i st l nb put is_put eb) = absurd (race_near ne near n i st l nb put is_put)
-  one_near ne near a b (near_value i st l nb put is_put ea) (near_nothing m eb) = absurd (race_near ne near m i st l nb put is_put)
-  one_near ne near a b (near_value i st l nb put is_put ea) (near_value i' st' l' nb' put' is_put' eb) =
+  one_near ne near a b (near_nothing n ea) (near_value i put st l nb is_put eb) = absurd (race_near ne near n i st l nb put is_put)
+  one_near ne near a b (near_value i put st l nb is_put ea) (near_nothing m eb) = absurd (race_near ne near m i st l nb put is_put)
+  one_near ne near a b (near_value i put st l nb is_put ea) (near_value i' put' st' l' nb' is_put' eb) =
       ea ∙ ap (λ v. shown_status (admits (scope_of plan owner v) true)) (same_Some _ _ (sym is_put ∙ is_put')) ∙ sym eb
 
   one_far : same_node plan owner get.proc ≡ false → (a b : Status) → FindsFar plan get owner key a → FindsFar plan get owner key b → a ≡ b
@@ -223,12 +202,12 @@ module _ (plan : Plan) (settled : IsSettled plan) (s : State) (get : Event) (own
   shows_own : (e : get.proc ≡ owner) → (o : Option ℕ) → own plan owner key get.at ≡ o → Sees
   shows_own e None is = record {
     found = status.NotFound;
-    finds = from_own e (own_nothing (ap is_some is) refl);
+    finds = from_own e (sym (ap found_status (ap is_some is)));
     shows = ap (λ v. status_of (sight_reply owner v)) (cond-true _ _ _ (eq-eqb get.proc owner e) ∙ ap held is);
   }
   shows_own e (Some put) is = record {
     found = status.Success;
-    finds = from_own e (own_value (ap is_some is) refl);
+    finds = from_own e (sym (ap found_status (ap is_some is)));
     shows = ap (λ v. status_of (sight_reply owner v)) (cond-true _ _ _ (eq-eqb get.proc owner e) ∙ ap held is);
   }
 
@@ -249,7 +228,7 @@ module _ (plan : Plan) (settled : IsSettled plan) (s : State) (get : Event) (own
       let first = first_stores plan owner key (s.done owner) (ap is_some is) in
       record {
         found = shown_status (admits (scope_of plan owner put) true);
-        finds = from_near ne near (near_value first.0 first.2 (at.closed.all_live (event_in owner first.0) first.1) (never_after plan s get at (event_in owner first.0) first.1) put
+        finds = from_near ne near (near_value first.0 put first.2 (at.closed.all_live (event_in owner first.0) first.1) (never_after plan s get at (event_in owner first.0) first.1)
             (stored_fixed plan settled owner key (s.done owner) (event_count plan owner) (at.closed.within owner) (ap is_some is) ∙ is) refl);
         shows = ap (λ v. status_of (sight_reply owner v)) (cond-false _ _ _ (ne_eqb get.proc owner ne) ∙ cond-true _ _ _ near ∙ ap (served plan owner true) is) ∙ served_status put;
       }
@@ -292,6 +271,16 @@ past_answered plan settled y fate_of all past is_past z t key d is other =
     let b = (is_past.cut z).0 d in
     is_past.replies z _ b (get_fate plan settled z (fate_of z) (before_live b) t key is other (all z b))
 
+past_poised : (plan : Plan) → IsSettled plan → (get : Event) → Live plan get → (fate_of : Event → Fate) → ((z : Event) → Before plan z get → HasFate plan z (fate_of z)) → (past : State) →
+    IsPast plan get fate_of past → Poised plan past get
+past_poised plan settled get l fate_of all past is_past = record {
+  closed = past_closed plan settled get l fate_of past is_past;
+  answered = past_answered plan settled get fate_of all past is_past;
+  known = past_known plan settled get l fate_of past is_past;
+  not_yet = past_not_yet plan settled get l fate_of past is_past;
+  is_live = l;
+}
+
 abbrev pub SaysStatus : Fate → Status → Type 0
 SaysStatus fate found = (a : Answer) × (fate ≡ Says a) × (status_of a ≡ found)
 
@@ -299,15 +288,15 @@ pub fate_finds : (plan : Plan) → IsSettled plan → (get : Event) (owner key :
     SaysStatus fate found
 fate_finds plan settled get owner key is l found finds fate (dead not_live e) = absurd (not_live l)
 fate_finds plan settled get owner key is l found finds fate (told m fate_of all past is_past e) =
-    let at : Poised plan past get = record {
-      closed = past_closed plan settled get m fate_of past is_past;
-      answered = past_answered plan settled get fate_of all past is_past;
-      known = past_known plan settled get m fate_of past is_past;
-      not_yet = past_not_yet plan settled get m fate_of past is_past;
-      is_live = m;
-    } in
-    let w = sees plan settled past get owner key at in (
+    let w = sees plan settled past get owner key (past_poised plan settled get m fate_of all past is_past) in (
       sight_reply owner (get_now_sees plan past get.proc get.at owner key),
       e ∙ ap (λ o. if may_do plan past get o then Says (reply plan past get o) else Waits) is,
       w.shows ∙ one_finding plan settled get owner key is l w.found found w.finds finds,
     )
+
+-- with marks a live one finds something
+pub fate_found : (plan : Plan) → IsSettled plan → (get : Event) (owner key : ℕ) → Live plan get → (fate : Fate) → HasFate plan get fate → (found : Status) × Finds plan get owner key found
+fate_found plan settled get owner key l fate (dead not_live e) = absurd (not_live l)
+fate_found plan settled get owner key l fate (told m fate_of all past is_past e) =
+    let w = sees plan settled past get owner key (past_poised plan settled get m fate_of all past is_past) in
+    (w.found, w.finds)

@@ -1,25 +1,23 @@
 -- What a get-now finds on some nodes, it finds where each process has a node of its own, but one of them that of the get.
-use Rattle.std.proofs.Common.{◌≡◌, ℕ, suc, ◌<◌, ◌≤◌, List, length, true, false, Bool, ◌==◌, Option, Some, None, is_some, ◌⊎◌, inl, inr, refl, sym, ap, ◌∙◌, subst, arith, eq-eqb, eqb-true, ne_eqb}
+use Rattle.std.proofs.Common.{◌≡◌, ℕ, ◌<◌, ◌≤◌, List, length, true, false, Option, Some, None, inl, inr, refl, sym, ap, ◌∙◌, arith, eq-eqb, eqb-true, ne_eqb}
 use Rattle.std.specs.Prelude.{slice_get}
-use Rattle.std.proofs.lemmas.Bool.{cond-true, cond-false, cases_eq, cases_lt, cases_Bool, true≢false}
+use Rattle.std.proofs.lemmas.Bool.{cond-true, cond-false, cases_eq, cases_lt, true≢false}
 use Rattle.std.proofs.lemmas.Option.{slice_get_cases}
 use Rattle.wire_types.specs.declared.Status.{Status}
 use Rattle.wire_types.specs.declared.Status.TheVariants as status
-use Rattle.wire_runs.specs.Plan.{Plan, Event, GetNow, kind, kind_at, kinds, kinds_of, event_count, process_count, node_of, same_node}
-use Rattle.wire_runs.specs.Puts.{stored}
-use Rattle.wire_runs.specs.Order.{Stores, Live}
-use Rattle.wire_runs.specs.Races.{Delivery, Delivers}
-use Rattle.wire_runs.specs.Embeddings.{IsEmbedding, IsKept, pair}
+use Rattle.wire_runs.specs.Plan.{Plan, Event, GetNow, kind, kind_at, kinds, kinds_of, process_count, node_of, same_node}
+use Rattle.wire_runs.specs.Order.{Live}
+use Rattle.wire_runs.specs.Embeddings.{IsEmbedding, pair}
 use Rattle.wire_runs.specs.Patterns.{Pattern, Coding, Cast, calls_from, instance_of}
 use Rattle.wire_runs.specs.Restrictions.{script_in, on_nodes}
 use Rattle.wire_runs.proofs.Basics.{process_within, stores_commit}
-use Rattle.wire_runs.proofs.Puts.{first_stores}
 use Rattle.wire_runs.proofs.EmbeddedOrder.{live_back}
 use Rattle.wire_runs.proofs.Placements.{itself, same_calls, mate_of}
 use Rattle.wire_runs.proofs.RestrictedCalls.{instance_kinds}
 use Rattle.wire_runs.proofs.RestrictedWhole.{instance_node, instance_count}
 use Rattle.wire_pattern_laws.proofs.SameCalls.{calls_same, ask_all}
-use Rattle.wire_pattern_laws.proofs.FindsByOrder.{event_in, FindsNear, near_nothing, near_value, FindsFar, brought_is_stored, far_nothing, far_value, Finds, from_own, from_near, from_far}
+use Rattle.wire_pattern_laws.specs.Finds.{event_in, FindsNear, near_nothing, near_value, FindsFar, far_nothing, far_value, Finds, from_own, from_near, from_far}
+use Rattle.wire_pattern_laws.proofs.FindsByOrder.{absent}
 use Rattle.wire_pattern_laws.proofs.FindsBack.{own_back, near_back, far_nothing_back, far_value_back}
 
 -- which two share a node
@@ -102,23 +100,10 @@ module _ (pattern : Pattern) (coding : Coding) (cast : Cast) where
       not_reader : owner ≡ get.proc → ⊥
       not_reader e = ne (sym e)
 
-      -- an owner that isn't a process: nothing is found
-      module _ (none : length cast.roles ≤ owner) where
-        stores_nothing : (p i : ℕ) → Stores (on_pair p get.proc) (event_in owner i) key → ⊥
-        stores_nothing p i stores =
-            let w = process_within (on_pair p get.proc) owner i _ (stores_commit (on_pair p get.proc) (event_in owner i) key stores) in
-            let c = instance_count pattern coding (on_nodes (pair p get.proc) cast) in
-            omega (arith, none, w, c)
-
-        stored_nothing : (p : ℕ) → is_some (stored (on_pair p get.proc) owner key (event_count (on_pair p get.proc) owner)) ≡ true → ⊥
-        stored_nothing p some = let first = first_stores (on_pair p get.proc) owner key (event_count (on_pair p get.proc) owner) some in stores_nothing p first.0 first.2
-
-        absent : found ≡ status.NotFound → Finds (on_pair get.proc get.proc) get owner key found
-        absent is_found = elim (cases_Bool (same_node (on_pair get.proc get.proc) owner get.proc)) [
-          | inl near ↦ from_near ne near (near_nothing (λ i stores b. stores_nothing get.proc i stores) is_found)
-          | inr away ↦ from_far ne away (far_nothing (λ sure.
-              stored_nothing get.proc (brought_is_stored (on_pair get.proc get.proc) owner key (node_of (on_pair get.proc get.proc) get.proc) sure.delivery sure.delivers)) is_found)
-        ]
+      -- an owner that isn't a process
+      beside_none : length cast.roles ≤ owner → found ≡ status.NotFound → FindsBeside
+      beside_none none is_found = beside get.proc refl (absent (on_pair get.proc get.proc) get owner key found ne
+          (let c = instance_count pattern coding (on_nodes (pair get.proc get.proc) cast) in omega (arith, none, c)) is_found)
 
       -- a process that isn't beside the get
       apart_node : (p : ℕ) → (owner ≡ p → ⊥) → owner < length cast.roles → same_node (on_pair p get.proc) owner get.proc ≡ false
@@ -134,16 +119,16 @@ module _ (pattern : Pattern) (coding : Coding) (cast : Cast) where
       near_case : same_node plan owner get.proc ≡ true → FindsNear plan get owner key found → FindsBeside
       near_case near (near_nothing none is_found) = elim (cases_lt owner (length cast.roles)) [
         | inl lt ↦ near_beside near (near_nothing none is_found) lt
-        | inr past ↦ beside get.proc refl (absent past is_found)
+        | inr past ↦ beside_none past is_found
       ]
-      near_case near (near_value i stores l not_before put is_put is_found) =
+      near_case near (near_value i put stores l not_before is_put is_found) =
           let w = process_within plan owner i _ (stores_commit plan (event_in owner i) key stores) in
           let c = instance_count pattern coding cast in
-          near_beside near (near_value i stores l not_before put is_put is_found) (omega (arith, w, c))
+          near_beside near (near_value i put stores l not_before is_put is_found) (omega (arith, w, c))
 
       far_case : same_node plan owner get.proc ≡ false → FindsFar plan get owner key found → FindsBeside
       far_case away (far_nothing none is_found) = elim (cases_lt owner (length cast.roles)) [
-        | inr past ↦ beside get.proc refl (absent past is_found)
+        | inr past ↦ beside_none past is_found
         | inl lt ↦ beside get.proc refl (from_far ne (apart_node get.proc not_reader lt)
             (far_nothing_back itself (on_pair get.proc get.proc) plan (stands get.proc get.proc refl) get owner key (is_on get.proc) live_get found none is_found))
       ]

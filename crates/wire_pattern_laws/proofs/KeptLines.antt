@@ -1,23 +1,22 @@
 -- Without one rank an event is of the same line.
-use Rattle.std.proofs.Common.{◌≡◌, ℕ, zero, suc, ◌+◌, List, [], ◌∷◌, ◌++◌, map, length, Bool, not, ◌==◌, ◌&&◌, nat_lt, Option, Some, None, inl, inr, refl, sym, ap, ◌∙◌, subst, arith, eq-eqb, ne_eqb}
-use Rattle.std.specs.Prelude.{slice_get, filter, cond, replicate}
+use Rattle.std.proofs.Common.{◌≡◌, ℕ, zero, suc, ◌+◌, List, [], ◌∷◌, ◌++◌, map, Bool, not, ◌==◌, ◌&&◌, nat_lt, Some, inl, inr, refl, sym, ap, ◌∙◌, subst, eq-eqb, ne_eqb}
+use Rattle.std.specs.Prelude.{slice_get, filter}
 use Rattle.std.proofs.lemmas.Bool.{cond-true, cond-false, cases_eq, cases_Bool}
 use Rattle.std.proofs.lemmas.List.{map-append}
 use Rattle.std.proofs.lemmas.List.Elements.{filter-append, filter_agree}
-use Rattle.std.proofs.lemmas.Option.{none-some}
-use Rattle.wire_runs.specs.Plan.{Event, kinds_of}
+use Rattle.wire_runs.specs.Plan.{Event}
 use Rattle.wire_runs.specs.Fences.{is_member}
 use Rattle.wire_runs.specs.Embeddings.{image}
 use Rattle.wire_runs.specs.Parts.{Piece, Kept, Left, place_in}
 use Rattle.wire_runs.specs.Patterns.{Line, LinePut, LineCommit, LineFence, LineGet, LineGetNow, LinePublish, LineLookup, LineLookupWait, LineUnpublish, LineUnpublishAll, LineFixed}
 use Rattle.wire_runs.specs.Patterns.{Turns, InOrder, Round, Chosen, Step, Once, Loop, Pattern, Coding, Cast, group, call_in, turns}
-use Rattle.wire_runs.specs.Restrictions.{skip, back, without, restricted, keep_calls, leave_calls, loop_pieces, step_pieces, pieces_from, script_in, pieces_of, removal, CanGo}
+use Rattle.wire_runs.specs.Restrictions.{skip, back, without, restricted, keep_calls, leave_calls, loop_pieces, step_pieces, pieces_from, script_in, removal, CanGo}
 use Rattle.wire_runs.proofs.Skip.{skip_eq, skip_lt, group_skip, filter_map, filter_comm, without_get}
 use Rattle.wire_runs.proofs.WholeSets.{member_group}
-use Rattle.wire_pattern_laws.specs.Lines.{line_size, numbers, turn_numbers, step_numbers, step_lines, numbers_from, IsOfLine}
+use Rattle.wire_pattern_laws.specs.Lines.{numbers, turn_numbers, step_numbers, step_lines, numbers_from, IsOfLine}
 
 -- the numbers of all events, and those of the kept ones, along the pieces
-abbrev Along : List ℕ → List ℕ → List Piece → Type 0
+abbrev pub Along : List ℕ → List ℕ → List Piece → Type 0
 Along [] [] [] = Unit {0}
 Along [] (k ∷ ks) [] = ⊥
 Along (m ∷ ms) ks [] = ⊥
@@ -26,7 +25,7 @@ Along (m ∷ ms) [] (Kept k ∷ pieces) = ⊥
 Along (m ∷ ms) (n ∷ ns) (Kept k ∷ pieces) = (m ≡ n) × Along ms ns pieces
 Along (m ∷ ms) ns (Left k ∷ pieces) = Along ms ns pieces
 
-along_both : (ms ns : List ℕ) (xs : List Piece) (ms' ns' : List ℕ) (ys : List Piece) → Along ms ns xs → Along ms' ns' ys → Along (ms ++ ms') (ns ++ ns') (xs ++ ys)
+pub along_both : (ms ns : List ℕ) (xs : List Piece) (ms' ns' : List ℕ) (ys : List Piece) → Along ms ns xs → Along ms' ns' ys → Along (ms ++ ms') (ns ++ ns') (xs ++ ys)
 along_both [] [] [] ms' ns' ys a b = b
 along_both [] (n ∷ ns) [] ms' ns' ys a b = absurd a
 along_both (m ∷ ms) ns [] ms' ns' ys a b = absurd a
@@ -39,7 +38,7 @@ along_both (m ∷ ms) ns (Left k ∷ xs) ms' ns' ys a b = along_left m (ms ++ ms
     along_left m ms [] xs a = a
     along_left m ms (n ∷ ns) xs a = a
 
-along_get : (ms ns : List ℕ) (xs : List Piece) → Along ms ns xs → (i v : ℕ) → slice_get ms (place_in xs i) ≡ Some v → slice_get ns i ≡ Some v
+pub along_get : (ms ns : List ℕ) (xs : List Piece) → Along ms ns xs → (i v : ℕ) → slice_get ms (place_in xs i) ≡ Some v → slice_get ns i ≡ Some v
 along_get [] [] [] a i v is = is
 along_get [] (n ∷ ns) [] a i v is = absurd a
 along_get (m ∷ ms) ns [] a i v is = absurd a
@@ -51,7 +50,7 @@ along_get (m ∷ ms) [] (Left k ∷ xs) a i v is = along_get ms [] xs a i v is
 along_get (m ∷ ms) (n ∷ ns) (Left k ∷ xs) a i v is = along_get ms (n ∷ ns) xs a i v is
 
 -- pieces of lines
-kept_lines : (coding : Coding) (cast : Cast) (v e n : ℕ) (lines : List Line) → Along (numbers n lines) (numbers n lines) (keep_calls (map (call_in coding cast v e) lines))
+pub kept_lines : (coding : Coding) (cast : Cast) (v e n : ℕ) (lines : List Line) → Along (numbers n lines) (numbers n lines) (keep_calls (map (call_in coding cast v e) lines))
 kept_lines coding cast v e n [] = tt
 kept_lines coding cast v e n (LinePut key scope ∷ lines) = (refl, kept_lines coding cast v e (suc n) lines)
 kept_lines coding cast v e n (LineCommit ∷ lines) = (refl, kept_lines coding cast v e (suc n) lines)
@@ -65,7 +64,7 @@ kept_lines coding cast v e n (LineUnpublish name ∷ lines) = (refl, kept_lines 
 kept_lines coding cast v e n (LineUnpublishAll ∷ lines) = (refl, kept_lines coding cast v e (suc n) lines)
 kept_lines coding cast v e n (LineFixed reply ∷ lines) = (refl, kept_lines coding cast v e (suc n) lines)
 
-left_lines : (coding : Coding) (cast : Cast) (v e n : ℕ) (lines : List Line) → Along (numbers n lines) [] (leave_calls (map (call_in coding cast v e) lines))
+pub left_lines : (coding : Coding) (cast : Cast) (v e n : ℕ) (lines : List Line) → Along (numbers n lines) [] (leave_calls (map (call_in coding cast v e) lines))
 left_lines coding cast v e n [] = tt
 left_lines coding cast v e n (LinePut key scope ∷ lines) = left_lines coding cast v e (suc n) lines
 left_lines coding cast v e n (LineCommit ∷ lines) = left_lines coding cast v e (suc n) lines

@@ -48,39 +48,39 @@ lines_leave coding cast v e (LineLookup name ∷ lines) reads = (tt, lines_leave
 lines_leave coding cast v e (_ ∷ lines) reads = absurd (true≢false (sym reads))
 
 -- the turns of an optional loop: those that the cast takes are kept
-some_pieces : Coding → Cast → ℕ → ℕ → List Line → List ℕ → List Piece
+unfoldable pub some_pieces : Coding → Cast → ℕ → ℕ → List Line → List ℕ → List Piece
 some_pieces coding cast v i lines [] = []
 some_pieces coding cast v i lines (e ∷ es) =
     cond (cast.chosen v i e) (keep_calls (map (call_in coding cast v e) lines)) (leave_calls (map (call_in coding cast v e) lines)) ++ some_pieces coding cast v i lines es
 
-step_pieces : Coding → Cast → Cast → ℕ → ℕ → Step → List Piece
+unfoldable pub step_pieces : Coding → Cast → Cast → ℕ → ℕ → Step → List Piece
 step_pieces coding cast fuller v i (Once line) = keep_calls (call_in coding cast v v line ∷ [])
 step_pieces coding cast fuller v i (Loop role InOrder lines) = keep_calls (loop_calls coding cast v lines (turns cast v i role InOrder))
 step_pieces coding cast fuller v i (Loop role Round lines) = keep_calls (loop_calls coding cast v lines (turns cast v i role Round))
 step_pieces coding cast fuller v i (Loop role Chosen lines) = some_pieces coding cast v i lines (turns fuller v i role Chosen)
 
-pieces_from : Coding → Cast → Cast → ℕ → ℕ → List Step → List Piece
+unfoldable pub pieces_from : Coding → Cast → Cast → ℕ → ℕ → List Step → List Piece
 pieces_from coding cast fuller v i [] = []
 pieces_from coding cast fuller v i (step ∷ steps) = step_pieces coding cast fuller v i step ++ pieces_from coding cast fuller v (suc i) steps
 
-abbrev FullerTurn : Cast → Cast → ℕ → Turn
+abbrev pub FullerTurn : Cast → Cast → ℕ → Turn
 FullerTurn cast fuller v i e lines = (fuller.chosen v i e ≡ cast.chosen v i e) ⊎ ((only_reads lines ≡ true) × (fuller.chosen v i e ≡ true))
 
 -- one optional loop
 module _ (coding : Coding) (cast fuller : Cast) (v i : ℕ) (lines : List Line) where
-  abbrev takes : ℕ → Bool
+  abbrev pub takes : ℕ → Bool
   takes e = not (e == v) && cast.chosen v i e
 
-  abbrev takes_more : ℕ → Bool
+  abbrev pub takes_more : ℕ → Bool
   takes_more e = not (e == v) && fuller.chosen v i e
 
   -- how a turn stands: there is none, neither takes it, both do, or the fuller one alone and the lines read
-  data Standing (e : ℕ) : Type 0 where
+  pub data Standing (e : ℕ) : Type 0 where
     neither : takes_more e ≡ false → takes e ≡ false → Standing e
     both : takes_more e ≡ true → takes e ≡ true → cast.chosen v i e ≡ true → Standing e
     taken : takes_more e ≡ true → takes e ≡ false → cast.chosen v i e ≡ false → only_reads lines ≡ true → Standing e
 
-  standing : (e : ℕ) → ((e ≡ v → ⊥) → FullerTurn cast fuller v i e lines) → Standing e
+  pub standing : (e : ℕ) → ((e ≡ v → ⊥) → FullerTurn cast fuller v i e lines) → Standing e
   standing e ask = elim (cases_Bool (e == v)) [
     | inl t ↦ neither (ap (λ c. not c && fuller.chosen v i e) t) (ap (λ c. not c && cast.chosen v i e) t)
     | inr f ↦ go f (cases_Bool (cast.chosen v i e)) (ask (λ s. true≢false (sym (eq-eqb e v s) ∙ f)))
@@ -92,7 +92,7 @@ module _ (coding : Coding) (cast fuller : Cast) (v i : ℕ) (lines : List Line) 
       go f (inr n) (inl s) = neither (ap (λ c. not c && fuller.chosen v i e) f ∙ s ∙ n) (ap (λ c. not c && cast.chosen v i e) f ∙ n)
       go f (inr n) (inr r) = taken (ap (λ c. not c && fuller.chosen v i e) f ∙ r.1) (ap (λ c. not c && cast.chosen v i e) f ∙ n) n r.0
 
-  abbrev parts : List ℕ → List Piece
+  abbrev pub parts : List ℕ → List Piece
   parts es = some_pieces coding cast v i lines es
 
   kept_turn : (e : ℕ) (es : List ℕ) → cast.chosen v i e ≡ true → kept_kinds (parts (e ∷ es)) ≡ kinds_of (map (call_in coding cast v e) lines) ++ kept_kinds (parts es)
@@ -218,10 +218,10 @@ nodes_in pattern coding a b q (role ∷ roles) (suc p) same =
     nodes_in pattern coding a b (suc q) roles p (λ k l. let s : suc q + k ≡ q + suc k = omega arith in ap b.nodes s ∙ same (suc k) (omega (arith, l)) ∙ ap a.nodes (sym s))
 
 module _ (pattern : Pattern) (coding : Coding) (cast fuller : Cast) (more : IsFuller pattern cast fuller) where
-  pieces : ℕ → List Piece
+  unfoldable pub pieces : ℕ → List Piece
   pieces p = pieces_from coding cast fuller p 0 (script_in pattern (slice_get cast.roles p))
 
-  asked : (p : ℕ) → AskedFrom cast p (FullerTurn cast fuller p) 0 (script_in pattern (slice_get cast.roles p))
+  pub asked : (p : ℕ) → AskedFrom cast p (FullerTurn cast fuller p) 0 (script_in pattern (slice_get cast.roles p))
   asked p = go (slice_get cast.roles p) refl
     where
       go : (o : Option ℕ) → slice_get cast.roles p ≡ o → AskedFrom cast p (FullerTurn cast fuller p) 0 (script_in pattern o)
@@ -234,7 +234,7 @@ module _ (pattern : Pattern) (coding : Coding) (cast fuller : Cast) (more : IsFu
       ap (λ roles. process_node (slice_get (processes_from pattern coding fuller 0 roles) p)) more.roles
       ∙ nodes_in pattern coding cast fuller 0 cast.roles p (λ k l. let s : 0 + k ≡ k = omega arith in ap fuller.nodes s ∙ more.nodes k l ∙ ap cast.nodes (sym s))
 
-  adds : AddsReads (instance_of pattern coding cast) (instance_of pattern coding fuller) pieces
+  pub adds : AddsReads (instance_of pattern coding cast) (instance_of pattern coding fuller) pieces
   unfolding pieces
   adds = record {
     kept = λ p. instance_kinds pattern coding cast p ∙ sym (kept_from coding cast fuller more.roles p 0 (script_in pattern (slice_get cast.roles p)) (asked p));

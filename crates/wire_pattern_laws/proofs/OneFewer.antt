@@ -1,18 +1,17 @@
 -- What a get-now finds in an instance, it finds in the instance without some one rank of a role of four.
-use Rattle.std.proofs.Common.{◌≡◌, ℕ, zero, suc, ◌+◌, ◌<◌, ◌≤◌, List, [], ◌∷◌, map, length, Bool, true, false, ◌==◌, Option, Some, None, ◌⊎◌, inl, inr, refl, sym, ap, ◌∙◌, subst, arith, eq-eqb, eqb-true}
+use Rattle.std.proofs.Common.{◌≡◌, ℕ, zero, suc, ◌≤◌, List, [], ◌∷◌, map, length, Bool, true, false, ◌==◌, Option, Some, None, ◌⊎◌, inl, inr, refl, sym, ap, ◌∙◌, subst, eq-eqb, eqb-true}
 use Rattle.std.specs.Prelude.{slice_get}
 use Rattle.std.proofs.lemmas.Bool.{cases_eq, cases_Bool, true≢false}
-use Rattle.std.proofs.lemmas.Option.{slice_get_cases, none-some}
+use Rattle.std.proofs.lemmas.Option.{none-some}
 use Rattle.wire_types.specs.declared.Status.{Status}
 use Rattle.wire_types.specs.declared.Status.TheVariants as status
-use Rattle.wire_runs.specs.Plan.{Plan, Event, Arrive, Get, GetNow, kind, process_node, process_count, node_of, same_node}
+use Rattle.wire_runs.specs.Plan.{Plan, Event, Kind, Arrive, Get, GetNow, kind, process_node, node_of, same_node}
 use Rattle.wire_runs.specs.Fences.{is_member}
 use Rattle.wire_runs.specs.Order.{IsArrival, Live, Before}
 use Rattle.wire_runs.specs.Races.{Delivery, ByFence, ByGet, IsOf, Delivers, FenceDelivers, GetDelivers, ComesSurely, IsSettled}
 use Rattle.wire_runs.specs.Embeddings.{Renaming, image, IsEmbedding, IsKept}
 use Rattle.wire_runs.specs.Patterns.{Who, Only, Self, Each, Word, Pattern, Coding, Cast, group, who, members_in, processes_from, instance_of, names_each, has_every, IsLoopLine, KnowsLine, IsLawful, IsCastOf}
-use Rattle.wire_runs.specs.Restrictions.{skip, back, without, restricted, removal, CanGo}
-use Rattle.wire_runs.proofs.Basics.{process_within}
+use Rattle.wire_runs.specs.Restrictions.{skip, back, restricted, removal, CanGo}
 use Rattle.wire_runs.proofs.Images.{event_back}
 use Rattle.wire_runs.proofs.Arrivals.{mate_on}
 use Rattle.wire_runs.proofs.EmbeddedOrder.{live_back}
@@ -24,7 +23,7 @@ use Rattle.wire_runs.proofs.EmbeddedFindings.{now_back}
 use Rattle.wire_runs.proofs.TurnMarks.{marks_of, is_image}
 use Rattle.wire_runs.proofs.TurnOrigins.{Origin, InScript, InLoop, origin_of, fence_line, get_line}
 use Rattle.wire_runs.proofs.FewerFindings.{spare, mark_at}
-use Rattle.wire_pattern_laws.proofs.FindsByOrder.{event_in, FindsOwn, FindsNear, FindsFar, far_nothing, far_value, Finds, from_own, from_near, from_far}
+use Rattle.wire_pattern_laws.specs.Finds.{event_in, FindsOwn, FindsNear, far_nothing, far_value, Finds, from_own, from_near, from_far}
 use Rattle.wire_pattern_laws.proofs.FindsBack.{own_back, near_back, far_nothing_back, far_value_back}
 
 -- nodes with one left out, of any number
@@ -76,14 +75,17 @@ module _ (pattern : Pattern) (coding : Coding) (cast : Cast) (role : ℕ) (lawfu
   embeds : (r : ℕ) → CanGo pattern cast r role → IsEmbedding (to r) (small r) large
   embeds r can = restrictions_embed pattern coding cast r role can
 
+  stays_by : (r : ℕ) → CanGo pattern cast r role → (get : Event) (owner key : ℕ) (y : Event) → image (to r) y ≡ get → (k : Kind) → kind (small r) y ≡ Some k →
+      (p : ℕ) × (o : ℕ) × (skip r p ≡ owner) × ((to r).key o ≡ key) × (k ≡ GetNow p o) → Stays r get owner key
+  stays_by r can get owner key y at k is now =
+      record { can = can; own_get = y; own_owner = now.0; own_key = now.1; get_is = at; owner_is = now.2; key_is = now.3; is = is ∙ ap Some now.4 }
+
   reader : (get : Event) (owner key e r : ℕ) → CanGo pattern cast r role → kind large get ≡ Some (GetNow owner key) → slice_get (marks_of pattern coding cast get.proc) get.at ≡ Some e → (get.proc ≡ r → ⊥) → (e ≡ r → ⊥) →
       Stays r get owner key
   reader get owner key e r can is mark not_reader not_turn =
       let i = is_image pattern coding cast r role can get e mark not_reader not_turn in
-      let b = event_back (to r) (small r) large (embeds r can) i.0 _ (ap (kind large) i.1 ∙ is) in
-      let k = now_back (to r) b.0 owner key b.2 in
-      let gets : kind (small r) i.0 ≡ Some (GetNow k.0 k.1) = b.1 ∙ ap (λ v. Some v) k.4 in
-      record { can = can; own_get = i.0; own_owner = k.0; own_key = k.1; get_is = i.1; owner_is = k.2; key_is = k.3; is = gets }
+      let b = event_back (to r) (small r) large (embeds r can) i.0 (GetNow owner key) (ap (kind large) i.1 ∙ is) in
+      stays_by r can get owner key i.0 i.1 b.0 b.1 (now_back (to r) b.0 owner key b.2)
 
   -- what is so of the get-now is so of its image
   there : (P : Event → ℕ → ℕ → Type 0) (r : ℕ) (get : Event) (owner key : ℕ) → (w : Stays r get owner key) → P get owner key → P (image (to r) w.own_get) (skip r w.own_owner) ((to r).key w.own_key)

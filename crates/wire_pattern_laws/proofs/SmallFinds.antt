@@ -1,5 +1,5 @@
 -- What is answered in an instance of any size is found in a small one.
-use Rattle.std.proofs.Common.{◌≡◌, ℕ, zero, suc, ◌<◌, ◌≤◌, List, [], ◌∷◌, length, true, Some, ◌⊎◌, inl, inr, refl, sym, ap, ◌∙◌, subst, arith}
+use Rattle.std.proofs.Common.{◌≡◌, ℕ, zero, suc, ◌<◌, ◌≤◌, List, [], ◌∷◌, length, true, Some, inl, inr, refl, sym, ap, ◌∙◌, subst, arith}
 use Rattle.std.specs.Prelude.{slice_get}
 use Rattle.std.proofs.lemmas.Option.{same_Some, slice_get_within}
 use Rattle.wire_types.specs.declared.Status.{Status}
@@ -8,17 +8,19 @@ use Rattle.wire_runs.specs.State.{Answer, State, start, next_event, IsDone}
 use Rattle.wire_runs.specs.Step.{is_enabled, reply, step, IsInterleaving, run_from, IsReachable}
 use Rattle.wire_runs.specs.Order.{Live, Before}
 use Rattle.wire_runs.specs.Races.{IsSettled}
-use Rattle.wire_runs.specs.Embeddings.{image, pair}
+use Rattle.wire_runs.specs.Embeddings.{pair}
 use Rattle.wire_runs.specs.Patterns.{Pattern, Coding, Cast, group, instance_of, IsLawful, IsCastOf}
-use Rattle.wire_runs.specs.Restrictions.{restricted, removal, CanGo, on_nodes}
+use Rattle.wire_runs.specs.Restrictions.{restricted, CanGo, on_nodes}
 use Rattle.wire_runs.proofs.Due.{closed_cut, done_was, due}
 use Rattle.wire_runs.proofs.Known.{Known, known_start, known_step, reply_kept, reply_now, reachable_known}
+use Rattle.wire_runs.proofs.HaveFates.{have_fates}
 use Rattle.wire_runs.proofs.PlacingReplies.{CameTo}
 use Rattle.wire_pattern_laws.specs.Ordered.{IsInOrder, HasLeast, HasMost, AllowThree, SmallOnesAreSettled}
 use Rattle.wire_pattern_laws.specs.Lines.{IsOfLine}
-use Rattle.wire_pattern_laws.specs.SmallReplies.{status_of, HasSmall, StatusesOfSmall}
+use Rattle.wire_pattern_laws.specs.Finds.{status_of, Finds, FindsAreSaid}
+use Rattle.wire_pattern_laws.specs.SmallReplies.{HasSmall, StatusesOfSmall}
 use Rattle.wire_pattern_laws.proofs.SmallOrdered.{without_length, restricted_order, look, fewer_cast, enough_left, ordered_suffice}
-use Rattle.wire_pattern_laws.proofs.FindsByOrder.{Finds, Poised, sees, fate_finds}
+use Rattle.wire_pattern_laws.proofs.FindsByOrder.{Poised, sees, one_finding, fate_finds, fate_found}
 use Rattle.wire_pattern_laws.proofs.OneFewer.{finds_left}
 use Rattle.wire_pattern_laws.proofs.KeptLines.{line_left}
 use Rattle.wire_pattern_laws.proofs.FindsOnPairs.{finds_beside}
@@ -62,6 +64,14 @@ module _ (plan : Plan) (settled : IsSettled plan) where
       let answer = ap status_of (ap (reply plan c.then_ get) (sym is) ∙ same_Some _ _ (sym c.said ∙ said)) in
       (at.is_live, subst (λ f. Finds plan get owner key f) (sym w.shows ∙ answer) w.finds)
 
+pub finds_are_said : FindsAreSaid
+finds_are_said plan get owner key settled is = record {
+  answered = λ s a r said. answer_finds plan settled s r get owner key is a said;
+  something = λ marks l. (let f = have_fates plan settled marks get in fate_found plan settled get owner key l f.0 f.1);
+  one = λ l a b f g. one_finding plan settled get owner key is l a b f g;
+  fate = λ l found finds fate has. fate_finds plan settled get owner key is l found finds fate has;
+}
+
 module _ (pattern : Pattern) (coding : Coding) (bound : ℕ) (least most : ℕ → ℕ) (lawful : IsLawful pattern) (allow : AllowThree bound least most) (small : SmallOnesAreSettled pattern coding bound least most)
     (role n : ℕ) (found : Status) where
   abbrev Small : Type 0
@@ -101,7 +111,7 @@ module _ (pattern : Pattern) (coding : Coding) (bound : ℕ) (least most : ℕ �
         key = f.key;
         is = b.is_there;
         is_live = b.is_live;
-        says = fate_finds (instance_of pattern coding on) (small on cast_is in_order f.has_least has_most) f.get f.owner f.key b.is_there b.is_live found b.finds;
+        finds = b.finds;
       }
 
   -- one with one rank fewer

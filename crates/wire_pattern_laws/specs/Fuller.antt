@@ -23,7 +23,8 @@ pub record MayTake (pattern : Pattern) (cast : Cast) (p i e : ℕ) (lines : List
 pub record IsSameCast (pattern : Pattern) (cast other : Cast) : Type 0 where
   pub roles : other.roles ≡ cast.roles
   pub nodes : (p : ℕ) → p < length cast.roles → other.nodes p ≡ cast.nodes p
-  pub turns : (p i e : ℕ) (lines : List Line) → MayTake pattern cast p i e lines → other.chosen p i e ≡ cast.chosen p i e
+  pub turns : (p i e : ℕ) (lines : List Line) → MayTake pattern cast p i e lines
+      → other.chosen p i e ≡ cast.chosen p i e
 
 -- the instance has them too
 abbrev pub SameInstance : Type 0

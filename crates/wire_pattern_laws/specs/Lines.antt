@@ -29,7 +29,8 @@ step_lines (Loop role mode lines) = length lines
 -- of each event of v, from step number i on, whose first line is number n
 abbrev pub numbers_from : Cast → ℕ → (i n : ℕ) → List Step → List ℕ
 numbers_from cast v i n [] = []
-numbers_from cast v i n (step ∷ steps) = step_numbers cast v i n step ++ numbers_from cast v (suc i) (n + step_lines step) steps
+numbers_from cast v i n (step ∷ steps) =
+    step_numbers cast v i n step ++ numbers_from cast v (suc i) (n + step_lines step) steps
 
 -- the event is of line number n of the role's script; lines are counted from 0, those in loops too
 pub record IsOfLine (pattern : Pattern) (cast : Cast) (x : Event) (role n : ℕ) : Type 0 where

@@ -1,7 +1,9 @@
 -- Other numbers for keys and names say nothing, in both directions; and so a plan that is settled on all nodes tells of
 -- each plan with its calls under other numbers.
 use Rattle.std.specs.Prelude.{◌≡◌, ◌↔◌, ℕ, List, map}
-use Rattle.wire_runs.specs.Plan.{Plan, Process, Call, CallPut, CallCommit, CallFence, CallGet, CallGetNow, CallPublish, CallLookup, CallLookupWait, CallUnpublish, CallUnpublishAll, CallFixed, kinds_of}
+use Rattle.wire_runs.specs.Plan.{Plan, Process, Call, CallPut, CallCommit, CallFence, CallGet, CallGetNow}
+use Rattle.wire_runs.specs.Plan.{CallPublish, CallLookup, CallLookupWait, CallUnpublish, CallUnpublishAll, CallFixed}
+use Rattle.wire_runs.specs.Plan.{kinds_of}
 use Rattle.wire_runs.specs.Races.{IsSettled}
 use Rattle.wire_runs.specs.Embeddings.{image_kind, IsKeyOf, IsNameOf}
 use Rattle.wire_runs.specs.Renamed.{renumbering, IsRenumbered}
@@ -32,7 +34,8 @@ renumbered_call key name CallUnpublishAll = CallUnpublishAll
 renumbered_call key name (CallFixed reply) = CallFixed reply
 
 abbrev pub renumbered_process : (key name : ℕ → ℕ) → Process → Process
-renumbered_process key name process = record { node = process.node; calls = map (renumbered_call key name) process.calls }
+renumbered_process key name process =
+    record { node = process.node; calls = map (renumbered_call key name) process.calls }
 
 abbrev pub renumbered : (key name : ℕ → ℕ) → Plan → Plan
 renumbered key name plan = record { processes = map (renumbered_process key name) plan.processes; keep = plan.keep }

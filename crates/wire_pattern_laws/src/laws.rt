@@ -1,11 +1,13 @@
 //! What the small instances of a pattern tell of all its instances. Each law is the contract of a function that does
 //! nothing.
 
+ghost use Rattle.wire_pattern_laws.specs.Finds.{FindsAreSaid};
 ghost use Rattle.wire_pattern_laws.specs.Fuller.{ReadsWhole, SameInstance};
 ghost use Rattle.wire_pattern_laws.specs.Ordered.{OrderedSuffice};
 ghost use Rattle.wire_pattern_laws.specs.Renumberings.{RenumberingTurns, RenumberedBoth, RenumberedKinds};
 ghost use Rattle.wire_pattern_laws.specs.Renumberings.{RenumberedIs, SettledByPlacing};
-ghost use Rattle.wire_pattern_laws.specs.SmallReplies.{StatusesOfSmall};
+ghost use Rattle.wire_pattern_laws.specs.SmallReplies.{StatusesOfSmall, ReadsFind};
+ghost use Rattle.wire_pattern_laws.specs.StatusesTold.{StatusesTold, RenumberedFinds};
 
 /// Where each instance with at most three ranks of each role is settled, whose ranks are in the order of their
 /// roles, each instance in that order is, with any number of ranks.
@@ -48,8 +50,28 @@ pub fn same_instance()
     ensures { SameInstance }
 {}
 
-/// Where the small instances are settled: with whatever status a get-now is answered in an instance of any size, a
-/// get-now of the same line is to be answered in a small one.
+/// In a settled plan a get-now is answered with what it finds by the order of calls.
+pub fn finds_are_said()
+    ensures { FindsAreSaid }
+{}
+
+/// Where the small instances are settled: whatever status a get-now is answered with in an instance of any size, a
+/// get-now of the same line finds in a small one.
 pub fn statuses_of_small()
     ensures { StatusesOfSmall }
+{}
+
+/// What a get-now finds, one of its line finds where loops that only read take more turns.
+pub fn reads_find()
+    ensures { ReadsFind }
+{}
+
+/// The statuses that a get-now finds on some nodes are told by the order of the plan's calls.
+pub fn statuses_told()
+    ensures { StatusesTold }
+{}
+
+/// Numbers of keys and names say nothing of what a get-now finds.
+pub fn renumbered_finds()
+    ensures { RenumberedFinds }
 {}
