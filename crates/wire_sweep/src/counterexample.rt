@@ -83,3 +83,66 @@ fn find_in(
         }
     }
 }
+
+/// The same instance on other nodes.
+fn cast_on(alloc: Global, cast: &Cast, nodes: Nodes) -> Result<Cast, Fault> {
+    let sizes = Vec::from_slice(alloc, cast.sizes.as_slice())?;
+    let chosen = Vec::from_slice(alloc, cast.chosen.as_slice())?;
+    Ok(Cast {
+        sizes,
+        chosen,
+        nodes,
+    })
+}
+
+/// The instance on these nodes with its findings, if there are some.
+fn find_on(
+    rt: &(impl Threads + Sync),
+    alloc: Global,
+    pattern: &Pattern,
+    cast: &Cast,
+    nodes: Nodes,
+) -> Result<Option<Counterexample>, Fault> {
+    let placed = cast_on(alloc, cast, nodes)?;
+    let (text, scripts) = instance_scripts(alloc, pattern, &placed)?;
+    find_in(rt, alloc, placed, text, scripts)
+}
+
+/// The instance with its findings, where the process a shares its node with one of the processes behind it.
+fn find_beside(
+    rt: &(impl Threads + Sync),
+    alloc: Global,
+    pattern: &Pattern,
+    cast: &Cast,
+    a: u32,
+) -> Result<Option<Counterexample>, Fault> {
+    let total = cast.nodes.of.len() as u32;
+    for b in a + 1..total {
+        let nodes = paired(alloc, total, a, b)?;
+        if let Some(found) = find_on(rt, alloc, pattern, cast, nodes)? {
+            return Ok(Some(found));
+        }
+    }
+    Ok(None)
+}
+
+/// The instance with its findings, on the first placement that has some: each process alone, else the first pair of
+/// processes that share a node.
+pub(crate) fn find_counterexample(
+    rt: &(impl Threads + Sync),
+    alloc: Global,
+    pattern: &Pattern,
+    cast: &Cast,
+) -> Result<Counterexample, Fault> {
+    let total = cast.nodes.of.len() as u32;
+    let nodes = all_alone(alloc, total)?;
+    if let Some(found) = find_on(rt, alloc, pattern, cast, nodes)? {
+        return Ok(found);
+    }
+    for a in 0..total {
+        if let Some(found) = find_beside(rt, alloc, pattern, cast, a)? {
+            return Ok(found);
+        }
+    }
+    Err(Fault::Memory)
+}

@@ -5,7 +5,10 @@
 mod choices;
 mod counterexample;
 mod judge;
+mod limits;
 mod sizes;
+mod sweep;
 
 pub use counterexample::Counterexample;
 pub use sizes::{all_sizes, most_of};
+pub use sweep::judge_pattern;
