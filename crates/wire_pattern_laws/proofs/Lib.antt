@@ -1,4 +1,5 @@
 pub mod SmallOrdered
+pub mod RoleBlocks
 pub mod NumbersBack
 pub mod SameCalls
 pub mod MoreTurns
@@ -13,3 +14,4 @@ pub mod StatusesPlaced
 pub mod StatusesNumbered
 pub mod ReadsLive
 pub mod FindsInFuller
+pub mod LineRows

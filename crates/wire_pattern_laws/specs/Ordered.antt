@@ -1,5 +1,5 @@
 -- Three of each role suffice, where only instances are looked at whose processes are in the order of their roles.
-use Rattle.std.specs.Prelude.{◌≡◌, ℕ, ◌<◌, ◌≤◌, List, [], ◌∷◌, length, Some, slice_get}
+use Rattle.std.specs.Prelude.{◌≡◌, ℕ, zero, suc, ◌<◌, ◌≤◌, List, [], ◌∷◌, ◌++◌, length, replicate, Some, slice_get}
 use Rattle.wire_runs.specs.Races.{IsSettled}
 use Rattle.wire_runs.specs.Patterns.{Pattern, Coding, Cast, group, instance_of, IsLawful, IsCastOf}
 
@@ -12,6 +12,21 @@ DontFall first (x ∷ xs) = (first ≤ x) × DontFall x xs
 pub record IsInOrder (bound : ℕ) (cast : Cast) : Type 0 where
   pub order : DontFall 0 cast.roles
   pub below : (p role : ℕ) → slice_get cast.roles p ≡ Some role → role < bound
+
+-- so many processes of role 0, then so many of role 1, and so on
+abbrev pub in_blocks : (size : ℕ → ℕ) → (bound : ℕ) → List ℕ
+in_blocks size zero = []
+in_blocks size (suc role) = in_blocks size role ++ replicate (size role) role
+
+-- the processes of a cast in order stand in blocks, and those that do are in order; their sizes are those of the groups
+pub record StandInBlocks (bound : ℕ) (cast : Cast) : Type 0 where
+  pub blocks : IsInOrder bound cast → cast.roles ≡ in_blocks (λ role. length (group role cast.roles)) bound
+  pub order : (size : ℕ → ℕ) → cast.roles ≡ in_blocks size bound → IsInOrder bound cast
+  pub sizes : (size : ℕ → ℕ) → cast.roles ≡ in_blocks size bound → (role : ℕ) → role < bound
+      → length (group role cast.roles) ≡ size role
+
+abbrev pub OrderIsBlocks : Type 0
+OrderIsBlocks = (bound : ℕ) (cast : Cast) → StandInBlocks bound cast
 
 -- of each role below the bound so many processes at least, or at most
 abbrev pub HasLeast : (bound : ℕ) → (ℕ → ℕ) → Cast → Type 0

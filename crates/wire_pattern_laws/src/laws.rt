@@ -3,7 +3,7 @@
 
 ghost use Rattle.wire_pattern_laws.specs.Finds.{FindsAreSaid};
 ghost use Rattle.wire_pattern_laws.specs.Fuller.{ReadsWhole, SameInstance};
-ghost use Rattle.wire_pattern_laws.specs.Ordered.{OrderedSuffice};
+ghost use Rattle.wire_pattern_laws.specs.Ordered.{OrderedSuffice, OrderIsBlocks};
 ghost use Rattle.wire_pattern_laws.specs.Renumberings.{RenumberingTurns, RenumberedBoth, RenumberedKinds};
 ghost use Rattle.wire_pattern_laws.specs.Renumberings.{RenumberedIs, SettledByPlacing};
 ghost use Rattle.wire_pattern_laws.specs.SmallReplies.{StatusesOfSmall, ReadsFind};
@@ -13,6 +13,11 @@ ghost use Rattle.wire_pattern_laws.specs.StatusesTold.{StatusesTold, RenumberedF
 /// roles, each instance in that order is, with any number of ranks.
 pub fn ordered_suffice()
     ensures { OrderedSuffice }
+{}
+
+/// The processes of an instance are in the order of their roles exactly where they stand in blocks.
+pub fn order_is_blocks()
+    ensures { OrderIsBlocks }
 {}
 
 /// Other numbers for a plan's keys and names lead back.
