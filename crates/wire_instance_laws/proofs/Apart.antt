@@ -36,7 +36,7 @@ pub record IsUsed (p : Pattern) (cast : Cast) (coding : Coding) (table : List (L
   pub code : coding.code (text_number base) indices ≡ n
   pub there : is_among table (indexed_text base (map (process_text p cast) indices)) ≡ true
 
-module _ (p : Pattern) (cast : Cast) (sound : IsSound p) (is_cast : IsCast p cast) (s : Scripts) (a : IsDeclaredAs p cast s) (coding : Coding) where
+module _ (p : Pattern) (cast : Cast) (sound : IsSound p) (is_cast : IsCast p cast) (a : IsDeclaredAs p cast) (coding : Coding) where
   -- texts of processes are items of a set
   spelled : (qs : List ℕ) → map (process_text p cast) qs ≡ map spelled_item (map (process_item p cast) qs)
   spelled [] = refl
@@ -54,7 +54,7 @@ module _ (p : Pattern) (cast : Cast) (sound : IsSound p) (is_cast : IsCast p cas
   numbers : (qs : List ℕ) → EachOf (λ q. q < length (cast_of cast).roles) qs → map number_of (map (process_item p cast) qs) ≡ qs
   numbers [] h = refl
   numbers (q ∷ qs) h =
-      λ i. number_is p cast sound is_cast s a q (subst (λ n. q < n) (count_is cast) h.0) i ∷ numbers qs h.1 i
+      λ i. number_is p cast sound is_cast a q (subst (λ n. q < n) (count_is cast) h.0) i ∷ numbers qs h.1 i
 
   text_is : (table : List (List ℕ)) (n : ℕ) (u : IsUsed p cast coding table n)
       → text_at table (new_number p cast coding table n) ≡ indexed_text u.base (map spelled_item (map (process_item p cast) u.indices))

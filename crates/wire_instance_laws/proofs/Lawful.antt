@@ -181,7 +181,7 @@ module _ (p : Pattern) (cast : Cast) (sound : IsSound p) (is_cast : IsCast p cas
   -- the lines
   calls_lawful : (v role : ℕ) → v < count → slice_get roles v ≡ Some role → (ts : List Turned) → EachOf (IsGoodCall p count role) ts → AllLawful (map said.Calls (map (said_by p cast v) ts))
   calls_lawful v role low at [] h = tt
-  calls_lawful v role low at (t ∷ ts) h = (call_lawful v t.0 low h.0.each role at t.1 h.0.sound, calls_lawful v role low at ts h.1)
+  calls_lawful v role low at (t ∷ ts) h = (call_lawful v t.0 low h.0.each role at t.1.call h.0.sound, calls_lawful v role low at ts h.1)
 
   pub made_good : (v role : ℕ) → slice_get roles v ≡ Some role → EachOf (IsGoodCall p count role) (in_steps (cast_of cast) v 0 (steps_in (slice_get p.roles role)))
   made_good v role at =

@@ -70,7 +70,7 @@ text_here table text h = (text_at_number table text h).1
 pub base_bytes : (base : List ℕ) → is_base base ≡ true → list_all said.is_word_byte base ≡ true
 base_bytes base h = and_right _ _ (and_left (is_word base) _ (and_left (is_key base) _ h))
 
-module _ (p : Pattern) (cast : Cast) (sound : IsSound p) (is_cast : IsCast p cast) (s : Scripts) (a : IsDeclaredAs p cast s) (coding : Coding) (nodes : ℕ → ℕ) where
+module _ (p : Pattern) (cast : Cast) (sound : IsSound p) (is_cast : IsCast p cast) (a : IsDeclaredAs p cast) (coding : Coding) (nodes : ℕ → ℕ) where
   abbrev pub on : plan.Cast
   on = on_nodes nodes (cast_of cast)
 
@@ -81,7 +81,7 @@ module _ (p : Pattern) (cast : Cast) (sound : IsSound p) (is_cast : IsCast p cas
   name = new_number p cast coding (seen_in a.d).names
 
   -- the calls of a process are named in the tables
-  pub words_there : (v role : ℕ) (st : Started) (i : IsStarted p cast sound is_cast s a v role st) →
+  pub words_there : (v role : ℕ) (st : Started) (i : IsStarted p cast sound is_cast a v role st) →
       EachOf (λ t. HasWords a.d st.job (said_by p cast v t)) (in_steps (cast_of cast) v 0 (steps_in (slice_get p.roles role)))
   words_there v role st i =
       let made = in_steps (cast_of cast) v 0 (steps_in (slice_get p.roles role)) in
@@ -124,7 +124,7 @@ module _ (p : Pattern) (cast : Cast) (sound : IsSound p) (is_cast : IsCast p cas
         ∙ word_case (is_reserved word.base) r q call line h
 
     owner_is : (w : Who) → proc_number a.d (job_name p (job_at p cast (who (cast_of cast) v e w))) (rank_at p cast (who (cast_of cast) v e w)) ≡ who on v e w
-    owner_is w = number_is p cast sound is_cast s a (who (cast_of cast) v e w) (subst (λ n. who (cast_of cast) v e w < n) (count_is cast) (who_low (cast_of cast) v e w low low_e))
+    owner_is w = number_is p cast sound is_cast a (who (cast_of cast) v e w) (subst (λ n. who (cast_of cast) v e w < n) (count_is cast) (who_low (cast_of cast) v e w low low_e))
 
     first_base : (word : Indexed) (values : Bool) → (list_all (λ (w : Indexed). is_base w.base) (word ∷ []) && values) ≡ true → is_base word.base ≡ true
     first_base word values h = and_left (is_base word.base) true (and_left _ values h)
@@ -149,7 +149,7 @@ module _ (p : Pattern) (cast : Cast) (sound : IsSound p) (is_cast : IsCast p cas
           let rest = and_left _ _ (and_right (has_words (Fence items collect)) _ h) in
           ap (λ xs. runs.CallFence xs collect)
           (text_here (seen_in a.d).sets members (has.sets members (alone members))
-          ∙ set_is p cast sound is_cast s a nodes v e low low_e own items (and_right (list_all (is_known_who p.roles) (whos_in (Fence items collect))) _ rest))
+          ∙ set_is p cast sound is_cast a nodes v e low low_e own items (and_right (list_all (is_known_who p.roles) (whos_in (Fence items collect))) _ rest))
       call_matches (Get owner k) h has =
           let text = word_text p cast v e k in
           let table = (seen_in a.d).keys in
@@ -191,4 +191,4 @@ module _ (p : Pattern) (cast : Cast) (sound : IsSound p) (is_cast : IsCast p cas
       ≡ map without_said (map (moved_call key name) (map (call_by p.roles coding on v) ts))
   calls_match v role own low [] good has = refl
   calls_match v role own low (t ∷ ts) good has =
-      λ i. call_matches v t.0 low good.0.each role own t.1 good.0.sound has.0 i ∷ calls_match v role own low ts good.1 has.1 i
+      λ i. call_matches v t.0 low good.0.each role own t.1.call good.0.sound has.0 i ∷ calls_match v role own low ts good.1 has.1 i
