@@ -1,21 +1,17 @@
 -- What the text of an instance declares, where it reads as scripts: the processes of the cast.
-use Rattle.std.proofs.Common.{◌≡◌, ◌∙◌, ap, sym, subst, refl, ℕ, zero, suc, ◌+◌, ◌-◌, ◌<◌, ◌≤◌, ◌^◌, List, [], ◌∷◌, ◌++◌, map, take, length, length-append, codes, decimal, Bool, true, false, cond, Option, Some, None, slice_get, slice_index_or, flat_map, count_by, Result, Ok, Err, MatchResult, inl, inr, arith, true≢false}
-use Rattle.std.specs.Prelude.{◌==◌, ◌&&◌, not, nat_lt, if◌then◌else◌}
+use Rattle.std.proofs.Common.{◌≡◌, ◌∙◌, ap, sym, subst, refl, ℕ, zero, suc, ◌+◌, ◌<◌, ◌≤◌, ◌^◌, List, [], ◌∷◌, ◌++◌, map, take, length, length-append, codes, decimal, Bool, true, false, cond, Some, slice_get, flat_map, count_by, Result, Ok, Err, MatchResult, inl, inr, arith}
+use Rattle.std.specs.Prelude.{◌==◌, not, nat_lt, if◌then◌else◌}
 use Rattle.std.specs.List.{join_with_byte, position_or_len}
 use Rattle.std.specs.Str.{bytes_eq}
 use Rattle.std.proofs.lemmas.Bool.{and_from, false_from_ne_true}
 use Rattle.std.proofs.lemmas.Fmt.{decimal_injective}
 use Rattle.std.proofs.lemmas.List.{length-map}
 use Rattle.std.proofs.lemmas.List.Sums.{sum_by-cons}
-use Rattle.std.proofs.lemmas.Option.{none-some, same_Some}
 use Rattle.std.proofs.lemmas.Slice.Eq.{bytes_eq-Decides}
 use borrow.Author.Tests.{ltb-true, eqb-true, eq-eqb}
 use Rattle.wire_types.specs.declared.Fault.{Fault}
-use Rattle.wire_types.specs.declared.Version.{Version}
-use Rattle.wire_types.specs.declared.Version.TheVariants.{Two}
 use Rattle.wire_types.specs.Said as said
 use Rattle.wire_types.specs.Said.{Said, Header, Keep, Node, Job, Rank, Calls, first_word, other_words}
-use Rattle.wire_runs.specs.Plan as runs
 use Rattle.wire_runs.proofs.Lists.{slice_get-map_kept, slice_get-map_back}
 use Rattle.wire_lines.specs.Text.{lines_of}
 use Rattle.wire_lines.proofs.Colon.{and_left, and_right}
@@ -28,9 +24,8 @@ use Rattle.wire_script.specs.declared.limits.Size.TheVariants.{OfVersion, Large}
 use Rattle.wire_script.specs.Limits.{file_bytes}
 use Rattle.wire_script.specs.Statements.{statements}
 use Rattle.wire_script.specs.FirstPass.{Name, Started, Declared, nothing, number_or_count, FirstPass}
-use Rattle.wire_script.specs.Reads.{Reads, ReadsShort, is_proc, proc_number, seen_in, process_of, scripts_of, first_fault, second_pass}
-use Rattle.wire_script.proofs.Recut.{AllLawful, numbered_lines, said_again}
-use Rattle.wire_script.proofs.Changed.{Runs}
+use Rattle.wire_script.specs.Reads.{Reads, is_proc, proc_number, seen_in, process_of, scripts_of, first_fault, second_pass}
+use Rattle.wire_script.proofs.Recut.{numbered_lines, said_again}
 use Rattle.wire_script.proofs.Once.{second_ok}
 use Rattle.wire_script.proofs.Ranked.{IsGood, run_good, number_at, one_process}
 use Rattle.wire_script.proofs.Numbered.{ranked}
@@ -41,7 +36,7 @@ use Rattle.wire_pattern.specs.Lawful.{IsSound}
 use Rattle.wire_instance_laws.specs.Lined.{line_in}
 use Rattle.wire_instance_laws.proofs.Made.{Turned, said_by, steps_are_said, number_by, steps_are_numbered}
 use Rattle.wire_instance_laws.proofs.Roles.{RolesRise, count_is, roles_rise, index_at, stands as stands_at}
-use Rattle.wire_instance_laws.proofs.Facts.{all_at, job_is, role_at, role_low, job_of_role, job_low}
+use Rattle.wire_instance_laws.proofs.Facts.{all_at, job_is, role_at, job_of_role, job_low}
 use Rattle.wire_instance_laws.proofs.Lawful.{lines_lawful}
 use Rattle.wire_instance_laws.proofs.Folded.{marked, Row, View, row_of, view, all_viewed, numbered, lines_run, view_run}
 use Rattle.wire_instance_laws.proofs.Rows.{JobsRise, pieces, pieces_all, names_from, second, made, marked_by, marked_lines, said_lines, number_lines, marked_again, row_at, rows_from, expected, no_view, lines_viewed, sorted_rows, row_stands, rows_length, rank_lines}
@@ -97,9 +92,9 @@ node_number n (suc k) zero low few =
 node_number n (suc k) (suc m) low few =
     let s : suc n + m ≡ n + suc m = omega arith in
     let other : bytes_eq (node_name (n + suc m)) (node_name n) ≡ false =
-        false_from_ne_true _ (λ e. let same = names_differ (n + suc m) n (omega (arith, low, few)) (omega (arith, low, few)) e in omega (arith, same)) in
+    false_from_ne_true _ (λ e. let same = names_differ (n + suc m) n (omega (arith, low, few)) (omega (arith, low, few)) e in omega (arith, same)) in
     let rest : number_or_count (names_from (suc n) k) (node_name (n + suc m)) ≡ m =
-        ap (λ x. number_or_count (names_from (suc n) k) (node_name x)) (sym s) ∙ node_number (suc n) k m (omega (arith, low)) (omega (arith, few)) in
+    ap (λ x. number_or_count (names_from (suc n) k) (node_name x)) (sym s) ∙ node_number (suc n) k m (omega (arith, low)) (omega (arith, few)) in
     rw other (omega (arith, rest))
 
 -- counts of what is seen of elements
@@ -166,10 +161,10 @@ module _ (p : Pattern) (cast : Cast) (sound : IsSound p) (is_cast : IsCast p cas
           let run = lines_run after_header 2 (nothing size f.0) d (lines_lawful p cast sound is_cast small) f.2 in (
             run_good size f.0 (numbered 2 after_header) d run,
             view_run (line_in (instance_lines p cast)) after_header 2 (nothing size f.0) d run
-            ∙ ap (λ xs. all_viewed (no_view p cast) (marked (line_in (instance_lines p cast)) 2 xs)) (sym (said_lines p cast))
-            ∙ ap (λ ls. all_viewed (no_view p cast) (marked (line_in ls) 2 (map second (marked_lines p cast)))) (sym (number_lines p cast))
-            ∙ ap (all_viewed (no_view p cast)) (marked_again (0 ∷ []) (marked_lines p cast) 2 refl)
-            ∙ lines_viewed p cast (rises (names_from 0 cast.node_count)),
+                ∙ ap (λ xs. all_viewed (no_view p cast) (marked (line_in (instance_lines p cast)) 2 xs)) (sym (said_lines p cast))
+                ∙ ap (λ ls. all_viewed (no_view p cast) (marked (line_in ls) 2 (map second (marked_lines p cast)))) (sym (number_lines p cast))
+                ∙ ap (all_viewed (no_view p cast)) (marked_again (0 ∷ []) (marked_lines p cast) 2 refl)
+                ∙ lines_viewed p cast (rises (names_from 0 cast.node_count)),
           )
       of_lines (inr f) = absurd (let h = f.1 in cc)
 
@@ -239,15 +234,17 @@ module _ (p : Pattern) (cast : Cast) (sound : IsSound p) (is_cast : IsCast p cas
     started v role at =
         let z : 0 + v ≡ v = omega arith in
         let row : slice_get (map row_in a.d.processes) v ≡ Some (row_at p cast nodes v role) =
-            ap (λ rs. slice_get rs v) rows_are ∙ row_stands p cast nodes 0 (cast_of cast).roles v role at ∙ ap (λ k. Some (row_at p cast nodes k role)) z in
-        let st = slice_get-map_back row_in a.d.processes v (row_at p cast nodes v role) row in
-        (st.0, record {
-          at = st.1;
-          job = ap (λ (r : Row). r.job) st.2 ∙ sym (job_is p cast v role at);
-          node = ap (λ (r : Row). r.node) st.2;
-          calls = marked_calls st.0.calls ∙ ap (λ (r : Row). map (λ (c : ℕ × said.Call). c.1) r.calls) st.2 ∙ calls_marked v (made p cast v role) ∙ sym (steps_are_said p cast v 0 (steps_in (slice_get p.roles role)));
-          lines = marked_numbers st.0.calls ∙ ap (λ (r : Row). map (λ (c : ℕ × said.Call). c.0) r.calls) st.2 ∙ numbers_marked v (made p cast v role) ∙ sym (steps_are_numbered cast v 0 (steps_in (slice_get p.roles role)));
-        })
+        ap (λ rs. slice_get rs v) rows_are ∙ row_stands p cast nodes 0 (cast_of cast).roles v role at ∙ ap (λ k. Some (row_at p cast nodes k role)) z in
+        let st = slice_get-map_back row_in a.d.processes v (row_at p cast nodes v role) row in (
+          st.0,
+          record {
+            at = st.1;
+            job = ap (λ (r : Row). r.job) st.2 ∙ sym (job_is p cast v role at);
+            node = ap (λ (r : Row). r.node) st.2;
+            calls = marked_calls st.0.calls ∙ ap (λ (r : Row). map (λ (c : ℕ × said.Call). c.1) r.calls) st.2 ∙ calls_marked v (made p cast v role) ∙ sym (steps_are_said p cast v 0 (steps_in (slice_get p.roles role)));
+            lines = marked_numbers st.0.calls ∙ ap (λ (r : Row). map (λ (c : ℕ × said.Call). c.0) r.calls) st.2 ∙ numbers_marked v (made p cast v role) ∙ sym (steps_are_numbered cast v 0 (steps_in (slice_get p.roles role)));
+          },
+        )
 
     -- ranks
     jobs_of_rows : (n : ℕ) (rs : List ℕ) → map (λ (r : Row). r.job) (rows_from p cast nodes n rs) ≡ map (λ (role : ℕ). job_in (slice_get p.roles role)) rs

@@ -1,12 +1,11 @@
 -- What lines declare, without their numbers: a fold over what they say.
-use Rattle.std.proofs.Common.{◌≡◌, ◌∙◌, ap, sym, subst, refl, ℕ, zero, suc, ◌+◌, ◌-◌, List, [], ◌∷◌, ◌++◌, map, length, append_assoc, append-nil, Bool, true, false, Result, Ok, Err, MatchResult, inl, inr, if◌then◌else◌}
+use Rattle.std.proofs.Common.{◌≡◌, ◌∙◌, ap, sym, subst, refl, ℕ, ◌+◌, ◌-◌, List, [], ◌∷◌, ◌++◌, map, length, append_assoc, append-nil, Bool, true, false, Result, Ok, Err, MatchResult, inl, inr, if◌then◌else◌}
 use Rattle.std.specs.Prelude.{not}
 use Rattle.std.proofs.lemmas.List.{map-append}
-use Rattle.wire_types.specs.Said.{Call, Said, Header, Keep, Node, Job, Rank, Calls, Says, first_word, other_words}
+use Rattle.wire_types.specs.Said.{Call, Said, Header, Keep, Node, Job, Rank, Calls, first_word, other_words}
 use Rattle.wire_types.specs.declared.Fault.{Fault}
 use Rattle.wire_types.specs.declared.Fault.TheVariants.{TooLong, BadLine, UnknownName, Twice, TooMany}
 use Rattle.wire_lines.proofs.SaysOnce.{says_once}
-use Rattle.wire_script.specs.Statements.{Statement}
 use Rattle.wire_script.specs.FirstPass.{Name, Started, Declared, number_or_count, after, with_call, judged, Judges, JudgesAll, is_in_place, is_short, is_known, is_again, has_room}
 use Rattle.wire_script.proofs.Recut.{AllLawful, numbered_lines}
 use Rattle.wire_script.proofs.Changed.{IsTaken, Runs}

@@ -1,5 +1,5 @@
 -- The calls of a process of an instance, each a line in a turn: what the text says of them, and what they are in the plan.
-use Rattle.std.proofs.Common.{◌≡◌, ◌∙◌, ap, sym, subst, refl, ℕ, zero, suc, ◌<◌, List, [], ◌∷◌, ◌++◌, map, flat_map, length, Bool, true, false, Some, slice_get}
+use Rattle.std.proofs.Common.{◌≡◌, ◌∙◌, ap, sym, refl, ℕ, suc, ◌<◌, List, [], ◌∷◌, ◌++◌, map, flat_map, length, Bool, true, slice_get}
 use Rattle.std.specs.Prelude.{◌&&◌, not, nat_lt}
 use Rattle.std.specs.List.{list_all}
 use Rattle.std.proofs.lemmas.List.{map-append}
@@ -8,10 +8,10 @@ use Rattle.wire_runs.specs.Plan as runs
 use Rattle.wire_runs.specs.Patterns as plan
 use Rattle.wire_runs.specs.Patterns.{Coding, Turns, turns, call_in, loop_calls, calls_from}
 use Rattle.wire_lines.proofs.Colon.{and_left, and_right}
-use Rattle.wire_pattern.specs.Pattern.{Call, Line, Step, Once, Loop, Role, Pattern}
+use Rattle.wire_pattern.specs.Pattern.{Line, Step, Once, Loop, Role, Pattern}
 use Rattle.wire_pattern.specs.Planned.{line_of, step_of, single_in}
 use Rattle.wire_pattern.specs.Instances.{Cast, cast_of, call_said, turns_said, step_said, steps_said, step_lines, steps_lines}
-use Rattle.wire_pattern.specs.Lawful.{is_sound_call, is_loop_call, has_commit, waits_after_all, waits_after_step, is_sound_step, are_sound_steps}
+use Rattle.wire_pattern.specs.Lawful.{is_sound_call, is_loop_call, waits_after_step, is_sound_step, are_sound_steps}
 use Rattle.wire_instance_laws.proofs.Roles.{EachOf, each_both, turns_low}
 
 -- a line, in the turn for a process

@@ -1,5 +1,5 @@
 -- The text of an instance reads as this instance.
-use Rattle.std.proofs.Common.{◌≡◌, ◌∙◌, ap, sym, subst, refl, ℕ, zero, suc, ◌+◌, ◌<◌, ◌≤◌, List, [], ◌∷◌, ◌++◌, map, length, Bool, true, false, Option, Some, None, option_map, slice_get, Ok, inl, inr, arith, zero-add}
+use Rattle.std.proofs.Common.{◌≡◌, ◌∙◌, ap, sym, subst, refl, ℕ, suc, ◌<◌, ◌≤◌, List, [], ◌∷◌, ◌++◌, map, length, Option, Some, slice_get, inl, inr, arith, zero-add}
 use Rattle.std.proofs.lemmas.Bool.{cases_lt}
 use Rattle.std.proofs.lemmas.List.{length-map}
 use Rattle.std.proofs.lemmas.Option.{none-some, slice_get_past}
@@ -15,11 +15,9 @@ use Rattle.wire_runs.specs.Renamed.{IsRenumbered}
 use Rattle.wire_runs.specs.Restrictions.{on_nodes}
 use Rattle.wire_runs.proofs.Lists.{slice_get-map_back, slice_get-map_kept}
 use Rattle.wire_runs.proofs.PlacingCalls.{without_said, placing_by_calls}
-use Rattle.wire_content.specs.Process as content
 use Rattle.wire_content.specs.Scripts.{Scripts, calls_in}
 use Rattle.wire_content.specs.Planned.{planned_call, planned_process, plan_of}
 use Rattle.wire_content.proofs.PlannedCalls.{calls_are}
-use Rattle.wire_types.specs.declared.Call as code
 use Rattle.wire_script.specs.FirstPass.{Started}
 use Rattle.wire_script.specs.Reads.{seen_in, numbered, process_of, scripts_of}
 use Rattle.wire_pattern.specs.Pattern.{Step, Once, Loop, Pattern}
@@ -27,8 +25,8 @@ use Rattle.wire_pattern.specs.Planned.{pattern_of, step_of, steps_in}
 use Rattle.wire_pattern.specs.Instances.{Cast, IsCast, process_count, cast_of, steps_said}
 use Rattle.wire_pattern.specs.Lawful.{IsSound}
 use Rattle.wire_instance_laws.specs.Reading.{IsInstance, IsOfCast, InstancesRead}
-use Rattle.wire_instance_laws.proofs.Roles.{EachOf, each_at, count_is, there}
-use Rattle.wire_instance_laws.proofs.Made.{Turned, in_turns, in_step, in_steps, said_by, steps_are_said, call_by, steps_are_called, IsGoodCall}
+use Rattle.wire_instance_laws.proofs.Roles.{each_at, count_is}
+use Rattle.wire_instance_laws.proofs.Made.{Turned, in_turns, in_step, in_steps, said_by, steps_are_said, call_by, steps_are_called}
 use Rattle.wire_instance_laws.proofs.Facts.{role_at}
 use Rattle.wire_instance_laws.proofs.Lawful.{made_good}
 use Rattle.wire_instance_laws.proofs.Declared.{IsDeclaredAs, declared_as, IsStarted, keeps_are, as_many, started, node_is}

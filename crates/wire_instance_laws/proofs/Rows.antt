@@ -5,8 +5,7 @@ use Rattle.std.proofs.lemmas.Bool.{cases_lt}
 use Rattle.std.proofs.lemmas.List.{length-map, map-append}
 use Rattle.std.proofs.lemmas.Option.{none-some, same_Some}
 use borrow.Author.Tests.{eqb-true, eq-eqb, ne_eqb}
-use Rattle.wire_types.specs.Said.{Call, Said, Header, Keep, Node, Job, Rank, Calls}
-use Rattle.wire_types.specs.Said as said
+use Rattle.wire_types.specs.Said.{Call, Said, Keep, Node, Job, Rank, Calls}
 use Rattle.wire_content.specs.Canonical.{keep_said}
 use Rattle.wire_script.specs.FirstPass.{Name, number_or_count}
 use Rattle.wire_pattern.specs.Pattern.{JobLine, Pattern}
@@ -360,6 +359,6 @@ marked_again before (m ∷ ms) n e =
     let here : line_in (before ++ m.0 ∷ map first ms) n ≡ m.0 = ap (λ k. slice_index_or (before ++ m.0 ∷ map first ms) k 0) one ∙ index_after before m.0 (map first ms) in
     let long : length (before ++ m.0 ∷ []) ≡ length before + 1 = length-append before (m.0 ∷ []) in
     let rest : marked (line_in (before ++ m.0 ∷ map first ms)) (n + 1) (map second ms) ≡ ms =
-        ap (λ ls. marked (line_in ls) (n + 1) (map second ms)) (sym (append_assoc before (m.0 ∷ []) (map first ms)))
-        ∙ marked_again (before ++ m.0 ∷ []) ms (n + 1) (omega (arith, e, long)) in
+    ap (λ ls. marked (line_in ls) (n + 1) (map second ms)) (sym (append_assoc before (m.0 ∷ []) (map first ms)))
+    ∙ marked_again (before ++ m.0 ∷ []) ms (n + 1) (omega (arith, e, long)) in
     λ i. (here i, m.1) ∷ rest i

@@ -1,11 +1,10 @@
 -- The set of a fence has the members that the pattern's line names.
-use Rattle.std.proofs.Common.{◌≡◌, ◌∙◌, ap, sym, subst, refl, ℕ, zero, suc, ◌+◌, ◌<◌, ◌≤◌, List, [], ◌∷◌, ◌++◌, map, length, Bool, true, false, Option, Some, None, slice_get, flat_map, inl, inr, if◌then◌else◌, arith, true≢false, zero-add, append_assoc, append-nil}
+use Rattle.std.proofs.Common.{◌≡◌, ◌∙◌, ap, sym, subst, refl, ℕ, zero, suc, ◌+◌, ◌<◌, List, [], ◌∷◌, ◌++◌, map, length, Bool, true, false, Option, Some, None, slice_get, flat_map, inl, inr, if◌then◌else◌, arith, true≢false, zero-add, append_assoc, append-nil}
 use Rattle.std.specs.Prelude.{◌==◌, ◌||◌, nat_lt}
 use Rattle.std.specs.List.{list_any, list_all}
 use Rattle.std.proofs.Math.Bool.{or-false}
-use Rattle.std.proofs.lemmas.Bool.{cases_eq, cases_lt, false_from_ne_true, or_left, or_cases}
+use Rattle.std.proofs.lemmas.Bool.{cases_eq, cases_lt, false_from_ne_true, or_cases}
 use Rattle.std.proofs.lemmas.List.Folds.{list_any-append}
-use Rattle.std.proofs.lemmas.Option.{none-some, same_Some}
 use borrow.Author.Tests.{ltb-true, eqb-true, eq-eqb, ne_eqb}
 use Rattle.wire_types.specs.Said as said
 use Rattle.wire_runs.specs.Plan.{set_of}
@@ -14,13 +13,12 @@ use Rattle.wire_runs.specs.Patterns as plan
 use Rattle.wire_runs.specs.Patterns.{Who, group, who, item_members, members_in}
 use Rattle.wire_runs.specs.Restrictions.{on_nodes}
 use Rattle.wire_runs.proofs.WholeSets.{plays, group_member, member_set, same_set, rises_set}
-use Rattle.wire_content.specs.Scripts.{Scripts}
-use Rattle.wire_script.specs.FirstPass.{Started, number_or_count}
-use Rattle.wire_script.specs.Reads.{is_proc, names_it, is_in, places_from, set_members}
+use Rattle.wire_script.specs.FirstPass.{Started}
+use Rattle.wire_script.specs.Reads.{names_it, is_in, places_from, set_members}
 use Rattle.wire_script.proofs.Places.{places_canonical, places_within}
 use Rattle.wire_pattern.specs.Pattern.{Item, One, Group, Job, Role, Pattern}
 use Rattle.wire_pattern.specs.Planned.{roles_of, items_of}
-use Rattle.wire_pattern.specs.Instances.{Cast, IsCast, process_count, cast_of, job_in, job_at, rank_at, job_name, process_item, items_said}
+use Rattle.wire_pattern.specs.Instances.{Cast, IsCast, process_count, cast_of, job_in, job_name, process_item, items_said}
 use Rattle.wire_pattern.specs.Lawful.{is_known_item, IsSound}
 use Rattle.wire_lines.proofs.Colon.{and_left, and_right}
 use Rattle.wire_instance_laws.proofs.Roles.{EachOf, each_both, count_is, stands, there, who_low, group_low}
@@ -96,7 +94,7 @@ role_of_job job n (role ∷ rs) (suc k) =
     let other : ((n + suc k) == n) ≡ false = ne_eqb (n + suc k) n (λ e. omega (arith, e)) in
     let next : suc n + k ≡ n + suc k = omega arith in
     let rest : list_any (λ r. (n + suc k) == r) (roles_of job (suc n) rs) ≡ of_job job (slice_get rs k) =
-        ap (λ m. list_any (λ r. m == r) (roles_of job (suc n) rs)) (sym next) ∙ role_of_job job (suc n) rs k in
+    ap (λ m. list_any (λ r. m == r) (roles_of job (suc n) rs)) (sym next) ∙ role_of_job job (suc n) rs k in
     elim (role.job == job) as (λ t. list_any (λ r. (n + suc k) == r) (if t then n ∷ roles_of job (suc n) rs else roles_of job (suc n) rs) ≡ of_job job (slice_get rs k)) [
       | true ↦ rw other rest
       | false ↦ rest
