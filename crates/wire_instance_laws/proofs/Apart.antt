@@ -1,5 +1,5 @@
 -- No two keys, and no two names, of an instance get one number.
-use Rattle.std.proofs.Common.{◌≡◌, ◌∙◌, ap, sym, subst, refl, ℕ, zero, suc, ◌+◌, ◌<◌, ◌^◌, List, [], ◌∷◌, map, length, Bool, true, false, Option, Some, None, slice_get, if◌then◌else◌, arith}
+use Rattle.std.proofs.Common.{◌≡◌, ◌∙◌, ap, sym, subst, refl, ℕ, ◌<◌, List, [], ◌∷◌, map, length, Bool, true, false, Option, Some, None, if◌then◌else◌}
 use Rattle.std.specs.Prelude.{◌&&◌}
 use Rattle.std.specs.List.{list_all}
 use Rattle.std.proofs.lemmas.Option.{none-some, same_Some}
@@ -10,15 +10,15 @@ use Rattle.wire_runs.specs.Plan as runs
 use Rattle.wire_runs.specs.Patterns as plan
 use Rattle.wire_runs.specs.Patterns.{Coding, Who, who, call_in, word_code}
 use Rattle.wire_runs.specs.Restrictions.{on_nodes}
-use Rattle.wire_lines.proofs.Colon.{and_left, and_right}
-use Rattle.wire_content.specs.Scripts.{Scripts, text_at}
+use Rattle.wire_lines.proofs.Colon.{and_left}
+use Rattle.wire_content.specs.Scripts.{text_at}
 use Rattle.wire_script.specs.FirstPass.{is_among, number_or_count}
 use Rattle.wire_script.specs.Reads.{proc_number, seen_in}
 use Rattle.wire_script.proofs.Seen.{alone}
-use Rattle.wire_pattern.specs.Pattern.{Indexed, Item, Call, Put, Commit, Fence, Get, GetNow, Publish, Lookup, LookupWait, Unpublish, UnpublishAll, Pattern}
-use Rattle.wire_pattern.specs.Planned.{unless_reserved, text_number, word_of, line_of}
-use Rattle.wire_pattern.specs.Instances.{Cast, IsCast, process_count, cast_of, job_at, rank_at, job_name, process_text, process_item, indexed_text, word_text, call_said}
-use Rattle.wire_pattern.specs.Lawful.{is_base, has_words, is_sound_call, IsSound}
+use Rattle.wire_pattern.specs.Pattern.{Indexed, Call, Put, Commit, Fence, Get, GetNow, Publish, Lookup, LookupWait, Unpublish, UnpublishAll, Pattern}
+use Rattle.wire_pattern.specs.Planned.{text_number, word_of, line_of}
+use Rattle.wire_pattern.specs.Instances.{Cast, IsCast, cast_of, process_text, process_item, indexed_text, word_text, call_said}
+use Rattle.wire_pattern.specs.Lawful.{is_base, is_sound_call, IsSound}
 use Rattle.wire_instance_laws.proofs.Roles.{EachOf, count_is, who_low}
 use Rattle.wire_instance_laws.proofs.Lawful.{process_lawful}
 use Rattle.wire_instance_laws.proofs.Digits.{text_back}
@@ -36,7 +36,7 @@ pub record IsUsed (p : Pattern) (cast : Cast) (coding : Coding) (table : List (L
   pub code : coding.code (text_number base) indices ≡ n
   pub there : is_among table (indexed_text base (map (process_text p cast) indices)) ≡ true
 
-module _ (p : Pattern) (cast : Cast) (sound : IsSound p) (is_cast : IsCast p cast) (s : Scripts) (a : IsDeclaredAs p cast s) (coding : Coding) where
+module _ (p : Pattern) (cast : Cast) (sound : IsSound p) (is_cast : IsCast p cast) (a : IsDeclaredAs p cast) (coding : Coding) where
   -- texts of processes are items of a set
   spelled : (qs : List ℕ) → map (process_text p cast) qs ≡ map spelled_item (map (process_item p cast) qs)
   spelled [] = refl
@@ -54,16 +54,16 @@ module _ (p : Pattern) (cast : Cast) (sound : IsSound p) (is_cast : IsCast p cas
   numbers : (qs : List ℕ) → EachOf (λ q. q < length (cast_of cast).roles) qs → map number_of (map (process_item p cast) qs) ≡ qs
   numbers [] h = refl
   numbers (q ∷ qs) h =
-      λ i. number_is p cast sound is_cast s a q (subst (λ n. q < n) (count_is cast) h.0) i ∷ numbers qs h.1 i
+      λ i. number_is p cast sound is_cast a q (subst (λ n. q < n) (count_is cast) h.0) i ∷ numbers qs h.1 i
 
   text_is : (table : List (List ℕ)) (n : ℕ) (u : IsUsed p cast coding table n)
       → text_at table (new_number p cast coding table n) ≡ indexed_text u.base (map spelled_item (map (process_item p cast) u.indices))
   text_is table n u =
       let text = indexed_text u.base (map (process_text p cast) u.indices) in
       let same : new_number p cast coding table n ≡ number_or_count table text =
-          ap (new_number p cast coding table) (sym u.code)
-          ∙ ap (λ o. number_or_count table (text_of_word p cast o)) (coding.decodes (text_number u.base) u.indices)
-          ∙ ap (λ b. number_or_count table (indexed_text b (map (process_text p cast) u.indices))) (text_back u.base (base_bytes u.base u.is_base)) in
+      ap (new_number p cast coding table) (sym u.code)
+      ∙ ap (λ o. number_or_count table (text_of_word p cast o)) (coding.decodes (text_number u.base) u.indices)
+      ∙ ap (λ b. number_or_count table (indexed_text b (map (process_text p cast) u.indices))) (text_back u.base (base_bytes u.base u.is_base)) in
       ap (text_at table) same ∙ text_here table text u.there ∙ ap (indexed_text u.base) (spelled u.indices)
 
   pub used_once : (table : List (List ℕ)) (m n : ℕ) → IsUsed p cast coding table m → IsUsed p cast coding table n

@@ -1,9 +1,8 @@
 -- Calls under other numbers of keys and names, each fence over a set in order; and of which call an event is.
-use Rattle.std.proofs.Common.{◌≡◌, ◌∙◌, ap, sym, subst, refl, ℕ, zero, suc, ◌+◌, ◌<◌, ◌≤◌, List, [], ◌∷◌, map, length, Option, Some, None, option_map, slice_get, inl, inr, arith}
-use Rattle.std.proofs.lemmas.List.{length-map}
-use Rattle.std.proofs.lemmas.Option.{none-some, same_Some, slice_get-map, slice_get_past}
+use Rattle.std.proofs.Common.{◌≡◌, ◌∙◌, ap, sym, refl, ℕ, zero, suc, ◌+◌, List, [], ◌∷◌, map, length, Option, Some, None, option_map, slice_get, arith}
+use Rattle.std.proofs.lemmas.Option.{none-some, same_Some, slice_get-map}
 use Rattle.wire_runs.specs.Plan.{Plan, Process, Call, CallPut, CallCommit, CallFence, CallGet, CallGetNow, CallPublish, CallLookup, CallLookupWait, CallUnpublish, CallUnpublishAll, CallFixed}
-use Rattle.wire_runs.specs.Plan.{Kind, Put, Commit, Arrive, Leave, Get, GetNow, Publish, Lookup, LookupWait, Unpublish, UnpublishAll, Fixed, set_of, kinds_of, process_kinds, process_node, kinds, kind_at, kind, node_of}
+use Rattle.wire_runs.specs.Plan.{Kind, Put, Commit, Arrive, Leave, Get, GetNow, Publish, Lookup, LookupWait, Unpublish, UnpublishAll, Fixed, set_of, kinds_of, process_kinds, process_node, kinds, kind_at, node_of}
 use Rattle.wire_runs.specs.Ends.{process_calls, calls_of}
 use Rattle.wire_runs.specs.Embeddings.{image_kind, key_of, name_of, IsKeyOf, IsNameOf}
 use Rattle.wire_runs.specs.Renamed.{renumbering}

@@ -1,21 +1,17 @@
 -- What the text of an instance declares, where it reads as scripts: the processes of the cast.
-use Rattle.std.proofs.Common.{◌≡◌, ◌∙◌, ap, sym, subst, refl, ℕ, zero, suc, ◌+◌, ◌-◌, ◌<◌, ◌≤◌, ◌^◌, List, [], ◌∷◌, ◌++◌, map, take, length, length-append, codes, decimal, Bool, true, false, cond, Option, Some, None, slice_get, slice_index_or, flat_map, count_by, Result, Ok, Err, MatchResult, inl, inr, arith, true≢false}
-use Rattle.std.specs.Prelude.{◌==◌, ◌&&◌, not, nat_lt, if◌then◌else◌}
+use Rattle.std.proofs.Common.{◌≡◌, ◌∙◌, ap, sym, subst, refl, ℕ, zero, suc, ◌+◌, ◌<◌, ◌≤◌, ◌^◌, List, [], ◌∷◌, ◌++◌, map, take, length, length-append, codes, decimal, Bool, true, false, cond, Some, slice_get, flat_map, count_by, Result, Ok, Err, MatchResult, inl, inr, arith}
+use Rattle.std.specs.Prelude.{◌==◌, not, nat_lt, if◌then◌else◌}
 use Rattle.std.specs.List.{join_with_byte, position_or_len}
 use Rattle.std.specs.Str.{bytes_eq}
 use Rattle.std.proofs.lemmas.Bool.{and_from, false_from_ne_true}
 use Rattle.std.proofs.lemmas.Fmt.{decimal_injective}
 use Rattle.std.proofs.lemmas.List.{length-map}
 use Rattle.std.proofs.lemmas.List.Sums.{sum_by-cons}
-use Rattle.std.proofs.lemmas.Option.{none-some, same_Some}
 use Rattle.std.proofs.lemmas.Slice.Eq.{bytes_eq-Decides}
 use borrow.Author.Tests.{ltb-true, eqb-true, eq-eqb}
 use Rattle.wire_types.specs.declared.Fault.{Fault}
-use Rattle.wire_types.specs.declared.Version.{Version}
-use Rattle.wire_types.specs.declared.Version.TheVariants.{Two}
 use Rattle.wire_types.specs.Said as said
 use Rattle.wire_types.specs.Said.{Said, Header, Keep, Node, Job, Rank, Calls, first_word, other_words}
-use Rattle.wire_runs.specs.Plan as runs
 use Rattle.wire_runs.proofs.Lists.{slice_get-map_kept, slice_get-map_back}
 use Rattle.wire_lines.specs.Text.{lines_of}
 use Rattle.wire_lines.proofs.Colon.{and_left, and_right}
@@ -28,21 +24,22 @@ use Rattle.wire_script.specs.declared.limits.Size.TheVariants.{OfVersion, Large}
 use Rattle.wire_script.specs.Limits.{file_bytes}
 use Rattle.wire_script.specs.Statements.{statements}
 use Rattle.wire_script.specs.FirstPass.{Name, Started, Declared, nothing, number_or_count, FirstPass}
-use Rattle.wire_script.specs.Reads.{Reads, ReadsShort, is_proc, proc_number, seen_in, process_of, scripts_of, first_fault, second_pass}
-use Rattle.wire_script.proofs.Recut.{AllLawful, numbered_lines, said_again}
-use Rattle.wire_script.proofs.Changed.{Runs}
+use Rattle.wire_script.specs.Reads.{Reads, is_proc, proc_number, seen_in, process_of, scripts_of, first_fault, second_pass}
+use Rattle.wire_script.proofs.Recut.{numbered_lines, said_again}
 use Rattle.wire_script.proofs.Once.{second_ok}
 use Rattle.wire_script.proofs.Ranked.{IsGood, run_good, number_at, one_process}
 use Rattle.wire_script.proofs.Numbered.{ranked}
 use Rattle.wire_pattern.specs.Pattern.{JobLine, Pattern}
 use Rattle.wire_pattern.specs.Planned.{steps_in}
-use Rattle.wire_pattern.specs.Instances.{Cast, IsCast, process_count, cast_of, job_in, process_jobs, job_at, rank_at, job_name, steps_said, node_name, nodes_said, jobs_said, instance_said, instance_text}
+use Rattle.wire_pattern.specs.Instances.{Cast, IsCast, process_count, cast_of, job_in, process_jobs, job_at, rank_at, job_name, steps_said, steps_lines, node_name, nodes_said, jobs_said, instance_said, instance_lines, instance_text}
 use Rattle.wire_pattern.specs.Lawful.{IsSound}
+use Rattle.wire_instance_laws.specs.Lined.{line_in}
+use Rattle.wire_instance_laws.proofs.Made.{Turned, said_by, steps_are_said, number_by, steps_are_numbered}
 use Rattle.wire_instance_laws.proofs.Roles.{RolesRise, count_is, roles_rise, index_at, stands as stands_at}
-use Rattle.wire_instance_laws.proofs.Facts.{all_at, job_is, role_at, role_low, job_of_role, job_low}
+use Rattle.wire_instance_laws.proofs.Facts.{all_at, job_is, role_at, job_of_role, job_low}
 use Rattle.wire_instance_laws.proofs.Lawful.{lines_lawful}
-use Rattle.wire_instance_laws.proofs.Folded.{Row, View, row_of, view, all_viewed, numbered, lines_run, view_run}
-use Rattle.wire_instance_laws.proofs.Rows.{JobsRise, pieces, pieces_all, names_from, row_at, rows_from, expected, no_view, lines_viewed, sorted_rows, row_stands, rows_length, rank_lines}
+use Rattle.wire_instance_laws.proofs.Folded.{marked, Row, View, row_of, view, all_viewed, numbered, lines_run, view_run}
+use Rattle.wire_instance_laws.proofs.Rows.{JobsRise, pieces, pieces_all, names_from, second, made, marked_by, marked_lines, said_lines, number_lines, marked_again, row_at, rows_from, expected, no_view, lines_viewed, sorted_rows, row_stands, rows_length, rank_lines}
 
 -- a text has at least two bytes for each line
 join_long : (w : List ℕ) (ws : List (List ℕ)) → length w ≤ length (join_with_byte 32 (w ∷ ws))
@@ -95,9 +92,9 @@ node_number n (suc k) zero low few =
 node_number n (suc k) (suc m) low few =
     let s : suc n + m ≡ n + suc m = omega arith in
     let other : bytes_eq (node_name (n + suc m)) (node_name n) ≡ false =
-        false_from_ne_true _ (λ e. let same = names_differ (n + suc m) n (omega (arith, low, few)) (omega (arith, low, few)) e in omega (arith, same)) in
+    false_from_ne_true _ (λ e. let same = names_differ (n + suc m) n (omega (arith, low, few)) (omega (arith, low, few)) e in omega (arith, same)) in
     let rest : number_or_count (names_from (suc n) k) (node_name (n + suc m)) ≡ m =
-        ap (λ x. number_or_count (names_from (suc n) k) (node_name x)) (sym s) ∙ node_number (suc n) k m (omega (arith, low)) (omega (arith, few)) in
+    ap (λ x. number_or_count (names_from (suc n) k) (node_name x)) (sym s) ∙ node_number (suc n) k m (omega (arith, low)) (omega (arith, few)) in
     rw other (omega (arith, rest))
 
 -- counts of what is seen of elements
@@ -121,13 +118,11 @@ module _ (f : Started → Bool) where
         | false ↦ λ e. omega arith
       ] refl
 
--- the scripts are those of what is declared, which has the rows of the cast
-pub record IsDeclaredAs (p : Pattern) (cast : Cast) (s : Scripts) : Type 0 where
+-- what is declared has the rows of the cast, each call with the line of the pattern that it comes from
+pub record IsDeclaredAs (p : Pattern) (cast : Cast) : Type 0 where
   pub d : Declared
   pub good : IsGood d
-  pub faultless : first_fault d d.processes ≡ None
-  pub seen : view d ≡ expected p cast
-  pub is : s ≡ scripts_of d
+  pub seen : view (line_in (instance_lines p cast)) d ≡ expected p cast
   pub few : process_count cast < 10 ^ 9
 
 module _ (p : Pattern) (cast : Cast) (sound : IsSound p) (is_cast : IsCast p cast) where
@@ -139,7 +134,7 @@ module _ (p : Pattern) (cast : Cast) (sound : IsSound p) (is_cast : IsCast p cas
       sorted_rows p cast nodes (subst (λ n. RolesRise 0 n (cast_of cast).roles) is_cast.sized (roles_rise cast)) sound.together
       (job_of_role p cast sound is_cast)
 
-  count_small : (size : Size) → length (instance_text p cast) ≤ file_bytes size → process_count cast < 10 ^ 9
+  pub count_small : (size : Size) → length (instance_text p cast) ≤ file_bytes size → process_count cast < 10 ^ 9
   count_small size short =
       let names = map (λ (j : JobLine). j.name) p.jobs in
       let many : length p.jobs ≡ 0 + length names = sym (length-map p.jobs (λ (j : JobLine). j.name)) ∙ from_zero (length names) in
@@ -157,31 +152,37 @@ module _ (p : Pattern) (cast : Cast) (sound : IsSound p) (is_cast : IsCast p cas
       from_zero : (n : ℕ) → n ≡ 0 + n
       from_zero n = omega arith
 
-  first_pass : (size : Size) (n : ℕ) (d : Declared) → process_count cast < 10 ^ 9 → FirstPass size (numbered_lines 1 (instance_said p cast)) n (Ok d)
-      → IsGood d × (view d ≡ expected p cast)
-  first_pass size n d small (inl f) =
-      let run = lines_run after_header 2 (nothing size f.0) d (lines_lawful p cast sound is_cast small) f.2 in (
-        run_good size f.0 (numbered 2 after_header) d run,
-        view_run after_header 2 (nothing size f.0) d run ∙ lines_viewed p cast (rises (names_from 0 cast.node_count)),
-      )
-  first_pass size n d small (inr f) = absurd (let h = f.1 in cc)
+  pub first_pass : (size : Size) (n : ℕ) (d : Declared) → process_count cast < 10 ^ 9 → FirstPass size (statements (instance_text p cast)) n (Ok d)
+      → IsGood d × (view (line_in (instance_lines p cast)) d ≡ expected p cast)
+  first_pass size n d small first = of_lines (subst (λ ls. FirstPass size ls n (Ok d)) (said_again (instance_said p cast) (tt, lines_lawful p cast sound is_cast small)) first)
+    where
+      of_lines : FirstPass size (numbered_lines 1 (instance_said p cast)) n (Ok d) → IsGood d × (view (line_in (instance_lines p cast)) d ≡ expected p cast)
+      of_lines (inl f) =
+          let run = lines_run after_header 2 (nothing size f.0) d (lines_lawful p cast sound is_cast small) f.2 in (
+            run_good size f.0 (numbered 2 after_header) d run,
+            view_run (line_in (instance_lines p cast)) after_header 2 (nothing size f.0) d run
+                ∙ ap (λ xs. all_viewed (no_view p cast) (marked (line_in (instance_lines p cast)) 2 xs)) (sym (said_lines p cast))
+                ∙ ap (λ ls. all_viewed (no_view p cast) (marked (line_in ls) 2 (map second (marked_lines p cast)))) (sym (number_lines p cast))
+                ∙ ap (all_viewed (no_view p cast)) (marked_again (0 ∷ []) (marked_lines p cast) 2 refl)
+                ∙ lines_viewed p cast (rises (names_from 0 cast.node_count)),
+          )
+      of_lines (inr f) = absurd (let h = f.1 in cc)
 
   short_read : (size : Size) (s : Scripts) (small : process_count cast < 10 ^ 9) (q : Result Declared Fault)
       → FirstPass size (statements (instance_text p cast)) (length (lines_of (instance_text p cast))) q
-      → MatchResult q (λ d. Ok s ≡ second_pass d) (λ f. Ok s ≡ Err f) → IsDeclaredAs p cast s
+      → MatchResult q (λ d. Ok s ≡ second_pass d) (λ f. Ok s ≡ Err f) → (a : IsDeclaredAs p cast) × (s ≡ scripts_of a.d)
   short_read size s small (Err f) first m = absurd (cc)
   short_read size s small (Ok d) first m =
-      let text : statements (instance_text p cast) ≡ numbered_lines 1 (instance_said p cast) = said_again (instance_said p cast) (tt, lines_lawful p cast sound is_cast small) in
-      let r = first_pass size (length (lines_of (instance_text p cast))) d small (subst (λ ls. FirstPass size ls (length (lines_of (instance_text p cast))) (Ok d)) text first) in
-      let u = second_ok d s (first_fault d d.processes) m in
-      record { d = d; good = r.0; faultless = u.0; seen = r.1; is = u.1; few = small }
+      let r = first_pass size (length (lines_of (instance_text p cast))) d small first in
+      (record { d = d; good = r.0; seen = r.1; few = small }, (second_ok d s (first_fault d d.processes) m).1)
 
-  pub declared_as : (size : Size) (s : Scripts) → Reads size (instance_text p cast) (Ok s) → IsDeclaredAs p cast s
+  -- scripts that the text reads as are those of what is declared
+  pub declared_as : (size : Size) (s : Scripts) → Reads size (instance_text p cast) (Ok s) → (a : IsDeclaredAs p cast) × (s ≡ scripts_of a.d)
   declared_as size s (inl h) = absurd (let e = h.1 in cc)
   declared_as size s (inr h) = short_read size s (count_small size h.0) h.1.0 h.1.1 h.1.2
 
   -- what stands where
-  module _ (s : Scripts) (a : IsDeclaredAs p cast s) where
+  module _ (a : IsDeclaredAs p cast) where
     abbrev nodes : List Name
     nodes = names_from 0 cast.node_count
 
@@ -193,8 +194,12 @@ module _ (p : Pattern) (cast : Cast) (sound : IsSound p) (is_cast : IsCast p cas
       pub job : st.job ≡ job_at p cast v
       pub node : st.node ≡ number_or_count nodes (node_name ((cast_of cast).nodes v))
       pub calls : map (λ (c : ℕ × said.Call). c.1) st.calls ≡ steps_said p cast v 0 (steps_in (slice_get p.roles role))
+      pub lines : map (line_in (instance_lines p cast)) (map (λ (c : ℕ × said.Call). c.0) st.calls) ≡ steps_lines cast v 0 (steps_in (slice_get p.roles role))
 
-    rows_are : map row_of a.d.processes ≡ rows_from p cast nodes 0 (cast_of cast).roles
+    abbrev pub row_in : Started → Row
+    row_in = row_of (line_in (instance_lines p cast))
+
+    rows_are : map row_in a.d.processes ≡ rows_from p cast nodes 0 (cast_of cast).roles
     rows_are = ap (λ (w : View). w.rows) a.seen
 
     jobs_are : a.d.jobs ≡ map (λ (j : JobLine). j.name) p.jobs
@@ -204,27 +209,49 @@ module _ (p : Pattern) (cast : Cast) (sound : IsSound p) (is_cast : IsCast p cas
     keeps_are = ap (λ (w : View). w.keeps) a.seen
 
     pub as_many : length a.d.processes ≡ process_count cast
-    as_many = sym (length-map a.d.processes row_of) ∙ ap length rows_are ∙ rows_length p cast nodes 0 (cast_of cast).roles ∙ count_is cast
+    as_many = sym (length-map a.d.processes row_in) ∙ ap length rows_are ∙ rows_length p cast nodes 0 (cast_of cast).roles ∙ count_is cast
+
+    -- marks and what is said, apart
+    marked_calls : (cs : List (ℕ × said.Call)) → map (λ (c : ℕ × said.Call). c.1) cs
+        ≡ map (λ (c : ℕ × said.Call). c.1) (map (λ (c : ℕ × said.Call). (line_in (instance_lines p cast) c.0, c.1)) cs)
+    marked_calls [] = refl
+    marked_calls (c ∷ cs) = ap (λ t. c.1 ∷ t) (marked_calls cs)
+
+    marked_numbers : (cs : List (ℕ × said.Call)) → map (line_in (instance_lines p cast)) (map (λ (c : ℕ × said.Call). c.0) cs)
+        ≡ map (λ (c : ℕ × said.Call). c.0) (map (λ (c : ℕ × said.Call). (line_in (instance_lines p cast) c.0, c.1)) cs)
+    marked_numbers [] = refl
+    marked_numbers (c ∷ cs) = ap (λ t. line_in (instance_lines p cast) c.0 ∷ t) (marked_numbers cs)
+
+    calls_marked : (v : ℕ) (ts : List Turned) → map (λ (c : ℕ × said.Call). c.1) (map (marked_by p cast v) ts) ≡ map (said_by p cast v) ts
+    calls_marked v [] = refl
+    calls_marked v (t ∷ ts) = ap (λ cs. said_by p cast v t ∷ cs) (calls_marked v ts)
+
+    numbers_marked : (v : ℕ) (ts : List Turned) → map (λ (c : ℕ × said.Call). c.0) (map (marked_by p cast v) ts) ≡ map number_by ts
+    numbers_marked v [] = refl
+    numbers_marked v (t ∷ ts) = ap (λ ns. number_by t ∷ ns) (numbers_marked v ts)
 
     pub started : (v role : ℕ) → slice_get (cast_of cast).roles v ≡ Some role → (st : Started) × IsStarted v role st
     started v role at =
         let z : 0 + v ≡ v = omega arith in
-        let row : slice_get (map row_of a.d.processes) v ≡ Some (row_at p cast nodes v role) =
-            ap (λ rs. slice_get rs v) rows_are ∙ row_stands p cast nodes 0 (cast_of cast).roles v role at ∙ ap (λ k. Some (row_at p cast nodes k role)) z in
-        let st = slice_get-map_back row_of a.d.processes v (row_at p cast nodes v role) row in
-        (st.0, record {
-          at = st.1;
-          job = ap (λ (r : Row). r.job) st.2 ∙ sym (job_is p cast v role at);
-          node = ap (λ (r : Row). r.node) st.2;
-          calls = ap (λ (r : Row). r.calls) st.2;
-        })
+        let row : slice_get (map row_in a.d.processes) v ≡ Some (row_at p cast nodes v role) =
+        ap (λ rs. slice_get rs v) rows_are ∙ row_stands p cast nodes 0 (cast_of cast).roles v role at ∙ ap (λ k. Some (row_at p cast nodes k role)) z in
+        let st = slice_get-map_back row_in a.d.processes v (row_at p cast nodes v role) row in (
+          st.0,
+          record {
+            at = st.1;
+            job = ap (λ (r : Row). r.job) st.2 ∙ sym (job_is p cast v role at);
+            node = ap (λ (r : Row). r.node) st.2;
+            calls = marked_calls st.0.calls ∙ ap (λ (r : Row). map (λ (c : ℕ × said.Call). c.1) r.calls) st.2 ∙ calls_marked v (made p cast v role) ∙ sym (steps_are_said p cast v 0 (steps_in (slice_get p.roles role)));
+            lines = marked_numbers st.0.calls ∙ ap (λ (r : Row). map (λ (c : ℕ × said.Call). c.0) r.calls) st.2 ∙ numbers_marked v (made p cast v role) ∙ sym (steps_are_numbered cast v 0 (steps_in (slice_get p.roles role)));
+          },
+        )
 
     -- ranks
     jobs_of_rows : (n : ℕ) (rs : List ℕ) → map (λ (r : Row). r.job) (rows_from p cast nodes n rs) ≡ map (λ (role : ℕ). job_in (slice_get p.roles role)) rs
     jobs_of_rows n [] = refl
     jobs_of_rows n (r ∷ rs) = ap (λ js. job_in (slice_get p.roles r) ∷ js) (jobs_of_rows (suc n) rs)
 
-    jobs_of_processes : (ps : List Started) → map (λ (q : Process). q.job) (map (process_of a.d (seen_in a.d)) ps) ≡ map (λ (r : Row). r.job) (map row_of ps)
+    jobs_of_processes : (ps : List Started) → map (λ (q : Process). q.job) (map (process_of a.d (seen_in a.d)) ps) ≡ map (λ (r : Row). r.job) (map row_in ps)
     jobs_of_processes [] = refl
     jobs_of_processes (x ∷ ps) = ap (λ js. x.job ∷ js) (jobs_of_processes ps)
 

@@ -1,6 +1,6 @@
 -- What each process of a cast of a sound pattern has: a role, a job with a name, a rank.
-use Rattle.std.proofs.Common.{◌≡◌, ◌∙◌, ap, sym, subst, refl, ℕ, zero, suc, ◌+◌, ◌<◌, ◌≤◌, ◌^◌, List, [], ◌∷◌, ◌++◌, map, length, Bool, true, false, Some, slice_get, slice_index_or, IsTrue, arith}
-use Rattle.std.specs.Prelude.{◌==◌, ◌&&◌, nat_lt, nat_le}
+use Rattle.std.proofs.Common.{◌≡◌, sym, subst, ℕ, zero, suc, ◌<◌, ◌≤◌, List, [], ◌∷◌, map, length, Bool, true, Some, slice_get, slice_index_or, IsTrue, arith}
+use Rattle.std.specs.Prelude.{◌==◌, nat_lt}
 use Rattle.std.specs.List.{list_all}
 use Rattle.std.proofs.lemmas.Option.{none-some, same_Some}
 use borrow.Author.Tests.{ltb-true}
@@ -9,8 +9,8 @@ use Rattle.wire_runs.proofs.Lists.{slice_get-map_kept}
 use Rattle.wire_lines.proofs.Colon.{and_left, and_right}
 use Rattle.wire_pattern.specs.Pattern.{Role, JobLine, Pattern}
 use Rattle.wire_pattern.specs.Instances.{Cast, IsCast, process_count, cast_of, job_in, process_jobs, job_at, rank_at, job_name}
-use Rattle.wire_pattern.specs.Lawful.{is_plain_byte, is_plain_name, IsSound}
-use Rattle.wire_instance_laws.proofs.Roles.{count_is, roles_rise, role_below, stands, there, index_at, counted_low}
+use Rattle.wire_pattern.specs.Lawful.{is_plain_name, IsSound}
+use Rattle.wire_instance_laws.proofs.Roles.{count_is, roles_rise, role_below, stands, index_at, counted_low}
 
 pub all_at : {A : Type 0} (f : A → Bool) (xs : List A) (n : ℕ) (x : A) → list_all f xs ≡ true → slice_get xs n ≡ Some x → f x ≡ true
 all_at f [] n x h at = absurd (none-some x at)

@@ -1,26 +1,26 @@
 -- What the text of an instance says may be said.
-use Rattle.std.proofs.Common.{◌≡◌, ◌∙◌, ap, sym, subst, refl, ℕ, zero, suc, ◌+◌, ◌*◌, ◌%◌, ◌<◌, ◌≤◌, ◌^◌, List, [], ◌∷◌, ◌++◌, map, length, length-append, codes, decimal, Bool, true, false, Some, slice_get, IsTrue, flat_map, inl, inr, arith, true≢false}
-use Rattle.std.specs.Prelude.{◌==◌, ◌&&◌, ◌||◌, not, nat_lt, nat_le, if◌then◌else◌, ⊤}
+use Rattle.std.proofs.Common.{◌≡◌, ◌∙◌, ap, sym, subst, refl, ℕ, zero, suc, ◌+◌, ◌%◌, ◌<◌, ◌≤◌, ◌^◌, List, [], ◌∷◌, ◌++◌, map, length, length-append, codes, decimal, Bool, true, false, Some, slice_get, IsTrue, flat_map, inl, inr, arith, true≢false}
+use Rattle.std.specs.Prelude.{◌==◌, ◌&&◌, not, nat_le, if◌then◌else◌}
 use Rattle.std.specs.List.{list_all, list_any, join_with_byte}
 use Rattle.std.specs.Str.{bytes_eq}
-use Rattle.std.proofs.lemmas.Bool.{and_from, or_cases, false_from_ne_true, cases_Bool, cond-true, cond-false}
+use Rattle.std.proofs.lemmas.Bool.{and_from, or_cases, false_from_ne_true}
 use Rattle.std.proofs.lemmas.Fmt.{decimal_by_steps}
 use Rattle.std.proofs.lemmas.Slice.Eq.{bytes_eq-Decides}
 use borrow.Author.Tests.{ltb-true, eqb-true, le-leb, ne_eqb}
 use Rattle.wire_types.specs.Said as said
 use Rattle.wire_types.specs.Said.{is_name, is_name_byte, is_word, is_word_byte, is_key, IsLawful, IsLawfulCall, IsLawfulItem, IsLawfulSet, AreLawful}
 use Rattle.wire_runs.specs.Fences.{is_member}
-use Rattle.wire_runs.specs.Patterns.{Who, Only, Self, Each, group, who}
+use Rattle.wire_runs.specs.Patterns.{Who, group, who}
 use Rattle.wire_lines.proofs.Colon.{and_left, and_right}
-use Rattle.wire_script.proofs.Recut.{AllLawful, all_append, name_word, proc_word}
+use Rattle.wire_script.proofs.Recut.{AllLawful, all_append, proc_word}
 use Rattle.wire_content.specs.Canonical.{keep_said}
-use Rattle.wire_pattern.specs.Pattern.{Indexed, Item, One, Group, Job, Call, Put, Commit, Fence, Get, GetNow, Publish, Lookup, LookupWait, Unpublish, UnpublishAll, Role, JobLine, Pattern}
+use Rattle.wire_pattern.specs.Pattern.{Indexed, Item, One, Group, Job, Call, Put, Commit, Fence, Get, GetNow, Publish, Lookup, LookupWait, Unpublish, UnpublishAll, JobLine, Pattern}
 use Rattle.wire_pattern.specs.Planned.{steps_in}
-use Rattle.wire_pattern.specs.Instances.{Cast, IsCast, process_count, cast_of, job_in, job_at, rank_at, job_name, process_text, indexed_text, word_text, process_item, items_said, call_said, steps_said, node_name, nodes_said, process_said, members_said, jobs_said}
-use Rattle.wire_pattern.specs.Lawful.{is_plain_name, is_base, has_words, is_known, is_known_item, is_known_who, whos_in, items_in, has_caller, is_member_call, is_sound_call, IsSound}
-use Rattle.wire_instance_laws.proofs.Roles.{EachOf, each_both, count_is, stands, there, who_low, group_low, role_member}
+use Rattle.wire_pattern.specs.Instances.{Cast, IsCast, process_count, cast_of, job_in, job_at, rank_at, job_name, process_text, indexed_text, word_text, process_item, items_said, call_said, node_name, nodes_said, process_said, members_said, jobs_said}
+use Rattle.wire_pattern.specs.Lawful.{is_plain_name, is_base, has_words, is_known, is_known_item, is_known_who, whos_in, has_caller, is_sound_call, IsSound}
+use Rattle.wire_instance_laws.proofs.Roles.{EachOf, count_is, stands, there, who_low, group_low, role_member}
 use Rattle.wire_instance_laws.proofs.Made.{Turned, in_steps, said_by, steps_are_said, IsGoodCall, steps_good}
-use Rattle.wire_instance_laws.proofs.Facts.{index_low, rank_low, role_at, role_low, job_low, name_lawful}
+use Rattle.wire_instance_laws.proofs.Facts.{index_low, rank_low, role_low, job_low, name_lawful}
 
 -- names of nodes
 digit_name : (d : ℕ) → d < 10 → list_all is_name_byte ((48 + d) ∷ []) ≡ true
@@ -61,13 +61,13 @@ indexed_key base (t ∷ ts) h each =
     let word = and_left (is_word base) _ (and_left (is_key base) _ h) in
     let rest = join_with_byte 44 (t ∷ ts) ++ 93 ∷ [] in
     let bytes : list_all is_word_byte (base ++ 91 ∷ rest) ≡ true =
-        all_append is_word_byte base (91 ∷ rest) (and_right (not (length base == 0)) _ word)
-        (all_append is_word_byte (join_with_byte 44 (t ∷ ts)) (93 ∷ []) (join_word t ts each) refl) in
+    all_append is_word_byte base (91 ∷ rest) (and_right (not (length base == 0)) _ word)
+    (all_append is_word_byte (join_with_byte 44 (t ∷ ts)) (93 ∷ []) (join_word t ts each) refl) in
     let some = some_length base (and_left _ _ word) in
     let long : length (base ++ 91 ∷ rest) ≡ length base + suc (length rest) = length-append base (91 ∷ rest) in
     let not_none : (length (base ++ 91 ∷ rest) == 0) ≡ false = ne_eqb _ _ (λ e. omega (arith, e, long)) in
     let not_star : bytes_eq (base ++ 91 ∷ rest) (codes "*") ≡ false =
-        false_from_ne_true _ (λ e. let same = ap length ((bytes_eq-Decides (base ++ 91 ∷ rest) (codes "*")).0 e) in one (length base) (length rest) some (sym long ∙ same)) in
+    false_from_ne_true _ (λ e. let same = ap length ((bytes_eq-Decides (base ++ 91 ∷ rest) (codes "*")).0 e) in one (length base) (length rest) some (sym long ∙ same)) in
     and_from _ _ (and_from _ _ (ap not not_none) bytes) (ap not not_star)
   where
     one : (a b : ℕ) → 0 < a → a + suc b ≡ 1 → ⊥
@@ -181,7 +181,7 @@ module _ (p : Pattern) (cast : Cast) (sound : IsSound p) (is_cast : IsCast p cas
   -- the lines
   calls_lawful : (v role : ℕ) → v < count → slice_get roles v ≡ Some role → (ts : List Turned) → EachOf (IsGoodCall p count role) ts → AllLawful (map said.Calls (map (said_by p cast v) ts))
   calls_lawful v role low at [] h = tt
-  calls_lawful v role low at (t ∷ ts) h = (call_lawful v t.0 low h.0.each role at t.1 h.0.sound, calls_lawful v role low at ts h.1)
+  calls_lawful v role low at (t ∷ ts) h = (call_lawful v t.0 low h.0.each role at t.1.call h.0.sound, calls_lawful v role low at ts h.1)
 
   pub made_good : (v role : ℕ) → slice_get roles v ≡ Some role → EachOf (IsGoodCall p count role) (in_steps (cast_of cast) v 0 (steps_in (slice_get p.roles role)))
   made_good v role at =
@@ -193,7 +193,7 @@ module _ (p : Pattern) (cast : Cast) (sound : IsSound p) (is_cast : IsCast p cas
   process_said_lawful v role at = (
     node_lawful ((cast_of cast).nodes v) (index_low cast.node_count cast.nodes v (2 ^ 31) is_cast.below (let f = is_cast.few_nodes in omega (arith, f)) (omega arith)),
     subst (λ cs. AllLawful (map said.Calls cs)) (sym (steps_are_said p cast v 0 (steps_in (slice_get p.roles role))))
-    (calls_lawful v role (there roles v role at) at (in_steps (cast_of cast) v 0 (steps_in (slice_get p.roles role))) (made_good v role at)),
+        (calls_lawful v role (there roles v role at) at (in_steps (cast_of cast) v 0 (steps_in (slice_get p.roles role))) (made_good v role at)),
   )
 
   members_lawful : (job v : ℕ) (rs : List ℕ) → ((q role : ℕ) → slice_get rs q ≡ Some role → slice_get roles (v + q) ≡ Some role) → AllLawful (members_said p cast job v rs)
@@ -213,8 +213,8 @@ module _ (p : Pattern) (cast : Cast) (sound : IsSound p) (is_cast : IsCast p cas
   jobs_lawful n (j ∷ jobs) h = (
     and_left (is_name j.name) _ (and_left _ _ h),
     lines_both (members_said p cast n 0 roles) (jobs_said p cast (suc n) (map (λ (x : JobLine). x.name) jobs))
-    (members_lawful n 0 roles (λ q role at. let s : 0 + q ≡ q = omega arith in ap (slice_get roles) s ∙ at))
-    (jobs_lawful (suc n) jobs (and_right (is_plain_name j.name) _ h)),
+        (members_lawful n 0 roles (λ q role at. let s : 0 + q ≡ q = omega arith in ap (slice_get roles) s ∙ at))
+        (jobs_lawful (suc n) jobs (and_right (is_plain_name j.name) _ h)),
   )
 
   nodes_lawful : (n k : ℕ) → n + k ≤ 2 ^ 31 → AllLawful (nodes_said n k)

@@ -12,3 +12,4 @@ pub mod Calls
 pub mod Matched
 pub mod Apart
 pub mod Read
+pub mod Located

@@ -1,5 +1,5 @@
 -- The calls of a process of an instance, each a line in a turn: what the text says of them, and what they are in the plan.
-use Rattle.std.proofs.Common.{◌≡◌, ◌∙◌, ap, sym, subst, refl, ℕ, zero, suc, ◌<◌, List, [], ◌∷◌, ◌++◌, map, length, Bool, true, false, Some, slice_get}
+use Rattle.std.proofs.Common.{◌≡◌, ◌∙◌, ap, sym, refl, ℕ, suc, ◌<◌, List, [], ◌∷◌, ◌++◌, map, flat_map, length, Bool, true, slice_get}
 use Rattle.std.specs.Prelude.{◌&&◌, not, nat_lt}
 use Rattle.std.specs.List.{list_all}
 use Rattle.std.proofs.lemmas.List.{map-append}
@@ -8,18 +8,18 @@ use Rattle.wire_runs.specs.Plan as runs
 use Rattle.wire_runs.specs.Patterns as plan
 use Rattle.wire_runs.specs.Patterns.{Coding, Turns, turns, call_in, loop_calls, calls_from}
 use Rattle.wire_lines.proofs.Colon.{and_left, and_right}
-use Rattle.wire_pattern.specs.Pattern.{Call, Line, Step, Once, Loop, Role, Pattern}
+use Rattle.wire_pattern.specs.Pattern.{Line, Step, Once, Loop, Role, Pattern}
 use Rattle.wire_pattern.specs.Planned.{line_of, step_of, single_in}
-use Rattle.wire_pattern.specs.Instances.{Cast, cast_of, call_said, turns_said, step_said, steps_said}
-use Rattle.wire_pattern.specs.Lawful.{is_sound_call, is_loop_call, has_commit, waits_after_all, waits_after_step, is_sound_step, are_sound_steps}
+use Rattle.wire_pattern.specs.Instances.{Cast, cast_of, call_said, turns_said, step_said, steps_said, step_lines, steps_lines}
+use Rattle.wire_pattern.specs.Lawful.{is_sound_call, is_loop_call, waits_after_step, is_sound_step, are_sound_steps}
 use Rattle.wire_instance_laws.proofs.Roles.{EachOf, each_both, turns_low}
 
--- a call of a line, in the turn for a process
+-- a line, in the turn for a process
 abbrev pub Turned : Type 0
-Turned = ℕ × Call
+Turned = ℕ × Line
 
 abbrev pub in_turn : ℕ → Line → Turned
-in_turn e line = (e, line.call)
+in_turn e line = (e, line)
 
 abbrev pub in_turns : List Line → List ℕ → List Turned
 in_turns lines [] = []
@@ -36,7 +36,7 @@ in_steps cast v i (step ∷ steps) = in_step cast v i step ++ in_steps cast v (s
 
 module _ (p : Pattern) (cast : Cast) (v : ℕ) where
   abbrev pub said_by : Turned → said.Call
-  said_by t = call_said p cast v t.0 t.1
+  said_by t = call_said p cast v t.0 t.1.call
 
   lines_said : (e : ℕ) (lines : List Line) → map (λ l. call_said p cast v e l.call) lines ≡ map said_by (map (in_turn e) lines)
   lines_said e [] = refl
@@ -56,9 +56,32 @@ module _ (p : Pattern) (cast : Cast) (v : ℕ) where
   steps_are_said i (step ∷ steps) =
       (λ j. step_is_said i step j ++ steps_are_said (suc i) steps j) ∙ sym (map-append said_by (in_step (cast_of cast) v i step) (in_steps (cast_of cast) v (suc i) steps))
 
+-- the numbers of their lines
+abbrev pub number_by : Turned → ℕ
+number_by t = t.1.number
+
+lines_numbered : (e : ℕ) (lines : List Line) → map (λ (l : Line). l.number) lines ≡ map number_by (map (in_turn e) lines)
+lines_numbered e [] = refl
+lines_numbered e (line ∷ lines) = ap (λ ns. line.number ∷ ns) (lines_numbered e lines)
+
+turns_are_numbered : (lines : List Line) (es : List ℕ) → flat_map (λ (e : ℕ). map (λ (l : Line). l.number) lines) es ≡ map number_by (in_turns lines es)
+turns_are_numbered lines [] = refl
+turns_are_numbered lines (e ∷ es) =
+    (λ i. lines_numbered e lines i ++ turns_are_numbered lines es i) ∙ sym (map-append number_by (map (in_turn e) lines) (in_turns lines es))
+
+step_is_numbered : (cast : Cast) (v i : ℕ) (step : Step) → step_lines cast v i step ≡ map number_by (in_step (cast_of cast) v i step)
+step_is_numbered cast v i (Once line) = refl
+step_is_numbered cast v i (Loop number role mode lines) = turns_are_numbered lines (turns (cast_of cast) v i role mode)
+
+pub steps_are_numbered : (cast : Cast) (v i : ℕ) (steps : List Step) → steps_lines cast v i steps ≡ map number_by (in_steps (cast_of cast) v i steps)
+steps_are_numbered cast v i [] = refl
+steps_are_numbered cast v i (step ∷ steps) =
+    (λ j. step_is_numbered cast v i step j ++ steps_are_numbered cast v (suc i) steps j)
+    ∙ sym (map-append number_by (in_step (cast_of cast) v i step) (in_steps (cast_of cast) v (suc i) steps))
+
 module _ (roles : List Role) (coding : Coding) (cast : plan.Cast) (v : ℕ) where
   abbrev pub call_by : Turned → runs.Call
-  call_by t = call_in coding cast v t.0 (line_of roles t.1)
+  call_by t = call_in coding cast v t.0 (line_of roles t.1.call)
 
   lines_called : (e : ℕ) (lines : List Line) → map (call_in coding cast v e) (map (λ l. line_of roles l.call) lines) ≡ map call_by (map (in_turn e) lines)
   lines_called e [] = refl
@@ -81,7 +104,7 @@ module _ (roles : List Role) (coding : Coding) (cast : plan.Cast) (v : ℕ) wher
 -- a sound call of a process of the role, in a turn for one of so many processes
 pub record IsGoodCall (p : Pattern) (count role : ℕ) (t : Turned) : Type 0 where
   pub each : t.0 < count
-  pub sound : is_sound_call (length p.jobs) p.roles role t.1 ≡ true
+  pub sound : is_sound_call (length p.jobs) p.roles role t.1.call ≡ true
 
 module _ (p : Pattern) (role : ℕ) (cast : plan.Cast) (v : ℕ) (low : v < length cast.roles) where
   abbrev Good : Turned → Type 0

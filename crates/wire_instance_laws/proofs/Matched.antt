@@ -1,14 +1,10 @@
 -- A call that was read is the call of the instance, under other numbers of keys and names.
-use Rattle.std.proofs.Common.{◌≡◌, ◌∙◌, ap, sym, subst, refl, ℕ, zero, suc, ◌+◌, ◌<◌, List, [], ◌∷◌, map, length, Bool, true, false, Option, Some, None, slice_get, flat_map, if◌then◌else◌, arith}
+use Rattle.std.proofs.Common.{◌≡◌, ◌∙◌, ap, sym, subst, refl, ℕ, ◌<◌, List, [], ◌∷◌, map, length, Bool, true, false, Option, Some, None, slice_get, flat_map, if◌then◌else◌}
 use Rattle.std.specs.Prelude.{◌&&◌}
 use Rattle.std.specs.List.{list_all}
 use Rattle.wire_types.specs.Said as said
 use Rattle.wire_types.specs.Said.{is_word, is_key, is_reserved}
-use Rattle.wire_types.specs.Replies.{bare}
-use Rattle.wire_types.specs.declared.Scope.{Scope}
 use Rattle.wire_types.specs.declared.Reply.{Reply}
-use Rattle.wire_types.specs.declared.Status.TheVariants.{NotFound, BadParam}
-use Rattle.wire_types.specs.declared.Call as code
 use Rattle.wire_runs.specs.Plan as runs
 use Rattle.wire_runs.specs.Plan.{set_of}
 use Rattle.wire_runs.specs.Patterns as plan
@@ -17,17 +13,17 @@ use Rattle.wire_runs.specs.Restrictions.{on_nodes}
 use Rattle.wire_runs.proofs.PlacingCalls.{without_said}
 use Rattle.wire_runs.proofs.Lists.{slice_get-map_back, slice_get-map_kept}
 use Rattle.wire_lines.proofs.Colon.{and_left, and_right}
-use Rattle.wire_content.specs.Scripts.{Scripts, text_at}
+use Rattle.wire_content.specs.Scripts.{text_at}
 use Rattle.wire_content.specs.Planned as content
 use Rattle.wire_content.specs.Planned.{planned_call, reply_of_key}
 use Rattle.wire_script.specs.FirstPass.{Started, Declared, is_among, number_or_count}
 use Rattle.wire_script.specs.Reads.{proc_number, set_members, keys_in, names_in, sets_in, in_calls, first_seen, seen_in, numbered, scripts_of}
 use Rattle.wire_script.proofs.Seen.{seen_among, among_flat, text_at_number, alone}
-use Rattle.wire_pattern.specs.Pattern.{Indexed, Item, Call, Put, Commit, Fence, Get, GetNow, Publish, Lookup, LookupWait, Unpublish, UnpublishAll, Pattern}
-use Rattle.wire_pattern.specs.Planned.{unless_reserved, text_number, word_of, line_of, items_of, steps_in}
-use Rattle.wire_pattern.specs.Instances.{Cast, IsCast, process_count, cast_of, job_at, rank_at, job_name, process_text, indexed_text, word_text, items_said, call_said}
-use Rattle.wire_pattern.specs.Lawful.{is_base, has_words, is_known, is_known_who, is_known_item, whos_in, items_in, is_sound_call, IsSound}
-use Rattle.wire_instance_laws.proofs.Roles.{EachOf, each_by_place, each_at, count_is, who_low}
+use Rattle.wire_pattern.specs.Pattern.{Indexed, Call, Put, Commit, Fence, Get, GetNow, Publish, Lookup, LookupWait, Unpublish, UnpublishAll, Pattern}
+use Rattle.wire_pattern.specs.Planned.{unless_reserved, text_number, word_of, line_of, steps_in}
+use Rattle.wire_pattern.specs.Instances.{Cast, IsCast, cast_of, job_at, rank_at, job_name, process_text, indexed_text, word_text, items_said, call_said}
+use Rattle.wire_pattern.specs.Lawful.{is_base, has_words, is_known_who, whos_in, is_sound_call, IsSound}
+use Rattle.wire_instance_laws.proofs.Roles.{EachOf, each_by_place, count_is, who_low}
 use Rattle.wire_instance_laws.proofs.Made.{Turned, said_by, call_by, IsGoodCall, in_steps, steps_are_said}
 use Rattle.wire_instance_laws.proofs.Digits.{text_by_number, text_back}
 use Rattle.wire_instance_laws.proofs.Declared.{IsDeclaredAs, IsStarted, number_is}
@@ -70,7 +66,7 @@ text_here table text h = (text_at_number table text h).1
 pub base_bytes : (base : List ℕ) → is_base base ≡ true → list_all said.is_word_byte base ≡ true
 base_bytes base h = and_right _ _ (and_left (is_word base) _ (and_left (is_key base) _ h))
 
-module _ (p : Pattern) (cast : Cast) (sound : IsSound p) (is_cast : IsCast p cast) (s : Scripts) (a : IsDeclaredAs p cast s) (coding : Coding) (nodes : ℕ → ℕ) where
+module _ (p : Pattern) (cast : Cast) (sound : IsSound p) (is_cast : IsCast p cast) (a : IsDeclaredAs p cast) (coding : Coding) (nodes : ℕ → ℕ) where
   abbrev pub on : plan.Cast
   on = on_nodes nodes (cast_of cast)
 
@@ -81,15 +77,15 @@ module _ (p : Pattern) (cast : Cast) (sound : IsSound p) (is_cast : IsCast p cas
   name = new_number p cast coding (seen_in a.d).names
 
   -- the calls of a process are named in the tables
-  pub words_there : (v role : ℕ) (st : Started) (i : IsStarted p cast sound is_cast s a v role st) →
+  pub words_there : (v role : ℕ) (st : Started) (i : IsStarted p cast sound is_cast a v role st) →
       EachOf (λ t. HasWords a.d st.job (said_by p cast v t)) (in_steps (cast_of cast) v 0 (steps_in (slice_get p.roles role)))
   words_there v role st i =
       let made = in_steps (cast_of cast) v 0 (steps_in (slice_get p.roles role)) in
       let same : map (λ (c : ℕ × said.Call). c.1) st.calls ≡ map (said_by p cast v) made = i.calls ∙ steps_are_said p cast v 0 (steps_in (slice_get p.roles role)) in
       each_by_place (λ t. HasWords a.d st.job (said_by p cast v t)) made (λ n t at.
-          let back = slice_get-map_back (λ (c : ℕ × said.Call). c.1) st.calls n (said_by p cast v t)
-          (ap (λ cs. slice_get cs n) same ∙ slice_get-map_kept (said_by p cast v) made n t at) in
-          subst (HasWords a.d st.job) back.2 (call_has a.d v st n back.0 i.at back.1))
+      let back = slice_get-map_back (λ (c : ℕ × said.Call). c.1) st.calls n (said_by p cast v t)
+      (ap (λ cs. slice_get cs n) same ∙ slice_get-map_kept (said_by p cast v) made n t at) in
+      subst (HasWords a.d st.job) back.2 (call_has a.d v st n back.0 i.at back.1))
 
   module _ (v e : ℕ) (low : v < length (cast_of cast).roles) (low_e : e < length (cast_of cast).roles) where
     texts_same : (ws : List Who) → map (process_text p cast) (map (who on v e) ws) ≡ map (λ w. process_text p cast (who (cast_of cast) v e w)) ws
@@ -124,7 +120,7 @@ module _ (p : Pattern) (cast : Cast) (sound : IsSound p) (is_cast : IsCast p cas
         ∙ word_case (is_reserved word.base) r q call line h
 
     owner_is : (w : Who) → proc_number a.d (job_name p (job_at p cast (who (cast_of cast) v e w))) (rank_at p cast (who (cast_of cast) v e w)) ≡ who on v e w
-    owner_is w = number_is p cast sound is_cast s a (who (cast_of cast) v e w) (subst (λ n. who (cast_of cast) v e w < n) (count_is cast) (who_low (cast_of cast) v e w low low_e))
+    owner_is w = number_is p cast sound is_cast a (who (cast_of cast) v e w) (subst (λ n. who (cast_of cast) v e w < n) (count_is cast) (who_low (cast_of cast) v e w low low_e))
 
     first_base : (word : Indexed) (values : Bool) → (list_all (λ (w : Indexed). is_base w.base) (word ∷ []) && values) ≡ true → is_base word.base ≡ true
     first_base word values h = and_left (is_base word.base) true (and_left _ values h)
@@ -149,7 +145,7 @@ module _ (p : Pattern) (cast : Cast) (sound : IsSound p) (is_cast : IsCast p cas
           let rest = and_left _ _ (and_right (has_words (Fence items collect)) _ h) in
           ap (λ xs. runs.CallFence xs collect)
           (text_here (seen_in a.d).sets members (has.sets members (alone members))
-          ∙ set_is p cast sound is_cast s a nodes v e low low_e own items (and_right (list_all (is_known_who p.roles) (whos_in (Fence items collect))) _ rest))
+          ∙ set_is p cast sound is_cast a nodes v e low low_e own items (and_right (list_all (is_known_who p.roles) (whos_in (Fence items collect))) _ rest))
       call_matches (Get owner k) h has =
           let text = word_text p cast v e k in
           let table = (seen_in a.d).keys in
@@ -191,4 +187,4 @@ module _ (p : Pattern) (cast : Cast) (sound : IsSound p) (is_cast : IsCast p cas
       ≡ map without_said (map (moved_call key name) (map (call_by p.roles coding on v) ts))
   calls_match v role own low [] good has = refl
   calls_match v role own low (t ∷ ts) good has =
-      λ i. call_matches v t.0 low good.0.each role own t.1 good.0.sound has.0 i ∷ calls_match v role own low ts good.1 has.1 i
+      λ i. call_matches v t.0 low good.0.each role own t.1.call good.0.sound has.0 i ∷ calls_match v role own low ts good.1 has.1 i

@@ -1,5 +1,5 @@
 -- The text of an instance reads as this instance.
-use Rattle.std.proofs.Common.{◌≡◌, ◌∙◌, ap, sym, subst, refl, ℕ, zero, suc, ◌+◌, ◌<◌, ◌≤◌, List, [], ◌∷◌, ◌++◌, map, length, Bool, true, false, Option, Some, None, option_map, slice_get, Ok, inl, inr, arith, zero-add}
+use Rattle.std.proofs.Common.{◌≡◌, ◌∙◌, ap, sym, subst, refl, ℕ, suc, ◌<◌, ◌≤◌, List, [], ◌∷◌, ◌++◌, map, length, Option, Some, slice_get, inl, inr, arith, zero-add}
 use Rattle.std.proofs.lemmas.Bool.{cases_lt}
 use Rattle.std.proofs.lemmas.List.{length-map}
 use Rattle.std.proofs.lemmas.Option.{none-some, slice_get_past}
@@ -15,11 +15,9 @@ use Rattle.wire_runs.specs.Renamed.{IsRenumbered}
 use Rattle.wire_runs.specs.Restrictions.{on_nodes}
 use Rattle.wire_runs.proofs.Lists.{slice_get-map_back, slice_get-map_kept}
 use Rattle.wire_runs.proofs.PlacingCalls.{without_said, placing_by_calls}
-use Rattle.wire_content.specs.Process as content
 use Rattle.wire_content.specs.Scripts.{Scripts, calls_in}
 use Rattle.wire_content.specs.Planned.{planned_call, planned_process, plan_of}
 use Rattle.wire_content.proofs.PlannedCalls.{calls_are}
-use Rattle.wire_types.specs.declared.Call as code
 use Rattle.wire_script.specs.FirstPass.{Started}
 use Rattle.wire_script.specs.Reads.{seen_in, numbered, process_of, scripts_of}
 use Rattle.wire_pattern.specs.Pattern.{Step, Once, Loop, Pattern}
@@ -27,8 +25,8 @@ use Rattle.wire_pattern.specs.Planned.{pattern_of, step_of, steps_in}
 use Rattle.wire_pattern.specs.Instances.{Cast, IsCast, process_count, cast_of, steps_said}
 use Rattle.wire_pattern.specs.Lawful.{IsSound}
 use Rattle.wire_instance_laws.specs.Reading.{IsInstance, IsOfCast, InstancesRead}
-use Rattle.wire_instance_laws.proofs.Roles.{EachOf, each_at, count_is, there}
-use Rattle.wire_instance_laws.proofs.Made.{Turned, in_turns, in_step, in_steps, said_by, steps_are_said, call_by, steps_are_called, IsGoodCall}
+use Rattle.wire_instance_laws.proofs.Roles.{each_at, count_is}
+use Rattle.wire_instance_laws.proofs.Made.{Turned, in_turns, in_step, in_steps, said_by, steps_are_said, call_by, steps_are_called}
 use Rattle.wire_instance_laws.proofs.Facts.{role_at}
 use Rattle.wire_instance_laws.proofs.Lawful.{made_good}
 use Rattle.wire_instance_laws.proofs.Declared.{IsDeclaredAs, declared_as, IsStarted, keeps_are, as_many, started, node_is}
@@ -46,7 +44,7 @@ none_past plan v past = ap process_calls (slice_get_past plan.processes v past)
 none_in : (f : runs.Call → Option ℕ) (n : ℕ) → HasOne f [] n → ⊥
 none_in f n h = none-some h.call h.is
 
-module _ (p : Pattern) (cast : Cast) (sound : IsSound p) (is_cast : IsCast p cast) (s : Scripts) (a : IsDeclaredAs p cast s) where
+module _ (p : Pattern) (cast : Cast) (sound : IsSound p) (is_cast : IsCast p cast) (a : IsDeclaredAs p cast) where
   abbrev roles : List ℕ
   roles = (cast_of cast).roles
 
@@ -60,17 +58,17 @@ module _ (p : Pattern) (cast : Cast) (sound : IsSound p) (is_cast : IsCast p cas
   few v low = subst (λ n. v < n) (count_is cast) low
 
   -- what a process is
-  process_is : (v role : ℕ) (st : Started) → IsStarted p cast sound is_cast s a v role st → slice_get read.processes v ≡ Some (process_of a.d (seen_in a.d) st)
+  process_is : (v role : ℕ) (st : Started) → IsStarted p cast sound is_cast a v role st → slice_get read.processes v ≡ Some (process_of a.d (seen_in a.d) st)
   process_is v role st i = slice_get-map_kept (process_of a.d (seen_in a.d)) a.d.processes v st i.at
 
-  calls_in_are : (v role : ℕ) (st : Started) → IsStarted p cast sound is_cast s a v role st
+  calls_in_are : (v role : ℕ) (st : Started) → IsStarted p cast sound is_cast a v role st
       → calls_in (slice_get read.processes v) ≡ map (numbered a.d (seen_in a.d) st.job) (steps_said p cast v 0 (steps_in (slice_get p.roles role)))
   calls_in_are v role st i =
       ap calls_in (process_is v role st i)
       ∙ map_twice (numbered a.d (seen_in a.d) st.job) (λ (c : ℕ × said.Call). c.1) st.calls
       ∙ ap (map (numbered a.d (seen_in a.d) st.job)) i.calls
 
-  read_calls : (v role : ℕ) (st : Started) → IsStarted p cast sound is_cast s a v role st
+  read_calls : (v role : ℕ) (st : Started) → IsStarted p cast sound is_cast a v role st
       → calls_of (plan_of read) v ≡ map (planned_call read) (map (numbered a.d (seen_in a.d) st.job) (map (said_by p cast v) (made v role)))
   read_calls v role st i =
       calls_are read v
@@ -78,7 +76,7 @@ module _ (p : Pattern) (cast : Cast) (sound : IsSound p) (is_cast : IsCast p cas
 
   planned_length : length (plan_of read).processes ≡ process_count cast
   planned_length =
-      length-map read.processes (planned_process read) ∙ length-map a.d.processes (process_of a.d (seen_in a.d)) ∙ as_many p cast sound is_cast s a
+      length-map read.processes (planned_process read) ∙ length-map a.d.processes (process_of a.d (seen_in a.d)) ∙ as_many p cast sound is_cast a
 
   module _ (coding : Coding) (nodes : ℕ → ℕ) where
     abbrev on : plan.Cast
@@ -117,9 +115,9 @@ module _ (p : Pattern) (cast : Cast) (sound : IsSound p) (is_cast : IsCast p cas
     same_calls v = elim (cases_lt v (length roles)) [
       | inl low ↦
           let r = role_at p cast sound is_cast v (few v low) in
-          let st = started p cast sound is_cast s a v r.0 r.1 in
+          let st = started p cast sound is_cast a v r.0 r.1 in
           ap (map without_said) (read_calls v r.0 st.0 st.1)
-          ∙ calls_match p cast sound is_cast s a coding nodes v r.0 st.0.job low (made v r.0) (made_good p cast sound is_cast a.few v r.0 r.1) (words_there p cast sound is_cast s a coding nodes v r.0 st.0 st.1)
+          ∙ calls_match p cast sound is_cast a coding nodes v r.0 st.0.job low (made v r.0) (made_good p cast sound is_cast a.few v r.0 r.1) (words_there p cast sound is_cast a coding nodes v r.0 st.0 st.1)
           ∙ ap (map without_said) (sym (moved_calls key name own v ∙ ap (map (moved_call key name)) (own_calls v r.0 r.1)))
       | inr past ↦
           let count = count_is cast in
@@ -131,7 +129,7 @@ module _ (p : Pattern) (cast : Cast) (sound : IsSound p) (is_cast : IsCast p cas
 
     as_placing : IsPlacing (plan_of read) (moved_plan key name own)
     as_placing =
-        placing_by_calls (plan_of read) (moved_plan key name own) (keeps_are p cast sound is_cast s a)
+        placing_by_calls (plan_of read) (moved_plan key name own) (keeps_are p cast sound is_cast a)
         (planned_length ∙ sym (count_is cast) ∙ sym own_length ∙ sym (length-map own.processes (moved_process key name))) same_calls
 
     -- the keys and names that are used
@@ -142,11 +140,11 @@ module _ (p : Pattern) (cast : Cast) (sound : IsSound p) (is_cast : IsCast p cas
         from v h = elim (cases_lt v (length roles)) [
           | inl low ↦
               let r = role_at p cast sound is_cast v (few v low) in
-              let st = started p cast sound is_cast s a v r.0 r.1 in
+              let st = started p cast sound is_cast a v r.0 r.1 in
               let t = slice_get-map_back (call_by p.roles coding on v) (made v r.0) h.at h.call (ap (λ cs. slice_get cs h.at) (sym (own_calls v r.0 r.1)) ∙ h.is) in
               let good = each_at _ (made v r.0) h.at t.0 (made_good p cast sound is_cast a.few v r.0 r.1) t.1 in
-              let has = each_at (λ x. HasWords a.d st.0.job (said_by p cast v x)) (made v r.0) h.at t.0 (words_there p cast sound is_cast s a coding nodes v r.0 st.0 st.1) t.1 in
-              key_of_call p cast sound is_cast s a coding nodes v t.0.0 low good.each r.0 st.0.job n t.0.1 good.sound has (ap key_in t.2 ∙ h.has)
+              let has = each_at (λ x. HasWords a.d st.0.job (said_by p cast v x)) (made v r.0) h.at t.0 (words_there p cast sound is_cast a coding nodes v r.0 st.0 st.1) t.1 in
+              key_of_call p cast sound is_cast a coding nodes v t.0.0 low good.each r.0 st.0.job n t.0.1.call good.sound has (ap key_in t.2 ∙ h.has)
           | inr past ↦ absurd (let own_long = own_length in none_in key_in n (subst (λ cs. HasOne key_in cs n) (none_past own v (omega (arith, past, own_long))) h))
         ]
 
@@ -157,19 +155,19 @@ module _ (p : Pattern) (cast : Cast) (sound : IsSound p) (is_cast : IsCast p cas
         from v h = elim (cases_lt v (length roles)) [
           | inl low ↦
               let r = role_at p cast sound is_cast v (few v low) in
-              let st = started p cast sound is_cast s a v r.0 r.1 in
+              let st = started p cast sound is_cast a v r.0 r.1 in
               let t = slice_get-map_back (call_by p.roles coding on v) (made v r.0) h.at h.call (ap (λ cs. slice_get cs h.at) (sym (own_calls v r.0 r.1)) ∙ h.is) in
               let good = each_at _ (made v r.0) h.at t.0 (made_good p cast sound is_cast a.few v r.0 r.1) t.1 in
-              let has = each_at (λ x. HasWords a.d st.0.job (said_by p cast v x)) (made v r.0) h.at t.0 (words_there p cast sound is_cast s a coding nodes v r.0 st.0 st.1) t.1 in
-              name_of_call p cast sound is_cast s a coding nodes v t.0.0 low good.each r.0 st.0.job n t.0.1 good.sound has (ap name_in t.2 ∙ h.has)
+              let has = each_at (λ x. HasWords a.d st.0.job (said_by p cast v x)) (made v r.0) h.at t.0 (words_there p cast sound is_cast a coding nodes v r.0 st.0 st.1) t.1 in
+              name_of_call p cast sound is_cast a coding nodes v t.0.0 low good.each r.0 st.0.job n t.0.1.call good.sound has (ap name_in t.2 ∙ h.has)
           | inr past ↦ absurd (let own_long = own_length in none_in name_in n (subst (λ cs. HasOne name_in cs n) (none_past own v (omega (arith, past, own_long))) h))
         ]
 
     as_renumbered : IsRenumbered own (moved_plan key name own) key name
     as_renumbered = record {
       calls = moved_kinds key name own;
-      one_key = λ m n u w e. used_once p cast sound is_cast s a coding (seen_in a.d).keys m n (key_is_used m u) (key_is_used n w) e;
-      one_name = λ m n u w e. used_once p cast sound is_cast s a coding (seen_in a.d).names m n (name_is_used m u) (name_is_used n w) e;
+      one_key = λ m n u w e. used_once p cast sound is_cast a coding (seen_in a.d).keys m n (key_is_used m u) (key_is_used n w) e;
+      one_name = λ m n u w e. used_once p cast sound is_cast a coding (seen_in a.d).names m n (name_is_used m u) (name_is_used n w) e;
       nodes = moved_nodes key name own;
       keeps = refl;
     }
@@ -177,7 +175,7 @@ module _ (p : Pattern) (cast : Cast) (sound : IsSound p) (is_cast : IsCast p cas
     as_instance : IsInstance p cast read coding nodes
     as_instance = record { other = moved_plan key name own; key = key; name = name; placing = as_placing; renumbered = as_renumbered }
 
-  read_node : (v role : ℕ) (st : Started) → IsStarted p cast sound is_cast s a v role st → node_of (plan_of read) v ≡ st.node
+  read_node : (v role : ℕ) (st : Started) → IsStarted p cast sound is_cast a v role st → node_of (plan_of read) v ≡ st.node
   unfolding node_of
   read_node v role st i = ap process_node (slice_get-map_kept (planned_process read) read.processes v (process_of a.d (seen_in a.d) st) (process_is v role st i))
 
@@ -186,11 +184,11 @@ module _ (p : Pattern) (cast : Cast) (sound : IsSound p) (is_cast : IsCast p cas
     count = planned_length;
     nodes = λ v low.
         let r = role_at p cast sound is_cast v low in
-        let st = started p cast sound is_cast s a v r.0 r.1 in
-        read_node v r.0 st.0 st.1 ∙ node_is p cast sound is_cast s a v r.0 st.0 st.1 low;
-    keeps = keeps_are p cast sound is_cast s a;
+        let st = started p cast sound is_cast a v r.0 r.1 in
+        read_node v r.0 st.0 st.1 ∙ node_is p cast sound is_cast a v r.0 st.0 st.1 low;
+    keeps = keeps_are p cast sound is_cast a;
     calls = λ v role at.
-        let st = started p cast sound is_cast s a v role at in
+        let st = started p cast sound is_cast a v role at in
         ap length (calls_in_are v role st.0 st.1) ∙ length-map (steps_said p cast v 0 (steps_in (slice_get p.roles role))) (numbered a.d (seen_in a.d) st.0.job);
     instances = as_instance;
   }
@@ -198,4 +196,4 @@ module _ (p : Pattern) (cast : Cast) (sound : IsSound p) (is_cast : IsCast p cas
 pub instances_read : InstancesRead
 instances_read p cast size s sound is_cast reads =
     let a = declared_as p cast sound is_cast size s reads in
-    subst (IsOfCast p cast) (sym a.is) (of_cast p cast sound is_cast s a)
+    subst (IsOfCast p cast) (sym a.1) (of_cast p cast sound is_cast a.0)

@@ -1,8 +1,7 @@
 -- The roles of the processes of a cast: how many there are, in which order, and who stands for a name of a line.
-use Rattle.std.proofs.Common.{◌≡◌, ◌∙◌, ap, sym, subst, refl, ℕ, zero, suc, ◌+◌, ◌<◌, ◌≤◌, List, [], ◌∷◌, ◌++◌, map, replicate, take, length, get_or, Bool, true, false, Option, Some, None, slice_get, slice_index_or, count_by, sum_by, arith, length-append, true≢false, inl, inr}
+use Rattle.std.proofs.Common.{◌≡◌, ◌∙◌, ap, sym, subst, refl, ℕ, zero, suc, ◌+◌, ◌<◌, ◌≤◌, List, [], ◌∷◌, ◌++◌, map, replicate, take, length, get_or, Bool, true, false, Some, slice_get, slice_index_or, count_by, sum_by, arith, length-append, true≢false, inl, inr}
 use Rattle.std.specs.Prelude.{◌==◌, not, nat_lt, filter, if◌then◌else◌, ⊤}
 use Rattle.std.proofs.lemmas.Bool.{cases_Bool, cond-true, cond-false, or_left, or_right}
-use Rattle.std.proofs.lemmas.List.{length-map}
 use Rattle.std.proofs.lemmas.List.Sums.{sum_by-cons}
 use Rattle.std.proofs.lemmas.Option.{none-some, same_Some}
 use borrow.Author.Tests.{eq-eqb, eqb-true}

@@ -1,11 +1,10 @@
 -- The set of a fence has the members that the pattern's line names.
-use Rattle.std.proofs.Common.{◌≡◌, ◌∙◌, ap, sym, subst, refl, ℕ, zero, suc, ◌+◌, ◌<◌, ◌≤◌, List, [], ◌∷◌, ◌++◌, map, length, Bool, true, false, Option, Some, None, slice_get, flat_map, inl, inr, if◌then◌else◌, arith, true≢false, zero-add, append_assoc, append-nil}
+use Rattle.std.proofs.Common.{◌≡◌, ◌∙◌, ap, sym, subst, refl, ℕ, zero, suc, ◌+◌, ◌<◌, List, [], ◌∷◌, ◌++◌, map, length, Bool, true, false, Option, Some, None, slice_get, flat_map, inl, inr, if◌then◌else◌, arith, true≢false, zero-add, append_assoc, append-nil}
 use Rattle.std.specs.Prelude.{◌==◌, ◌||◌, nat_lt}
 use Rattle.std.specs.List.{list_any, list_all}
 use Rattle.std.proofs.Math.Bool.{or-false}
-use Rattle.std.proofs.lemmas.Bool.{cases_eq, cases_lt, false_from_ne_true, or_left, or_cases}
+use Rattle.std.proofs.lemmas.Bool.{cases_eq, cases_lt, false_from_ne_true, or_cases}
 use Rattle.std.proofs.lemmas.List.Folds.{list_any-append}
-use Rattle.std.proofs.lemmas.Option.{none-some, same_Some}
 use borrow.Author.Tests.{ltb-true, eqb-true, eq-eqb, ne_eqb}
 use Rattle.wire_types.specs.Said as said
 use Rattle.wire_runs.specs.Plan.{set_of}
@@ -14,13 +13,12 @@ use Rattle.wire_runs.specs.Patterns as plan
 use Rattle.wire_runs.specs.Patterns.{Who, group, who, item_members, members_in}
 use Rattle.wire_runs.specs.Restrictions.{on_nodes}
 use Rattle.wire_runs.proofs.WholeSets.{plays, group_member, member_set, same_set, rises_set}
-use Rattle.wire_content.specs.Scripts.{Scripts}
-use Rattle.wire_script.specs.FirstPass.{Started, number_or_count}
-use Rattle.wire_script.specs.Reads.{is_proc, names_it, is_in, places_from, set_members}
+use Rattle.wire_script.specs.FirstPass.{Started}
+use Rattle.wire_script.specs.Reads.{names_it, is_in, places_from, set_members}
 use Rattle.wire_script.proofs.Places.{places_canonical, places_within}
 use Rattle.wire_pattern.specs.Pattern.{Item, One, Group, Job, Role, Pattern}
 use Rattle.wire_pattern.specs.Planned.{roles_of, items_of}
-use Rattle.wire_pattern.specs.Instances.{Cast, IsCast, process_count, cast_of, job_in, job_at, rank_at, job_name, process_item, items_said}
+use Rattle.wire_pattern.specs.Instances.{Cast, IsCast, process_count, cast_of, job_in, job_name, process_item, items_said}
 use Rattle.wire_pattern.specs.Lawful.{is_known_item, IsSound}
 use Rattle.wire_lines.proofs.Colon.{and_left, and_right}
 use Rattle.wire_instance_laws.proofs.Roles.{EachOf, each_both, count_is, stands, there, who_low, group_low}
@@ -96,7 +94,7 @@ role_of_job job n (role ∷ rs) (suc k) =
     let other : ((n + suc k) == n) ≡ false = ne_eqb (n + suc k) n (λ e. omega (arith, e)) in
     let next : suc n + k ≡ n + suc k = omega arith in
     let rest : list_any (λ r. (n + suc k) == r) (roles_of job (suc n) rs) ≡ of_job job (slice_get rs k) =
-        ap (λ m. list_any (λ r. m == r) (roles_of job (suc n) rs)) (sym next) ∙ role_of_job job (suc n) rs k in
+    ap (λ m. list_any (λ r. m == r) (roles_of job (suc n) rs)) (sym next) ∙ role_of_job job (suc n) rs k in
     elim (role.job == job) as (λ t. list_any (λ r. (n + suc k) == r) (if t then n ∷ roles_of job (suc n) rs else roles_of job (suc n) rs) ≡ of_job job (slice_get rs k)) [
       | true ↦ rw other rest
       | false ↦ rest
@@ -113,7 +111,7 @@ every_member c v e (r ∷ rs) q role at =
     list_any-append (λ x. x == q) (group r c.roles) (members_in c v e (map plan.Every rs))
     ∙ (λ i. (group_member r c.roles q ∙ ap (λ o. plays o r) at) i || every_member c v e rs q role at i)
 
-module _ (p : Pattern) (cast : Cast) (sound : IsSound p) (is_cast : IsCast p cast) (s : Scripts) (a : IsDeclaredAs p cast s) (nodes : ℕ → ℕ) (v e : ℕ) (low : v < length (cast_of cast).roles) (low_e : e < length (cast_of cast).roles) where
+module _ (p : Pattern) (cast : Cast) (sound : IsSound p) (is_cast : IsCast p cast) (a : IsDeclaredAs p cast) (nodes : ℕ → ℕ) (v e : ℕ) (low : v < length (cast_of cast).roles) (low_e : e < length (cast_of cast).roles) where
   abbrev on : plan.Cast
   on = on_nodes nodes (cast_of cast)
 
@@ -123,7 +121,7 @@ module _ (p : Pattern) (cast : Cast) (sound : IsSound p) (is_cast : IsCast p cas
   few : (q : ℕ) → q < length roles → q < process_count cast
   few q l = subst (λ n. q < n) (count_is cast) l
 
-  module _ (q role : ℕ) (st : Started) (i : IsStarted p cast sound is_cast s a q role st) (at : slice_get roles q ≡ Some role) where
+  module _ (q role : ℕ) (st : Started) (i : IsStarted p cast sound is_cast a q role st) (at : slice_get roles q ≡ Some role) where
     low_q : q < length roles
     low_q = there roles q role at
 
@@ -132,11 +130,11 @@ module _ (p : Pattern) (cast : Cast) (sound : IsSound p) (is_cast : IsCast p cas
     process_named x low_x = elim (cases_eq x q) [
       | inl same ↦
           subst (λ y. names_it a.d (process_item p cast y) st ≡ (y == q)) (sym same)
-          (proc_is p cast sound is_cast s a q role st i (few q low_q) ∙ sym (eq-eqb q q refl))
+          (proc_is p cast sound is_cast a q role st i (few q low_q) ∙ sym (eq-eqb q q refl))
       | inr other ↦
           let r = role_at p cast sound is_cast x (few x low_x) in
-          let sx = started p cast sound is_cast s a x r.0 r.1 in
-          false_from_ne_true _ (λ h. other (sym (is_it p cast sound is_cast s a x r.0 sx.0 sx.1 (few x low_x) q st i.at h))) ∙ sym (ne_eqb x q other)
+          let sx = started p cast sound is_cast a x r.0 r.1 in
+          false_from_ne_true _ (λ h. other (sym (is_it p cast sound is_cast a x r.0 sx.0 sx.1 (few x low_x) q st i.at h))) ∙ sym (ne_eqb x q other)
     ]
 
     group_named : (xs : List ℕ) → EachOf (λ x. x < length roles) xs → list_any (λ item. names_it a.d item st) (map (process_item p cast) xs) ≡ is_member xs q
@@ -145,7 +143,7 @@ module _ (p : Pattern) (cast : Cast) (sound : IsSound p) (is_cast : IsCast p cas
 
     job_named : (job : ℕ) → job < length p.jobs → names_it a.d (said.Every (job_name p job)) st ≡ of_job job (slice_get p.roles role)
     job_named job low_job =
-        ap (λ n. st.job == n) (job_number p cast sound is_cast s a job low_job)
+        ap (λ n. st.job == n) (job_number p cast sound is_cast a job low_job)
         ∙ ap (λ n. n == job) (i.job ∙ job_is p cast q role at)
         ∙ subst (λ o. (job_in o == job) ≡ of_job job o) (sym (stands p.roles role (role_low p cast sound is_cast q role at)).1) refl
 
@@ -183,10 +181,10 @@ module _ (p : Pattern) (cast : Cast) (sound : IsSound p) (is_cast : IsCast p cas
       let same : (q : ℕ) → is_member set q ≡ is_member members q = λ q. elim (cases_lt q (length roles)) [
         | inl here ↦
             let r = role_at p cast sound is_cast q (few q here) in
-            let st = started p cast sound is_cast s a q r.0 r.1 in
+            let st = started p cast sound is_cast a q r.0 r.1 in
             place_at test a.d.processes q st.0 st.1.at ∙ items_named q r.0 st.0 st.1 r.1 items h
         | inr past ↦
-            let many = as_many p cast sound is_cast s a in
+            let many = as_many p cast sound is_cast a in
             let count = count_is cast in
             false_from_ne_true _ (λ m. let l = member_low (length a.d.processes) set q (each_low (length a.d.processes) set (places_within test 0 (length a.d.processes) a.d.processes (omega arith))) m in omega (arith, l, past, many, count))
             ∙ sym (false_from_ne_true _ (λ m. let l = member_low (length roles) members q (item_low (flat_map (items_of p.roles) items)) m in omega (arith, l, past)))

@@ -1,9 +1,8 @@
 -- Words with processes in brackets: which are reserved, and that no two have one text.
-use Rattle.std.proofs.Common.{◌≡◌, ◌∙◌, ap, sym, subst, refl, ℕ, zero, suc, ◌+◌, ◌<◌, List, [], ◌∷◌, ◌++◌, map, take, length, codes, Bool, true, false, arith, true≢false, append_assoc}
+use Rattle.std.proofs.Common.{◌≡◌, ap, sym, subst, refl, ℕ, List, [], ◌∷◌, ◌++◌, map, take, length, codes, Bool, true, false, arith, true≢false}
 use Rattle.std.specs.Prelude.{◌==◌, ◌&&◌, ◌||◌, not}
 use Rattle.std.specs.List.{list_all, join_with_byte}
 use Rattle.std.specs.Str.{bytes_eq}
-use borrow.Author.Tests.{eqb-true}
 use Rattle.wire_types.specs.Said as said
 use Rattle.wire_types.specs.Said.{begins_with, is_reserved, is_word, is_key, spelled_item, spelled_set, AreLawful, Calls, first_word, other_words, IsLawful}
 use Rattle.wire_lines.proofs.Colon.{and_left, and_right}
