@@ -1,6 +1,6 @@
 -- Rising numbers.
 use Rattle.std.proofs.Common.{◌≡◌, ◌∙◌, ap, sym, arith, add-one, append_assoc, ℕ, zero, suc, ◌+◌, ◌-◌, ◌≤◌, ◌<◌, List, [], ◌∷◌, ◌++◌}
-use Rattle.wire_sweep.specs.Sizes.{numbers_from, followed}
+use Rattle.wire_sweep_laws.specs.Sizes.{numbers_from, followed}
 
 -- from n to most
 pub numbers_next : (n most : ℕ) → n ≤ most → numbers_from n (suc most - n) ≡ n ∷ numbers_from (suc n) (suc most - suc n)

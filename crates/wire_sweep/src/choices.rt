@@ -4,7 +4,7 @@ ghost use Rattle.std.specs.Prelude.{◌≡◌, ◌++◌, ◌<◌, ◌≤◌, ◌
 ghost use Rattle.wire_pattern.specs.Instances.{roles_from};
 ghost use Rattle.wire_pattern.specs.Shown.{call_by, line_by, step_by};
 ghost use Rattle.wire_instances.specs.Shown.{turn_by};
-ghost use Rattle.wire_sweep.specs.Choices as spec;
+ghost use Rattle.wire_sweep_laws.specs.Choices as spec;
 
 use std::alloc::{AllocError, Global};
 use wire_instances::Turn;

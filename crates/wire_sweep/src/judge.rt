@@ -10,7 +10,8 @@ ghost use Rattle.wire_script.specs.declared.Size.TheVariants.{OfVersion};
 ghost use Rattle.wire_script.specs.Reads.{Reads};
 ghost use Rattle.wire_pattern.specs.Instances.{IsCast, instance_text};
 ghost use Rattle.wire_instances.specs.Shown.{cast_by};
-ghost use Rattle.wire_sweep.specs.Judged.{IsChoiceSettled, IsInstanceFault};
+ghost use Rattle.wire_sweep.specs.Judged.{IsInstanceFault};
+ghost use Rattle.wire_sweep_laws.specs.Promised.{IsChoiceSettled};
 
 use std::alloc::Global;
 use std::thread::Threads;

@@ -3,7 +3,7 @@
 ghost use Rattle.std.specs.Prelude.{◌≡◌, ◌++◌, [], ◌∷◌, OnOk, IfOk, map};
 ghost use Rattle.wire_types.specs.Texts.{lists_of};
 ghost use Rattle.wire_pattern.specs.Shown.{role_by};
-ghost use Rattle.wire_sweep.specs.Sizes as spec;
+ghost use Rattle.wire_sweep_laws.specs.Sizes as spec;
 
 use std::alloc::{AllocError, Global};
 use wire_pattern::Role;

@@ -4,10 +4,10 @@ ghost use Rattle.std.specs.Prelude.{◌≡◌, ◌≤◌, ◌++◌, ◌∷◌, [
 ghost use Rattle.wire_types.specs.Texts.{lists_of};
 ghost use Rattle.wire_pattern.specs.Instances.{IsCast};
 ghost use Rattle.wire_instances.specs.Shown.{cast_by, turn_by};
-ghost use Rattle.wire_sweep.specs.Sizes as spec;
-ghost use Rattle.wire_sweep.specs.Sizes.{AreSizes};
-ghost use Rattle.wire_sweep.specs.Choices.{chosen_by, optional_turns as turns_of};
-ghost use Rattle.wire_sweep.specs.Judged.{AreSizesSettled, IsChoiceSettled, AreFewSettled, IsSettledForAll};
+ghost use Rattle.wire_sweep_laws.specs.Sizes as spec;
+ghost use Rattle.wire_sweep_laws.specs.Sizes.{AreSizes};
+ghost use Rattle.wire_sweep_laws.specs.Choices.{chosen_by, optional_turns as turns_of};
+ghost use Rattle.wire_sweep_laws.specs.Promised.{AreSizesSettled, IsChoiceSettled, AreFewSettled, IsSettledForAll};
 
 use crate::choices::optional_turns;
 use crate::counterexample::{Counterexample, find_counterexample};

@@ -1,7 +1,7 @@
 use Rattle.std.proofs.Common.{rules, ◌≡◌, ◌++◌, [], ◌∷◌, map, ℕ, ◌+◌, ◌-◌, ◌≤◌, List, arith, ap, ◌∙◌}
 use Rattle.std.proofs.lemmas.Grind.{common_steps}
 use Rattle.wire_types.specs.Texts.{lists_of}
-use Rattle.wire_sweep.specs.Sizes as spec
+use Rattle.wire_sweep_laws.specs.Sizes as spec
 use Rattle.wire_sweep.proofs.Numbers.{one_followed}
 use Rattle.wire_sweep.proofs.sizes.add_followed.Goals as goal
 

@@ -1,7 +1,7 @@
 use Rattle.std.proofs.Common.{◌+◌, ◌-◌, ◌≡◌, ◌++◌, ◌<◌, ◌^◌, suc}
 use Rattle.wire_types.specs.Texts.{lists_of}
 use Rattle.wire_pattern.specs.Shown.{role_by}
-use Rattle.wire_sweep.specs.Sizes as spec
+use Rattle.wire_sweep_laws.specs.Sizes as spec
 use Rattle.wire_sweep.proofs.sizes.add_followed.Given as goal
 
 abbrev pub invariant-sizes : goal.invariant-sizes

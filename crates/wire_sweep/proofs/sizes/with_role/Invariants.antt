@@ -1,7 +1,7 @@
 use Rattle.std.proofs.Common.{◌≡◌, ◌++◌, drop}
 use Rattle.wire_types.specs.Texts.{lists_of}
 use Rattle.wire_pattern.specs.Shown.{role_by}
-use Rattle.wire_sweep.specs.Sizes as spec
+use Rattle.wire_sweep_laws.specs.Sizes as spec
 use Rattle.wire_sweep.proofs.sizes.with_role.Given as goal
 
 abbrev pub invariant-loop-sizes : goal.invariant-loop-sizes
