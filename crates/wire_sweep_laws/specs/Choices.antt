@@ -1,5 +1,5 @@
 -- The turns of loops of `for some` that may be taken or not, and what is taken of them.
-use Rattle.std.specs.Prelude.{ℕ, suc, ◌+◌, ◌==◌, ◌&&◌, Bool, true, false, not, List, [], ◌∷◌, ◌++◌, slice_get, if◌then◌else◌}
+use Rattle.std.specs.Prelude.{ℕ, ◌+◌, ◌==◌, ◌&&◌, Bool, false, not, List, [], ◌∷◌, ◌++◌, slice_get, if◌then◌else◌}
 use Rattle.std.specs.List.{list_all}
 use Rattle.wire_types.specs.Said.{is_reserved}
 use Rattle.wire_runs.specs.Patterns.{InOrder, Round, Chosen, Cast}

@@ -1,5 +1,5 @@
 -- What is judged of a pattern, and what that promises.
-use Rattle.std.specs.Prelude.{◌≡◌, ◌≤◌, ℕ, Bool, true, List, length, Some, slice_get}
+use Rattle.std.specs.Prelude.{◌≡◌, ℕ, Bool, List, length}
 use Rattle.wire_runs.specs.Patterns as plan
 use Rattle.wire_runs.specs.Patterns.{Coding, instance_of, IsCastOf, IsLawful}
 use Rattle.wire_runs.specs.Races.{IsSettled}

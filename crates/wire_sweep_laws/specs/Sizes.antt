@@ -1,6 +1,6 @@
 -- How many processes of each role are judged: of a single role one, of a group from its least number to three, or its
 -- least number where that is more.
-use Rattle.std.specs.Prelude.{ℕ, zero, suc, ◌+◌, ◌-◌, ◌≤◌, Bool, nat_lt, List, [], ◌∷◌, ◌++◌, map, flat_map, sum_by, if◌then◌else◌}
+use Rattle.std.specs.Prelude.{ℕ, zero, suc, ◌-◌, ◌≤◌, nat_lt, List, [], ◌∷◌, ◌++◌, map, flat_map, sum_by, if◌then◌else◌}
 use Rattle.wire_pattern.specs.Pattern.{Role}
 
 -- the most processes of a role that are judged
