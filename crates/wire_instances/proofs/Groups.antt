@@ -4,7 +4,7 @@ use Rattle.std.specs.Prelude.{slice_index_or, sum_by}
 use Rattle.std.specs.List.{range_with_len}
 use Rattle.std.proofs.lemmas.Grind.{common_steps}
 use Rattle.std.proofs.lemmas.Bool.{eq-eqb, ne_eqb}
-use Rattle.std.proofs.lemmas.List.Sums.{sum_by-cons}
+use Rattle.std.proofs.lemmas.List.Sums.{sum_by-cons, sum_by_more, sum_by-take-le}
 use Rattle.wire_runs.specs.Patterns.{group}
 use Rattle.wire_pattern.specs.Instances.{roles_from}
 use Rattle.wire_instances.specs.Tables.{first_of}
@@ -45,3 +45,27 @@ pub length_roles : (n : ℕ) (sizes : List ℕ) → length (roles_from n sizes) 
 length_roles n [] = refl
 length_roles n (size ∷ sizes) =
     grind (arith, common_steps, length_roles (suc n) sizes)
+
+-- the range, by where it begins and ends
+pub group_between : (role : ℕ) (sizes : List ℕ) (first end : ℕ) → role < length sizes → first ≡ first_of sizes role → end ≡ first_of sizes (role + 1)
+    → range_with_len first (end - first) ≡ group role (roles_from 0 sizes)
+group_between role sizes first end h f e =
+    let n : end - first ≡ slice_index_or sizes role 0 = omega (arith, f, e, sum_by_more (λ (size : ℕ). size) sizes role 0 h) in
+    ap (range_with_len first) n ∙ ap (λ a. range_with_len a (slice_index_or sizes role 0)) f ∙ sym (group_range role sizes)
+
+pub size_of : (role : ℕ) (sizes : List ℕ) (first end : ℕ) → role < length sizes → first ≡ first_of sizes role → end ≡ first_of sizes (role + 1) → end ≡ first + slice_index_or sizes role 0
+size_of role sizes first end h f e = omega (arith, f, e, sum_by_more (λ (size : ℕ). size) sizes role 0 h)
+
+past : (sizes : List ℕ) (role : ℕ) → (role < length sizes → ⊥) → slice_index_or sizes role 0 ≡ 0
+past [] role h = refl
+past (size ∷ sizes) zero h = absurd (h (omega arith))
+past (size ∷ sizes) (suc role) h = past sizes role (λ l. h (omega (arith, l)))
+
+pub group_past : (role : ℕ) (sizes : List ℕ) → (role < length sizes → ⊥) → [] ≡ group role (roles_from 0 sizes)
+group_past role sizes h = sym (group_range role sizes ∙ ap (range_with_len (first_of sizes role)) (past sizes role h))
+
+pub size_past : (role : ℕ) (sizes : List ℕ) → (role < length sizes → ⊥) → 0 ≡ slice_index_or sizes role 0
+size_past role sizes h = sym (past sizes role h)
+
+pub first_within : (sizes : List ℕ) (role end : ℕ) → end ≡ first_of sizes role → end ≤ sum_by (λ (size : ℕ). size) sizes
+first_within sizes role end e = omega (arith, e, sum_by-take-le (λ (size : ℕ). size) sizes role)

@@ -1,9 +1,9 @@
 -- Ranges of numbers, and tests over them.
-use Rattle.std.proofs.Common.{◌≡◌, ◌∙◌, ap, sym, refl, ℕ, zero, suc, ◌+◌, ◌-◌, ◌<◌, ◌≤◌, ◌==◌, List, [], ◌∷◌, ◌++◌, Bool, true, false, not, cond, map, filter, length, arith, add-one, add-zero, zero-add}
+use Rattle.std.proofs.Common.{◌≡◌, ◌∙◌, ap, sym, refl, ℕ, zero, suc, ◌+◌, ◌-◌, ◌<◌, ◌≤◌, ◌==◌, ◌⊎◌, inl, inr, append-nil, List, [], ◌∷◌, ◌++◌, Bool, true, false, not, cond, map, filter, length, arith, add-one, add-zero, zero-add}
 use Rattle.std.specs.Prelude.{nat_lt, ◌||◌}
 use Rattle.std.specs.List.{range_with_len, list_any, list_all}
 use Rattle.std.proofs.lemmas.List.Elements.{filter-append}
-use Rattle.std.proofs.lemmas.Bool.{eq-eqb, ne_eqb}
+use Rattle.std.proofs.lemmas.Bool.{eq-eqb, ne_eqb, cases_eq}
 use Rattle.wire_runs.specs.Fences.{is_member}
 use Rattle.std.proofs.lemmas.Bool.Decides.{nat_tests}
 
@@ -33,7 +33,7 @@ filter_all p a zero h = refl
 filter_all p a (suc n) h =
     rw (h a (omega arith) (omega arith)) (ap (λ xs. a ∷ xs) (filter_all p (a + 1) n (λ x l u. h x (omega (arith, l)) (omega (arith, u)))))
 
-is_lt : (a b : ℕ) → a < b → nat_lt a b ≡ true
+pub is_lt : (a b : ℕ) → a < b → nat_lt a b ≡ true
 is_lt a b h = grind (arith, nat_tests)
 
 not_lt : (a b : ℕ) → b ≤ a → nat_lt a b ≡ false
@@ -68,20 +68,22 @@ around f e v l u =
     let n : e - f ≡ (v - f) + suc (e - (v + 1)) = omega (arith, l, u) in
     let m : f + (v - f) ≡ v = omega (arith, l) in
     let up : filter (nat_lt v) (range_with_len f ((v - f) + suc (e - (v + 1)))) ≡ range_with_len (v + 1) (e - (v + 1)) =
-        ap (λ w. filter (nat_lt w) (range_with_len f ((v - f) + suc (e - (v + 1))))) (sym m) ∙ above f (v - f) (e - (v + 1)) ∙ ap (λ w. range_with_len (w + 1) (e - (v + 1))) m in
+    ap (λ w. filter (nat_lt w) (range_with_len f ((v - f) + suc (e - (v + 1))))) (sym m) ∙ above f (v - f) (e - (v + 1)) ∙ ap (λ w. range_with_len (w + 1) (e - (v + 1))) m in
     let down : filter (λ x. nat_lt x v) (range_with_len f ((v - f) + suc (e - (v + 1)))) ≡ range_with_len f (v - f) ++ [] =
-        ap (λ w. filter (λ x. nat_lt x w) (range_with_len f ((v - f) + suc (e - (v + 1))))) (sym m) ∙ below f (v - f) (e - (v + 1)) in
+    ap (λ w. filter (λ x. nat_lt x w) (range_with_len f ((v - f) + suc (e - (v + 1))))) (sym m) ∙ below f (v - f) (e - (v + 1)) in
     let same_up = filter_all (λ x. not (x == v)) (v + 1) (e - (v + 1)) (λ x a b. differs x v (λ q. omega (arith, q, a))) in
     let same_down = filter_all (λ x. not (x == v)) f (v - f) (λ x a b. differs x v (λ q. omega (arith, q, a, b, l))) in
-    rw (n, up, down, same_up, same_down) (grind (arith))
+    ap (λ k. filter (nat_lt v) (range_with_len f k) ++ filter (λ x. nat_lt x v) (range_with_len f k)) n
+    ∙ ap (λ t. t ++ filter (λ x. nat_lt x v) (range_with_len f ((v - f) + suc (e - (v + 1))))) up
+    ∙ ap (λ t. range_with_len (v + 1) (e - (v + 1)) ++ t) (down ∙ append-nil (range_with_len f (v - f)))
+    ∙ sym (ap (λ t. t ++ filter (λ x. not (x == v)) (range_with_len f (v - f))) same_up ∙ ap (λ t. range_with_len (v + 1) (e - (v + 1)) ++ t) same_down)
 
 pub member_inside : (a n v : ℕ) → a ≤ v → v < a + n → is_member (range_with_len a n) v ≡ true
 member_inside a zero v l u = absurd (omega (arith, l, u))
-member_inside a (suc n) v l u = go (cases_eq a v)
-  where
-    go : (a ≡ v) ⊎ (a ≡ v → ⊥) → is_member (range_with_len a (suc n)) v ≡ true
-    go (inl e) = rw (eq-eqb a v e) refl
-    go (inr ne) = rw (ne_eqb a v ne) (member_inside (a + 1) n v (omega (arith, l, ne)) (omega (arith, u)))
+member_inside a (suc n) v l u = elim (cases_eq a v) [
+  | inl e ↦ rw (eq-eqb a v e) refl
+  | inr ne ↦ rw (ne_eqb a v ne) (member_inside (a + 1) n v (omega (arith, l, ne)) (omega (arith, u)))
+]
 
 pub member_outside : (a n v : ℕ) → ((a ≤ v) → v < a + n → ⊥) → is_member (range_with_len a n) v ≡ false
 member_outside a zero v h = refl

@@ -1,7 +1,7 @@
 -- What the tables of an instance hold: for private contracts alone.
-use Rattle.std.specs.Prelude.{◌≡◌, ◌≤◌, ◌<◌, ◌==◌, ◌&&◌, ℕ, suc, Bool, true, not, List, length, take, sum_by, map, count_by}
+use Rattle.std.specs.Prelude.{◌≡◌, ◌≤◌, ◌<◌, ◌==◌, ◌&&◌, ℕ, suc, Bool, true, false, not, nat_le, nat_lt, List, length, take, sum_by, map, count_by}
 use Rattle.std.specs.Prelude.{slice_get, slice_index_or, Some}
-use Rattle.wire_runs.specs.Patterns.{Cast, Turns, Chosen}
+use Rattle.wire_runs.specs.Patterns.{Cast, Turns, InOrder, Round, Chosen}
 use Rattle.wire_pattern.specs.Pattern.{Pattern, Role}
 use Rattle.wire_pattern.specs.Lawful.{IsSound}
 use Rattle.wire_pattern.specs.Planned.{single_in}
@@ -39,6 +39,11 @@ pub record AreTables (p : Pattern) (cast : spec.Cast) (firsts roles ranks : List
   pub are_roles : roles ≡ roles_from 0 cast.sizes
   pub rank_count : length ranks ≡ process_count cast
   pub are_ranks : (v : ℕ) → v < process_count cast → slice_index_or ranks v 0 ≡ rank_at p cast v
+
+-- whether a loop goes round the processes from first up to end, and is the caller v's, one of these
+abbrev pub goes_round : Turns → ℕ → ℕ → ℕ → Bool
+goes_round Round first end v = nat_le first v && nat_lt v end
+goes_round _ first end v = false
 
 -- whether a loop that isn't `cyclic` takes a turn for e
 abbrev pub takes : Cast → ℕ → ℕ → Turns → ℕ → Bool

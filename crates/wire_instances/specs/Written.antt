@@ -1,7 +1,7 @@
 -- Parts of the text of an instance: for private contracts alone.
 use Rattle.std.specs.Prelude.{ℕ, zero, suc, ◌+◌, List, [], ◌∷◌, ◌++◌, map, flat_map, codes, slice_get}
 use Rattle.wire_types.specs.Said as said
-use Rattle.wire_types.specs.Said.{spelled_item, spelled_scope, spelled_set, spelled_proc, collect_words}
+use Rattle.wire_types.specs.Said.{spelled_scope, spelled_set, spelled_proc, collect_words}
 use Rattle.wire_content.specs.Canonical.{line_text}
 use Rattle.wire_pattern.specs.Pattern.{Pattern, Call, Put, Commit, Fence, Get, GetNow, Publish}
 use Rattle.wire_pattern.specs.Pattern.{Lookup, LookupWait, Unpublish, UnpublishAll}
@@ -16,10 +16,6 @@ ended_text between last (word ∷ words) = between ∷ (word ++ ended_text betwe
 -- what comes behind the first word of a line
 abbrev pub rest_text : List (List ℕ) → List ℕ
 rest_text words = ended_text 32 10 words
-
--- items, with a comma after each
-abbrev pub items_text : List said.Item → List ℕ
-items_text items = flat_map (λ i. spelled_item i ++ 44 ∷ []) items
 
 -- the lines of calls
 abbrev pub calls_text : List said.Call → List ℕ

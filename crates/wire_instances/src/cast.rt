@@ -1,6 +1,6 @@
 //! Casts: how many processes each role of a pattern has, which turns its loops take, and the nodes.
 
-ghost use Rattle.std.specs.Prelude.{◌≡◌, ◌≤◌, ◌<◌, ◌^◌, ◌↔◌, IsTrue, MatchOption, sum_by, ℕ, map, length};
+ghost use Rattle.std.specs.Prelude.{◌≡◌, ◌≤◌, ◌<◌, ◌^◌, ◌↔◌, IsTrue, MatchOption, sum_by, ℕ, map, true};
 ghost use Rattle.wire_pattern.specs.Instances.{IsCast};
 ghost use Rattle.wire_pattern.specs.Shown.{role_by};
 ghost use Rattle.wire_instances.specs.Shown.{cast_by};
@@ -56,6 +56,13 @@ pub fn process_total(sizes: &[u32]) -> Option<u32>
     Some(total)
 }
 
+/// Whether a role may have this size: a single one only 1.
+fn fits(role: &Role, size: u32) -> bool
+    ensures { IsTrue result ↔ (role.now.single ≡ true → size ≡ 1) }
+{
+    !role.single || size == 1
+}
+
 /// Whether there is a size for each role, 1 for a single role.
 fn are_sizes(roles: &[Role], sizes: &[u32]) -> bool
     ensures { IsTrue result ↔ AreSizes (map role_by roles.now) sizes.now }
@@ -64,7 +71,7 @@ fn are_sizes(roles: &[Role], sizes: &[u32]) -> bool
         return false;
     }
     for (number, role) in roles.iter().enumerate() {
-        if role.single && sizes[number] != 1 {
+        if !fits(role, sizes[number]) {
             return false;
         }
     }
@@ -91,10 +98,9 @@ fn are_nodes(processes: u32, nodes: &Nodes) -> bool
 pub fn is_cast(pattern: &Pattern, cast: &Cast) -> bool
     ensures { IsTrue result ↔ IsCast pattern.now (cast_by cast.now) }
 {
-    match process_total(cast.sizes.as_slice()) {
+    let sizes = cast.sizes.as_slice();
+    match process_total(sizes) {
         None => false,
-        Some(total) => {
-            are_sizes(pattern.roles(), cast.sizes.as_slice()) && are_nodes(total, &cast.nodes)
-        }
+        Some(total) => are_sizes(pattern.roles(), sizes) && are_nodes(total, &cast.nodes),
     }
 }

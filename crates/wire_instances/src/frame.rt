@@ -1,6 +1,6 @@
 //! A pattern with a cast, and what the text of the instance needs to know of its processes.
 
-ghost use Rattle.std.specs.Prelude.{◌≡◌, ◌≤◌, ◌<◌, ◌-◌, ◌++◌, ℕ, IfOk, OnOk, filter, map, nat_lt, true, slice_index_or};
+ghost use Rattle.std.specs.Prelude.{◌≡◌, ◌≤◌, ◌<◌, ◌-◌, ◌++◌, ℕ, IfOk, OnOk, filter, map, nat_lt, true, length, ◌+◌, slice_index_or};
 ghost use Rattle.std.specs.List.{range_with_len, list_all};
 ghost use Rattle.wire_runs.specs.Patterns as plan;
 ghost use Rattle.wire_runs.specs.Patterns.{group};
@@ -8,7 +8,7 @@ ghost use Rattle.wire_pattern.specs.Instances as spec;
 ghost use Rattle.wire_pattern.specs.Instances.{IsCast, process_count, cast_of, job_at, rank_at};
 ghost use Rattle.wire_pattern.specs.Shown.{who_by, turns_by};
 ghost use Rattle.wire_instances.specs.Shown.{turn_by, choice_by, cast_by};
-ghost use Rattle.wire_instances.specs.Tables.{takes};
+ghost use Rattle.wire_instances.specs.Tables.{takes, goes_round, first_of};
 
 use crate::cast::{Cast, Choice, Turn};
 use crate::tables::{firsts_of, job_of, ranks_of, roles_by};
@@ -76,6 +76,16 @@ fn is_taken(chosen: &[Choice], turn: Turn) -> bool
     true
 }
 
+/// Whether a loop goes round these processes: it is `cyclic`, and its caller is one of them.
+fn goes_round(round: Round, first: u32, end: u32) -> bool
+    ensures { result ≡ goes_round (turns_by round.turns) first end round.caller }
+{
+    match round.turns {
+        Turns::InOrder | Turns::Chosen => false,
+        Turns::Round => first <= round.caller && round.caller < end,
+    }
+}
+
 impl<'a> Frame<'a> {
     /// The tables for a cast of a pattern.
     pub(crate) fn new(
@@ -86,14 +96,10 @@ impl<'a> Frame<'a> {
         requires { IsCast pattern.now (cast_by cast.now) }
         ensures { IfOk result (λ frame. frame ≡ record { pattern = pattern.now; cast = cast_by cast.now }) }
     {
+        let declared = pattern.roles();
         let firsts = firsts_of(alloc, cast.sizes.as_slice())?;
         let roles = roles_by(alloc, cast.sizes.as_slice())?;
-        let ranks = ranks_of(
-            alloc,
-            pattern.roles(),
-            roles.as_slice(),
-            pattern.jobs().len(),
-        )?;
+        let ranks = ranks_of(alloc, declared, roles.as_slice(), pattern.jobs().len())?;
         Ok(Frame {
             pattern,
             cast,
@@ -110,9 +116,10 @@ impl<'a> Frame<'a> {
         self.pattern
     }
 
-    /// The cast.
+    /// The cast. It is one of the pattern.
     pub(crate) fn cast(&self) -> &'a Cast
-        ensures { cast_by result.now ≡ self.now.cast }
+        ensures value { cast_by result.now ≡ self.now.cast }
+        ensures of_pattern { IsCast self.now.pattern self.now.cast }
     {
         self.cast
     }
@@ -121,15 +128,15 @@ impl<'a> Frame<'a> {
     pub(crate) fn group(&self, role: u32) -> (u32, u32)
         ensures members { range_with_len result.0 (result.1 - result.0)
             ≡ group role (cast_of self.now.cast).roles }
-        ensures rising { result.0 ≤ result.1 }
+        ensures first { role < length self.now.cast.sizes → result.0 ≡ first_of self.now.cast.sizes role }
+        ensures size { result.1 ≡ result.0 + slice_index_or self.now.cast.sizes role 0 }
         ensures there { result.1 ≤ process_count self.now.cast }
     {
-        match (
-            self.firsts.get(role as usize),
-            self.firsts.get(role as usize + 1),
-        ) {
-            (Some(first), Some(end)) => (*first, *end),
-            _ => (0, 0),
+        let number = role as usize;
+        if number < self.cast.sizes.len() {
+            (self.firsts[number], self.firsts[number + 1])
+        } else {
+            (0, 0)
         }
     }
 
@@ -148,7 +155,7 @@ impl<'a> Frame<'a> {
         requires { process < process_count self.now.cast }
         ensures { result ≡ job_at self.now.pattern self.now.cast process }
     {
-        job_of(self.pattern.roles(), self.role(process))
+        job_of(self.pattern().roles(), self.role(process))
     }
 
     /// The rank of a process in its job.
@@ -223,12 +230,11 @@ impl<'a> Frame<'a> {
     {
         let mut turns = Vec::new(*self.firsts.allocator());
         let (first, end) = self.group(role);
-        match round.turns {
-            Turns::Round if first <= round.caller && round.caller < end => {
-                self.add_turns(&mut turns, round, round.caller + 1, end)?;
-                self.add_turns(&mut turns, round, first, round.caller)?;
-            }
-            _ => self.add_turns(&mut turns, round, first, end)?,
+        if goes_round(round, first, end) {
+            self.add_turns(&mut turns, round, round.caller + 1, end)?;
+            self.add_turns(&mut turns, round, first, round.caller)?;
+        } else {
+            self.add_turns(&mut turns, round, first, end)?;
         }
         Ok(turns)
     }

@@ -1,6 +1,6 @@
 //! Nodes for the processes of an instance.
 
-ghost use Rattle.std.specs.Prelude.{◌≡◌, ◌<◌, ◌^◌, IfOk};
+ghost use Rattle.std.specs.Prelude.{◌≡◌, ◌<◌, ◌^◌, ◌≤◌, ◌*◌, ◌/◌, ℕ, IfOk};
 ghost use Rattle.wire_instances.specs.Nodes as spec;
 ghost use Rattle.wire_instances.specs.Nodes.{AreNodes, AreAlone, ArePaired, ArePerNode, AreDealt};
 
@@ -54,6 +54,20 @@ pub fn paired(alloc: Global, processes: u32, a: u32, b: u32) -> Result<Nodes, Al
     })
 }
 
+/// How many nodes so many processes need, with so many on each.
+fn nodes_for(processes: u32, each: u32) -> u32
+    requires { 0 < each }
+    ensures most { result ≤ processes }
+    ensures below { (v : ℕ) → v < processes → v / each < result }
+    ensures used { (n : ℕ) → n < result → n * each < processes }
+{
+    if processes == 0 {
+        0
+    } else {
+        (processes - 1) / each + 1
+    }
+}
+
 /// So many processes on each node, in their order; the last node may have fewer.
 pub fn per_node(alloc: Global, processes: u32, each: u32) -> Result<Nodes, AllocError>
     requires few { processes < 2 ^ 31 }
@@ -66,11 +80,7 @@ pub fn per_node(alloc: Global, processes: u32, each: u32) -> Result<Nodes, Alloc
         of.push(process / each)?;
     }
     Ok(Nodes {
-        count: if processes == 0 {
-            0
-        } else {
-            (processes - 1) / each + 1
-        },
+        count: nodes_for(processes, each),
         of,
     })
 }
@@ -87,7 +97,7 @@ pub fn dealt(alloc: Global, processes: u32, nodes: u32) -> Result<Nodes, AllocEr
         of.push(process % nodes)?;
     }
     Ok(Nodes {
-        count: if processes < nodes { processes } else { nodes },
+        count: processes.min(nodes),
         of,
     })
 }

@@ -1,6 +1,6 @@
 //! The lines of the pattern's file from which the lines of an instance's text come.
 
-ghost use Rattle.std.specs.Prelude.{◌≡◌, ◌<◌, ◌++◌, ◌∷◌, [], ℕ, IfOk, OnOk, map, flat_map, Some, slice_get, slice_index_or};
+ghost use Rattle.std.specs.Prelude.{◌≡◌, ◌<◌, ◌++◌, ◌∷◌, [], ℕ, IfOk, OnOk, map, flat_map, Some, length, slice_get, slice_index_or};
 ghost use Rattle.wire_pattern.specs.Instances as spec;
 ghost use Rattle.wire_pattern.specs.Instances.{IsCast, process_count, cast_of};
 ghost use Rattle.wire_pattern.specs.Shown.{line_by, step_by, role_by};
@@ -141,7 +141,8 @@ fn add_steps(
 
 /// Appends the numbers of the lines of the processes of a role, the number of which is given.
 fn add_role(out: &mut Vec<u64>, frame: &Frame, number: u32, role: &Role) -> Result<(), AllocError>
-    requires { slice_get frame.now.pattern.roles number ≡ Some (role_by role.now) }
+    requires sized { number < length frame.now.cast.sizes }
+    requires role { slice_get frame.now.pattern.roles number ≡ Some (role_by role.now) }
     ensures { OnOk result (out.new.items ≡ out.old.items ++ role_lines frame.now.pattern frame.now.cast number
         (first_of frame.now.cast.sizes number) (slice_index_or frame.now.cast.sizes number 0)) }
 {
@@ -154,14 +155,14 @@ fn add_role(out: &mut Vec<u64>, frame: &Frame, number: u32, role: &Role) -> Resu
 }
 
 /// Appends the numbers of the lines of the processes of a job, the number of which is given.
-fn add_members(out: &mut Vec<u64>, frame: &Frame, job: u32) -> Result<(), AllocError>
+fn add_members(out: &mut Vec<u64>, frame: &Frame, job: usize) -> Result<(), AllocError>
     ensures { OnOk result (out.new.items ≡ out.old.items ++ spec.members_lines frame.now.pattern frame.now.cast job 0
         (cast_of frame.now.cast).roles) }
 {
     let roles = frame.pattern().roles();
-    for number in 0..roles.len() as u32 {
+    for number in 0..frame.cast().sizes.len() as u32 {
         let role = &roles[number as usize];
-        if role.job == job {
+        if role.job as usize == job {
             add_role(out, frame, number, role)?;
         }
     }
@@ -174,8 +175,8 @@ fn add_jobs(out: &mut Vec<u64>, frame: &Frame) -> Result<(), AllocError>
         frame.now.pattern.jobs) }
 {
     let jobs = frame.pattern().jobs();
-    for number in 0..jobs.len() as u32 {
-        out.push(jobs[number as usize].number)?;
+    for number in 0..jobs.len() {
+        out.push(jobs[number].number)?;
         add_members(out, frame, number)?;
     }
     Ok(())

@@ -1,6 +1,6 @@
 //! The text of an instance.
 
-ghost use Rattle.std.specs.Prelude.{◌≡◌, ◌≤◌, ◌<◌, ◌-◌, ◌++◌, ◌∷◌, [], ℕ, IfOk, OnOk, map, flat_map, Some, true, nat_lt, slice_get, slice_index_or};
+ghost use Rattle.std.specs.Prelude.{◌≡◌, ◌≤◌, ◌<◌, ◌-◌, ◌++◌, ◌∷◌, [], ℕ, IfOk, OnOk, map, flat_map, Some, true, length, nat_lt, slice_get, slice_index_or};
 ghost use Rattle.std.specs.List.{list_all};
 ghost use Rattle.wire_types.specs.Said as said;
 ghost use Rattle.wire_types.specs.declared.Version.TheVariants.{Two};
@@ -137,7 +137,8 @@ fn write_rank(out: &mut Vec<u8>, frame: &Frame, process: u32) -> Result<(), Allo
 
 /// Appends the lines of the processes of a role, the number of which is given.
 fn write_role(out: &mut Vec<u8>, frame: &Frame, number: u32, role: &Role) -> Result<(), AllocError>
-    requires { slice_get frame.now.pattern.roles number ≡ Some (role_by role.now) }
+    requires sized { number < length frame.now.cast.sizes }
+    requires role { slice_get frame.now.pattern.roles number ≡ Some (role_by role.now) }
     ensures { OnOk result (out.new.items ≡ out.old.items ++ flat_map line_text (role_said frame.now.pattern
         frame.now.cast number (first_of frame.now.cast.sizes number) (slice_index_or frame.now.cast.sizes number 0))) }
 {
@@ -160,14 +161,14 @@ fn write_job_line(out: &mut Vec<u8>, name: &[u8]) -> Result<(), AllocError>
 }
 
 /// Appends the lines of the processes of a job, the number of which is given.
-fn write_members(out: &mut Vec<u8>, frame: &Frame, job: u32) -> Result<(), AllocError>
+fn write_members(out: &mut Vec<u8>, frame: &Frame, job: usize) -> Result<(), AllocError>
     ensures { OnOk result (out.new.items ≡ out.old.items ++ flat_map line_text (spec.members_said frame.now.pattern
         frame.now.cast job 0 (cast_of frame.now.cast).roles)) }
 {
     let roles = frame.pattern().roles();
-    for number in 0..roles.len() as u32 {
+    for number in 0..frame.cast().sizes.len() as u32 {
         let role = &roles[number as usize];
-        if role.job == job {
+        if role.job as usize == job {
             write_role(out, frame, number, role)?;
         }
     }
@@ -180,10 +181,20 @@ fn write_jobs(out: &mut Vec<u8>, frame: &Frame) -> Result<(), AllocError>
         frame.now.cast 0 (map (λ j. j.name) frame.now.pattern.jobs))) }
 {
     let jobs = frame.pattern().jobs();
-    for number in 0..jobs.len() as u32 {
-        write_job_line(out, jobs[number as usize].name.as_slice())?;
+    for number in 0..jobs.len() {
+        write_job_line(out, jobs[number].name.as_slice())?;
         write_members(out, frame, number)?;
     }
+    Ok(())
+}
+
+/// Appends the line of a node.
+fn write_node_line(out: &mut Vec<u8>, node: u32) -> Result<(), AllocError>
+    ensures { OnOk result (out.new.items ≡ out.old.items ++ line_text (said.Node (spec.node_name node))) }
+{
+    out.extend_from_slice(b"node ".as_slice())?;
+    write_node(out, node)?;
+    out.push(b'\n')?;
     Ok(())
 }
 
@@ -192,9 +203,7 @@ fn write_nodes(out: &mut Vec<u8>, count: u32) -> Result<(), AllocError>
     ensures { OnOk result (out.new.items ≡ out.old.items ++ flat_map line_text (spec.nodes_said 0 count)) }
 {
     for node in 0..count {
-        out.extend_from_slice(b"node ".as_slice())?;
-        write_node(out, node)?;
-        out.push(b'\n')?;
+        write_node_line(out, node)?;
     }
     Ok(())
 }

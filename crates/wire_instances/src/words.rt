@@ -8,7 +8,8 @@ ghost use Rattle.wire_types.specs.Said.{spelled_set};
 ghost use Rattle.wire_pattern.specs.Instances as spec;
 ghost use Rattle.wire_pattern.specs.Instances.{process_count, cast_of, process_text, process_item, word_text, items_said, node_name};
 ghost use Rattle.wire_pattern.specs.Shown.{who_by, indexed_by, item_by};
-ghost use Rattle.wire_instances.specs.Written.{ended_text, items_text};
+ghost use Rattle.wire_content.specs.Canonical.{items_text};
+ghost use Rattle.wire_instances.specs.Written.{ended_text};
 
 use crate::frame::{Calling, Frame};
 use itoa::Buffer;
@@ -20,9 +21,11 @@ use wire_types::write_proc;
 fn job_name<'a>(frame: &Frame<'a>, job: u32) -> &'a [u8]
     ensures { result.now ≡ spec.job_name frame.now.pattern job }
 {
-    match frame.pattern().jobs().get(job as usize) {
-        Some(job) => job.name.as_slice(),
-        None => b"".as_slice(),
+    let jobs = frame.pattern().jobs();
+    if (job as usize) < jobs.len() {
+        jobs[job as usize].name.as_slice()
+    } else {
+        b"".as_slice()
     }
 }
 
@@ -63,7 +66,7 @@ fn write_others(
     requires caller { calling.caller < process_count frame.now.cast }
     requires each { calling.each < process_count frame.now.cast }
     ensures { OnOk result (out.new.items ≡ out.old.items ++ ended_text 44 93 (map (λ w. process_text frame.now.pattern
-        frame.now.cast (plan.who (cast_of frame.now.cast) calling.caller calling.each (who_by w))) others.now)) }
+        frame.now.cast (plan.who (cast_of frame.now.cast) calling.caller calling.each w)) (map who_by others.now))) }
 {
     for who in others {
         out.push(b',')?;
