@@ -67,7 +67,7 @@ function measureFew(least) {
 // What must be seen before one scrolls: the verdict with its reasons, and the first cause.
 function measureFold(height) {
   const said = [];
-  for (const it of ["header h1", "header .why", "header .badge", "section.found h2"]) {
+  for (const it of ["header h1", "header .why", "header .badge", "#cause-1 h2"]) {
     const found = document.querySelector(it);
     const bottom = found ? found.getBoundingClientRect().bottom + scrollY : 0;
     if (bottom > height) said.push(`${it} ends ${Math.round(bottom)} down`);
