@@ -19,7 +19,12 @@ from wire_up_tools.record.places import find_call_place, find_places, read_place
 from wire_up_tools.record.planning import Choices, Plan, make_plan, make_whole_plan
 from wire_up_tools.record.recordings import Recording, read_recordings
 from wire_up_tools.record.running import BY_SIGNAL, find_libraries, make_environment, run
-from wire_up_tools.record.verdicts import compare_verdicts, judge_placements, judge_runs
+from wire_up_tools.record.verdicts import (
+    compare_verdicts,
+    judge_library,
+    judge_placements,
+    judge_runs,
+)
 from wire_up_tools.record.writing import write_answers, write_plan
 
 
@@ -108,11 +113,15 @@ def write_output(plan: Plan, recordings: Sequence[Recording], output: Output) ->
     return text
 
 
-def say_placements(checker: Checker, text: str) -> None:
-    """Says what is found on other placements of the ranks alone, if anything is."""
+def say_besides(checker: Checker, plan: Plan, text: str) -> None:
+    """Says what is found on other placements of the ranks alone, if anything is, and what the
+    library that was recorded is known to answer otherwise."""
     found = judge_placements(checker, text)
     if found:
         say(f"{found}: wire_up check --anywhere names them")
+    otherwise = judge_library(checker, plan, text)
+    if otherwise:
+        say(otherwise)
 
 
 def add_verdicts(plan: Plan, recordings: Sequence[Recording], checker: Checker) -> Plan:
@@ -158,7 +167,7 @@ def merge(output: Output, runs: Sequence[Sequence[str]], folder: str) -> None:
         own = [write_plan(it.plan, it.places) for it in read]
         for verdict in judge_runs(checker, text, own, bool(plan.partings)):
             say(verdict)
-        say_placements(checker, text)
+        say_besides(checker, plan, text)
 
 
 def make(output: Output, paths: Sequence[str], folder: str) -> None:
@@ -177,7 +186,7 @@ def make(output: Output, paths: Sequence[str], folder: str) -> None:
         of_luck = f"which takes nothing from {plan.mpi.left_to_luck} ends of requests"
         say(f"{plan.mpi.verdicts}, {of_luck}")
     if path is not None:
-        say_placements(Checker(path, choices.most is LARGE), text)
+        say_besides(Checker(path, choices.most is LARGE), plan, text)
 
 
 def make_folder(output: Output) -> str:
