@@ -112,7 +112,7 @@ class Recording:
 PLAIN = {
     "finalize": re.compile(r"finalize"),
     "other": re.compile(r"other (.+)"),
-    "unseen": re.compile(rf"unseen (call|object) ({WORD})"),
+    "unseen": re.compile(rf"unseen (call|object|pmix) ({WORD})"),
     "world": re.compile(r"world (\d{1,9}) (\d{1,9})"),
     "comm": re.compile(r"comm (\d{1,9}) (\d{1,9}) ([wcgvs]-?\d{1,18}) ([\d,-]+)"),
     "inter": re.compile(r"inter (\d{1,9}) (\d{1,9}) (c-?\d{1,18}) ([\d,-]+) ([\d,-]+)"),
@@ -137,6 +137,7 @@ def read_line(groups: Groups) -> Place:
 UNSEEN = {
     "call": "calls of {} that a library took elsewhere: what it called of MPI isn't seen",
     "object": "processes in which {} calls MPI past the recorder: its calls aren't seen",
+    "pmix": "processes in which {} calls PMIx past the recorder: its calls aren't seen",
 }
 
 
