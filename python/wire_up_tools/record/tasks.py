@@ -15,6 +15,9 @@ from wire_up_tools.limits import LARGE, VERSION_1
 from wire_up_tools.record.merging import merge_plans
 from wire_up_tools.record.notes import Notes
 from wire_up_tools.record.partings import Run
+from wire_up_tools.record.patterns.finding import Broken
+from wire_up_tools.record.patterns.scripts import ANY_VALUE, Script
+from wire_up_tools.record.patterns.writing import make_pattern, say_broken
 from wire_up_tools.record.places import find_call_place, find_places, read_places, write_places
 from wire_up_tools.record.planning import Choices, Plan, make_plan, make_whole_plan
 from wire_up_tools.record.recordings import Recording, read_recordings
@@ -40,6 +43,7 @@ class Output:
     plan: str
     answers: Optional[str] = None
     kept: Optional[str] = None
+    pattern: Optional[str] = None
     checker: Optional[str] = None
     with_mpi: bool = True
     is_strict: bool = False
@@ -93,6 +97,21 @@ def say_part(notes: Notes) -> None:
             say(f"{before}{in_part}: {count_notes(noted)}")
 
 
+def write_pattern(plan: Plan, path: str) -> None:
+    """Writes the pattern of a plan, or says which call breaks it. Raises OSError."""
+    scripts = [
+        Script(process.name, process.name.rpartition(":")[0], [it.words.split(" ") for it in lines])
+        for process, lines in plan.draft.lines.items()
+    ]
+    found = make_pattern(scripts)
+    if isinstance(found, Broken):
+        say(f"there is no pattern: {say_broken(found, scripts)}")
+        return
+    write_whole(path, found.text)
+    if found.has_other_values:
+        say(f"{path}: values that differ between ranks are left out: `{ANY_VALUE}` stands for them")
+
+
 def write_output(plan: Plan, recordings: Sequence[Recording], output: Output) -> str:
     """Writes a plan, and what is asked for besides. Answers the text of the plan. Raises Refused,
     OSError."""
@@ -104,6 +123,8 @@ def write_output(plan: Plan, recordings: Sequence[Recording], output: Output) ->
     write_whole(output.plan, text)
     if output.answers:
         write_whole(output.answers, answers)
+    if output.pattern:
+        write_pattern(plan, output.pattern)
     say_part(plan.notes)
     return text
 
@@ -150,6 +171,8 @@ def merge(output: Output, runs: Sequence[Sequence[str]], folder: str) -> None:
     write_whole(output.plan, text)
     if output.answers:
         write_whole(output.answers, write_answers(plan))
+    if output.pattern:
+        write_pattern(plan, output.pattern)
     for parting in plan.partings:
         say(f"the runs part: {parting}")
     say_part(plan.notes)
