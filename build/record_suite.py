@@ -6,15 +6,18 @@ Usage: make record-suite [PARTS="pt2pt f77/coll"] [ROOM=FOLDER] [SECONDS=N] [JOB
 It fetches the suite as Debian's source package (with lists of apt of its own), builds it for the
 MPI that is here, and runs each program without the recorder and with it, JOBS parts side by side. A
 program that takes more than N seconds by itself is left out. ROOM (/tmp/wire-up-suite) keeps the
-suite, and `outcomes`, a line for each program. The last lines are a table; above it stands what
-went another way. PROGRAM is the checker, or else ./wire_up.
+suite, and what came of each program in `outcomes`: who runs the command again, or was interrupted,
+goes on behind that. The last lines are a table; above it stands what went another way. PROGRAM is
+the checker, or else ./wire_up.
 """
 import argparse
+import json
 import os
 import subprocess
 import sys
 from collections.abc import Iterable, Sequence
 from concurrent.futures import ThreadPoolExecutor
+from dataclasses import asdict
 
 from build.places import TOP, WIRE_UP
 from build.suite.source import (
@@ -73,34 +76,53 @@ def tell(it: Outcome) -> Iterable[str]:
     return [f"{it.program.title}: {what}: {why}" for what, why in found if why]
 
 
-def try_part(bench: Bench, programs: Sequence[SuiteProgram], room: str) -> list[Outcome]:
-    """Builds and tries the programs of one part, one after another: they share its folder."""
-    found = []
-    for it in programs:
-        if build(bench.built, it, os.path.join(room, "build.log")):
-            outcome = bench.try_program(it)
-        else:
-            outcome = Outcome(it, "isn't built")
-        found.append(outcome)
-        said = "; ".join(tell(outcome)) or f"{it.title}: as without"
-        plain, recorded = outcome.seconds
-        line = f"{said} ({plain:.1f} s, recorded {recorded:.1f} s)"
-        with open(os.path.join(room, "outcomes"), "a", encoding="utf-8") as to:
-            to.write(f"{line}\n")
-        print(line, flush=True)
-    return found
+class Tried:
+    """What came of programs, kept in a file as it comes."""
+
+    def __init__(self, room: str) -> None:
+        self.path, self.log = os.path.join(room, "outcomes"), os.path.join(room, "build.log")
+        self.found: dict[str, Outcome] = {}
+        self.is_over = False
+        if os.path.exists(self.path):
+            with open(self.path, encoding="utf-8") as lines:
+                for it in map(json.loads, lines):
+                    program = SuiteProgram(**it.pop("program"))
+                    self.found[program.title] = Outcome(program, **it)
+
+    def keep(self, outcome: Outcome) -> None:
+        """Keeps what came of a program, and says it."""
+        title = outcome.program.title
+        self.found[title] = outcome
+        with open(self.path, "a", encoding="utf-8") as to:
+            to.write(json.dumps(asdict(outcome)) + "\n")
+        seconds = f"{outcome.seconds:.1f} s recorded"
+        print(f"{'; '.join(tell(outcome)) or f'{title}: as without'} ({seconds})", flush=True)
+
+    def try_part(self, bench: Bench, programs: Sequence[SuiteProgram]) -> None:
+        """Builds and tries the programs of one part, one after another: they share its folder."""
+        for it in programs:
+            if self.is_over or it.title in self.found:
+                continue
+            is_built = build(bench.built, it, self.log)
+            self.keep(bench.try_program(it) if is_built else Outcome(it, "isn't built"))
 
 
-def try_all(bench: Bench, programs: Sequence[SuiteProgram], room: str, jobs: int) -> list[Outcome]:
-    """Tries all programs, so many parts side by side, the largest first."""
+def try_all(bench: Bench, programs: Sequence[SuiteProgram], tried: Tried, jobs: int) -> None:
+    """Tries all programs, so many parts side by side, the largest first. An interrupt ends it."""
     parts: dict[str, list[SuiteProgram]] = {}
     for it in programs:
         parts.setdefault(it.part, []).append(it)
-    order = sorted(parts, key=lambda it: -len(parts[it]))
     with ThreadPoolExecutor(jobs) as pool:
-        ran = [(it, pool.submit(try_part, bench, parts[it], room)) for it in order]
-        found = {it: of.result() for it, of in ran}
-    return [outcome for it in parts for outcome in found[it]]
+        ran = [
+            pool.submit(tried.try_part, bench, parts[it])
+            for it in sorted(parts, key=lambda it: -len(parts[it]))
+        ]
+        try:
+            for of in ran:
+                of.result()
+        except KeyboardInterrupt:
+            tried.is_over = True
+            print("interrupted: what is tried is told", flush=True)
 
 
 def prepare(words: argparse.Namespace) -> tuple[str, list[SuiteProgram]]:
@@ -138,8 +160,10 @@ def main() -> int:
         print(f"there is no suite: {why}", file=sys.stderr)
         return 2
     bench = Bench(built, os.path.abspath(words.program), words.seconds)
-    outcomes = try_all(bench, programs, words.room, words.jobs)
-    print(f"\n{len(outcomes)} programs; what went another way:")
+    tried = Tried(words.room)
+    try_all(bench, programs, tried, words.jobs)
+    outcomes = [tried.found[it.title] for it in programs if it.title in tried.found]
+    print(f"\n{len(outcomes)} programs of {len(programs)}; what went another way:")
     print(*(line for it in outcomes for line in tell(it)), "", sep="\n")
     print(*make_table(outcomes), sep="\n")
     return 1 if any(it.differs or it.replay for it in outcomes) else 0

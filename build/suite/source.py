@@ -1,4 +1,4 @@
-"""MPICH's test suite: fetched as Debian's source package, and configured for the MPI that is here."""
+"""MPICH's test suite: Debian's source package is fetched, and configured for the MPI here."""
 import glob
 import os
 import re
@@ -59,7 +59,7 @@ class SuiteProgram:
     @property
     def title(self) -> str:
         """How a report names it."""
-        words = "".join(f" {it}" for it in self.words)
+        words = "".join(f" {it}" for it in [*self.words, *self.variables.values()])
         return f"{self.part}/{self.name}{words} on {self.processes}"
 
 

@@ -95,7 +95,7 @@ def end(process: "subprocess.Popen[str]") -> tuple[str, str]:
 class Outcome:
     """What came of a program. `lacks` says why it wasn't compared: it isn't built, or takes too
     long without the recorder. `no_plan`, `differs` and `replay` are what went another way than
-    wanted, empty where nothing did."""
+    wanted, empty where nothing did. `seconds` are those of the recorded run."""
 
     program: SuiteProgram
     lacks: str = ""
@@ -105,7 +105,7 @@ class Outcome:
     findings: Optional[int] = None
     is_replayed: bool = False
     replay: str = ""
-    seconds: tuple[float, float] = (0.0, 0.0)
+    seconds: float = 0.0
 
 
 def why_different(plain: Ran, recorded: Ran) -> str:
@@ -163,10 +163,9 @@ class Bench:
                 differs = why_different(plain, ran)
                 if not differs:
                     break
-            times = plain.seconds, ran.seconds
             if not os.path.exists(plan):
-                why = (OWN_LINE.findall(ran.said) or ["nothing was said"])[0]
-                return Outcome(it, no_plan=why, differs=differs, seconds=times)
+                why = (OWN_LINE.findall(ran.said) or ["nothing was said"])[-1]
+                return Outcome(it, no_plan=why, differs=differs, seconds=ran.seconds)
             return self.judge(it, ran, differs, room)
 
     def judge(self, it: SuiteProgram, ran: Ran, differs: str, room: str) -> Outcome:
@@ -188,7 +187,7 @@ class Bench:
             findings=count,
             is_replayed=count == 0,
             replay=replay,
-            seconds=(0.0, ran.seconds),
+            seconds=ran.seconds,
         )
 
     def why_other_replay(self, words: Sequence[str], answers: str) -> str:

@@ -25,6 +25,12 @@ from wire_up_tools.record.forms import (
 from wire_up_tools.words import make_printable
 
 ENDING = ".recording"
+# The file that stands in a folder where processes were started by PMI alone.
+STARTED_BY_PMI = "pmi"
+NOT_LOADED = "no process called PMIx_Init with the recorder in it"
+WITHOUT_PMIX = (
+    "the processes were started by PMI, as MPICH's mpiexec does: there is no PMIx to record"
+)
 LAST_DATE = 253402300799
 
 NUMBER = r"\d{1,18}"
@@ -292,6 +298,11 @@ def read_recording(path: str, data: bytes) -> Recording:
     )
 
 
+def has_recordings(folder: str) -> bool:
+    """Whether there is a recording in a folder. Raises OSError."""
+    return any(it.endswith(ENDING) for it in os.listdir(folder))
+
+
 def find_files(paths: Sequence[str]) -> list[str]:
     """The files that are named, and the recordings in the folders that are. Raises OSError."""
     found: list[str] = []
@@ -319,7 +330,6 @@ def read_recordings(paths: Sequence[str], most: Limits) -> list[Recording]:
         with open(path, "rb") as it:
             found.append(read_recording(path, it.read()))
     if not found:
-        raise Refused(
-            "there is no recording: no process called PMIx_Init with the recorder in it"
-        )
+        is_pmi = any(os.path.exists(os.path.join(it, STARTED_BY_PMI)) for it in paths)
+        raise Refused(f"there is no recording: {WITHOUT_PMIX if is_pmi else NOT_LOADED}")
     return found

@@ -20,7 +20,7 @@ from wire_up_tools.record.patterns.scripts import ANY_VALUE, Script
 from wire_up_tools.record.patterns.writing import make_pattern, say_broken
 from wire_up_tools.record.places import find_call_place, find_places, read_places, write_places
 from wire_up_tools.record.planning import Choices, Plan, make_plan, make_whole_plan
-from wire_up_tools.record.recordings import Recording, read_recordings
+from wire_up_tools.record.recordings import Recording, has_recordings, read_recordings
 from wire_up_tools.record.running import BY_SIGNAL, find_libraries, make_environment, run
 from wire_up_tools.record.verdicts import compare_verdicts, judge_placements, judge_runs
 from wire_up_tools.record.writing import write_answers, write_plan
@@ -230,9 +230,9 @@ def record(asked: CommandRequest, folder: str) -> int:
         is_made = True
         return status if status >= 0 else BY_SIGNAL - status
     finally:
-        if not output.kept and (is_made or not os.listdir(recordings)):
+        if not output.kept and (is_made or not has_recordings(recordings)):
             shutil.rmtree(recordings, ignore_errors=True)
-        elif not is_made and os.path.isdir(recordings) and os.listdir(recordings):
+        elif not is_made and os.path.isdir(recordings) and has_recordings(recordings):
             say(f"the recordings are in {recordings}")
 
 

@@ -87,7 +87,8 @@ class Instance:
         read = INDEXED.fullmatch(key)
         if not read:
             return key
-        return f"{read[1]}[{','.join(self.expand_rank(it, rank, each) for it in read[2].split(','))}]"
+        indices = (self.expand_rank(it, rank, each) for it in read[2].split(","))
+        return f"{read[1]}[{','.join(indices)}]"
 
     def find_members(self, word: str, rank: str, each: Optional[str]) -> set[str]:
         """The ranks of a set."""
