@@ -151,6 +151,15 @@ def sizes_of(pattern: Pattern) -> list[tuple[int, ...]]:
     return sorted(itertools.product(*ranges), key=lambda it: (sum(it), it))
 
 
+def instance_count(pattern: Pattern) -> int:
+    """How many instances are judged, placements aside."""
+    count = 0
+    for sizes in sizes_of(pattern):
+        ranks = Ranks(pattern, sizes)
+        count += 1 << sum(len(ranks.optional(it)) for it in range(ranks.count))
+    return count
+
+
 def placements(count: int) -> Iterator[list[int]]:
     """The node of each rank: first all apart, then each pair on one node. Nodes count up in rank
     order."""

@@ -12,7 +12,10 @@ ROLES = (b"root", b"w", b"v", b"u", b"last", b"one", b"min", b"end", b"fence", b
 KEYS = (b"a", b"b", b"c", b"x", b"**", b":", b",", b"#k", b"each", b"*")
 SCOPES = (b"global", b"global", b"global", b"remote", b"local")
 VALUES = (b"v", b"1", b"[", b"v[self]", b"#", b"*", b'"\\')
-READING = (b"get-now", b"lookup")
+READING = [b"get-now", b"lookup"]
+OPTIONAL = [b"put", b"get", b"get-now", b"lookup-wait", b"get-now"]
+# What stands behind the group of a loop, but before it for `some`.
+PLAIN, CYCLIC, SOME = list[bytes](), [b"cyclic"], [b"some"]
 WORDS = b"""
     pattern 1 2 rehearsal keep job one many min 0 10 for some cyclic end self each all root w v *
     all,self w,all self,each app:* : app:0 * *[self] k[ k] k[] k[self k[self]x [self] k[self,] k[w]
@@ -41,6 +44,11 @@ class Part(NamedTuple):
     job: bytes
     name: bytes
     least: Optional[int]
+
+
+def head_of(group: Part, mode: Sequence[bytes]) -> Words:
+    """The first line of a loop."""
+    return [b"for", *mode, group.name] if mode == SOME else [b"for", group.name, *mode]
 
 
 class Script:
@@ -107,10 +115,10 @@ class Script:
     def verbs(self, mode: Sequence[bytes]) -> list[bytes]:
         """The verbs of the lines of a loop."""
         dice = self.dice
-        if mode[:1] == [b"some"]:
-            its = dice.choice((READING, (b"put", b"get", b"get-now", b"lookup-wait", b"get-now")))
+        if mode == SOME:
+            its = dice.choice((READING, OPTIONAL))
         else:
-            its = dice.choice(((b"fence",), (b"put",), (b"get-now",), self.maker.verbs))
+            its = dice.choice(([b"fence"], [b"put"], [b"get-now"], self.maker.verbs))
         verbs = [dice.choice(its) for _ in range(dice.choice((0, 1, 1, 1, 2, 2, 3)))]
         return [it for it in verbs if it != b"commit"]
 
@@ -120,9 +128,8 @@ class Script:
         if not groups:
             return
         self.group, waited = dice.choice(groups), self.waits
-        mode = dice.choice(([], [], [], [b"cyclic"], [b"some"]))
-        words = [b"for", self.group.name]
-        self.lines.append([b"for", b"some", words[1]] if mode == [b"some"] else words + mode)
+        mode = dice.choice((PLAIN, PLAIN, PLAIN, CYCLIC, SOME))
+        self.lines.append(head_of(self.group, mode))
         verbs = self.verbs(mode)
         self.lines += [self.call(it) for it in verbs]
         if b"put" in verbs and not waited and dice.random() < 0.5:
@@ -195,6 +202,11 @@ class Maker:
         return Script(self, part).fill(self.rounds)
 
 
+def looped(group: Part, mode: Sequence[bytes], lines: list[Words]) -> list[Words]:
+    """Lines as a loop."""
+    return [head_of(group, mode), *lines, [b"end"]]
+
+
 class Deal(NamedTuple):
     """A key or a name that a role writes for others to read: whether it is a name, its base, who
     writes it, and for whom: for a group one each, or for all alike (None)."""
@@ -233,15 +245,8 @@ class DealMaker(Maker):
         else:
             lines = [[b"put", dice.choice(SCOPES), deal.base + index, b"v"]]
         if deal.group:
-            mode = dice.choice(([], [], [b"cyclic"]))
-            lines = self.looped(deal.group, mode, lines)
+            lines = looped(deal.group, dice.choice((PLAIN, PLAIN, CYCLIC)), lines)
         return lines if deal.is_name else [*lines, [b"commit"]]
-
-    def looped(self, group: Part, mode: Sequence[bytes], lines: list[Words]) -> list[Words]:
-        """Lines as a loop."""
-        is_some = mode == [b"some"]
-        head = [b"for", b"some", group.name] if is_some else [b"for", group.name, *mode]
-        return [head, *lines, [b"end"]]
 
     def reads(self, part: Part, deal: Deal) -> list[Words]:
         """The lines by which a role reads a deal, if it may."""
@@ -255,8 +260,8 @@ class DealMaker(Maker):
             lines = [[verb, key]]
         else:
             lines = [[verb, writer, deal.base + (b"[self]" if deal.group else b"")]]
-        mode = dice.choice(([], [], [b"cyclic"], [b"some"]))
-        return self.looped(deal.writer, mode, lines) if is_own else lines
+        mode = dice.choice((PLAIN, PLAIN, CYCLIC, SOME))
+        return looped(deal.writer, mode, lines) if is_own else lines
 
     def round(self, part: Part, number: int) -> list[Words]:
         """The lines of a role before a meeting."""
@@ -270,7 +275,7 @@ class DealMaker(Maker):
         groups = [it for it in self.parts if it.least is not None]
         if groups and dice.random() < 0.15:
             fence = [b"fence", b"self,each", b"collect"][: dice.choice((2, 3))]
-            lines += self.looped(dice.choice(groups), dice.choice(([], [b"cyclic"])), [fence])
+            lines += looped(dice.choice(groups), dice.choice((PLAIN, CYCLIC)), [fence])
         if part.least is not None and dice.random() < 0.1:
             lines.append([b"fence", part.name, b"collect"])
         if number and dice.random() < 0.05:
