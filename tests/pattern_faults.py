@@ -78,9 +78,9 @@ def loops() -> Iterator[Refusal]:
 
 def words() -> Iterator[Refusal]:
     """The words of call lines."""
-    for word in ("*", "k[", "k[]", "k]", "[self]", "k[self", "k[self]x", "k[self,]", "k[,self]"):
+    for word in ("*", "*[self]", "k[", "k[]", "k]", "[self]", "k[self", "k[self]x", "k[self,]"):
         yield Refusal(f"{GROUP}lookup {word}", "BadLine", 4)
-    for word in ("k[[self]]", "k[self][self]", "k[all]", "k[some]", "k[app:0]", "k[app:*]"):
+    for word in ("k[,self]", "k[[self]]", "k[self][self]", "k[all]", "k[some]", "k[app:0]", "k[app:*]"):
         yield Refusal(f"{GROUP}lookup {word}", "BadLine", 4)
     for word in ("all", "app:0", "app:*", "self,self", "some", "cyclic", "a["):
         yield Refusal(f"{GROUP}get {word} k", "BadLine", 4)
@@ -153,7 +153,7 @@ def limits() -> Iterator[Refusal]:
     singles = " / ".join(f"one r{it}" for it in range(56))
     yield Refusal(f"{HEAD}{singles} / many w min 9", "TooMany", 59)
     turn = "for some w / put local k[each] v / end"
-    yield Refusal(f"{GROUP}{turn} / {turn} / {turn} / {turn}", "TooMany", 13)
+    yield Refusal(f"{GROUP}{turn} / {turn} / {turn} / {turn}", "TooMany", 10)
     reads = "for some w / get-now each k / lookup x[each] / end"
     yield Refusal(f"{HEAD}many w min 6 / {reads} / {turn}", "TooMany", 8)
     calls = " / ".join(["commit"] * 32_769)
@@ -175,7 +175,7 @@ def taken() -> Iterator[str]:
     yield "pattern 1 / job self / job all / job app"
     yield f"{HEAD}one one / one many / one min / one job / one end / one app"
     yield f"{GROUP}for w / end / for some w / end / for w cyclic / commit / end"
-    yield f"{GROUP}lookup *[self] / lookup #k / lookup : / lookup , / publish each [v]"
+    yield f"{GROUP}lookup **[self] / lookup #k / lookup : / lookup , / publish each [v]"
     yield f"{GROUP}fence all / fence w / fence self / fence app:* / fence w,self,w,app:*"
     yield f"{TWO}for w / fence self,each,root / fence root,each,self / end"
     yield f"{TWO}job srv / many v / for w / fence v,each / fence srv:*,each / end"

@@ -1,27 +1,19 @@
-"""A second reader of patterns: judges a file, and gives its pattern.
-
-Usage: python3 tests/pattern_grammar.py FILE
-Prints the fault that the program must name, or how many jobs and roles there are.
+"""A second reader of patterns: judges a file, and gives its pattern. The limits of its largest
+instance are judged in tests/pattern_reference.py.
 
 A pattern has jobs, a job has roles, and a role has a script: call lines and loops. Roles count from
 0 in the order of the file, over all jobs.
 """
 import re
-import sys
 from typing import NamedTuple, Optional, Union
 
 import grammar
 from grammar import NAME_BYTES, VALUE_BYTES, Refused, Words
 
-# The largest size of a group that has to be judged, and what a pattern may have: so that its
-# largest judged instance is a plan of version 2 whose ranks can all be apart.
+# The largest size of a group that has to be judged, if it has no larger least size. And how many
+# jobs, roles and groups a file may have.
 CUTOFF = 3
-GROUPS, OPTIONAL_TURNS = 6, 20
-JOBS, RANKS, CALLS = (
-    grammar.LIMITS[b"2"].jobs,
-    grammar.LIMITS[b"2"].nodes,
-    grammar.LIMITS[b"2"].calls,
-)
+JOBS, ROLES, GROUPS = grammar.LIMITS[b"2"].jobs, grammar.LIMITS[b"2"].nodes, 6
 SELF, EACH, ALL = b"self", b"each", b"all"
 NOT_ROLES = (SELF, EACH, ALL, b"some", b"cyclic")
 READS = (b"get-now", b"lookup")
@@ -72,6 +64,12 @@ class Line(NamedTuple):
         return self.verb == b"fence" and len(self.words) == 3
 
     @property
+    def is_read(self) -> bool:
+        """Whether it only reads what is there."""
+        is_reserved = self.key and self.key.base.startswith((b"pmix", b"PMIX_"))
+        return self.verb in READS and not is_reserved
+
+    @property
     def processes(self) -> tuple[bytes, ...]:
         """The words that name one process each, those of the set aside."""
         asked = () if self.who is None else (self.who,)
@@ -91,16 +89,17 @@ class Loop(NamedTuple):
     def is_optional(self) -> bool:
         """Whether its turns may be left out, and each such choice is judged. A loop that only reads
         what is there orders nothing, and takes all of them."""
-        return self.mode == b"some" and not all(it.verb in READS for it in self.lines)
+        return self.mode == b"some" and not all(it.is_read for it in self.lines)
 
 
 Step = Union[Line, Loop]
 
 
 class Role(NamedTuple):
-    """A role: its job's number, its name, the least size of a group or None for a single process,
-    and its script."""
+    """A role: its line in the file, its job's number, its name, the least size of a group or None
+    for a single process, and its script."""
 
+    at: int
     job: int
     name: bytes
     least: Optional[int]
@@ -118,10 +117,11 @@ class Role(NamedTuple):
 
 
 class Pattern(NamedTuple):
-    """What a file says."""
+    """What a file says: whether it keeps what gets bring, the jobs with their lines, the roles."""
 
     keeps: bool
     jobs: list[bytes]
+    job_lines: list[int]
     roles: list[Role]
 
     def role(self, name: bytes) -> Optional[Role]:
@@ -154,7 +154,7 @@ def is_item(word: bytes) -> bool:
 def parts_of_word(text: bytes) -> Optional[Word]:
     """A key or a name in parts, or None if it's none."""
     found = re.fullmatch(rb"([^][]+)(?:\[([^][]+)\])?", text)
-    if not found or text == b"*":
+    if not found or found[1] == b"*":
         return None
     base, inside = found.groups()
     indices = inside.split(b",") if inside else []
@@ -212,7 +212,7 @@ class FirstPass:
     """The lines from the top, each judged by itself and by those above it."""
 
     def __init__(self) -> None:
-        self.pattern = Pattern(False, [], [])
+        self.pattern = Pattern(False, [], [], [])
         # The loop that is open, and how many call lines the last role has.
         self.loop: Optional[Loop] = None
         self.count = 0
@@ -252,6 +252,7 @@ class FirstPass:
         if len(jobs) == JOBS:
             raise Refused("TooMany", at)
         jobs.append(words[1])
+        self.pattern.job_lines.append(at)
 
     def take_role(self, at: int, words: Words) -> None:
         roles, least = self.pattern.roles, None
@@ -262,10 +263,9 @@ class FirstPass:
         is_well = len(words) == 2 and is_role_name(words[1])
         self.judge(at, is_well and bool(self.pattern.jobs) and not self.loop)
         self.judge_name(at, words[1], [it.name for it in roles])
-        role, self.count = Role(len(self.pattern.jobs) - 1, words[1], least, []), 0
-        roles.append(role)
-        groups = sum(it.least is not None for it in roles)
-        if groups > GROUPS or sum(it.most for it in roles) > RANKS:
+        roles.append(Role(at, len(self.pattern.jobs) - 1, words[1], least, []))
+        self.count = 0
+        if len(roles) > ROLES or sum(it.least is not None for it in roles) > GROUPS:
             raise Refused("TooMany", at)
 
     def is_in_role(self) -> bool:
@@ -379,49 +379,6 @@ def puts_wait(waits: bool, lines: tuple[Line, ...]) -> bool:
     return waits
 
 
-class Largest:
-    """The largest instance that is judged, and the limits of a plan: the fourth pass."""
-
-    def __init__(self, pattern: Pattern) -> None:
-        self.pattern, self.turns, self.calls = pattern, 0, 0
-        # How long the word of each process of a role is.
-        self.lengths: dict[bytes, list[int]] = {}
-        counts = [0 for _ in pattern.jobs]
-        for role in pattern.roles:
-            numbers = range(counts[role.job], counts[role.job] + role.most)
-            job = pattern.jobs[role.job]
-            self.lengths[role.name] = [len(b"%s:%d" % (job, it)) for it in numbers]
-            counts[role.job] += role.most
-        for role in pattern.roles:
-            for step in role.steps:
-                self.judge_step(role, step)
-
-    def judge_step(self, role: Role, step: Step) -> None:
-        group = self.pattern.role(step.group) if isinstance(step, Loop) else None
-        turns = group.most - (group is role) if group else 1
-        if isinstance(step, Loop) and step.is_optional:
-            self.turns += turns * role.most
-            if self.turns > OPTIONAL_TURNS:
-                raise Refused("TooMany", step.at)
-        for line in step.lines if isinstance(step, Loop) else (step,):
-            if line.key and self.longest(role, group, line.key) > NAME_BYTES:
-                raise Refused("TooLong", line.at)
-            self.calls += turns * role.most
-            if self.calls > CALLS:
-                raise Refused("TooMany", line.at)
-
-    def longest(self, role: Role, group: Optional[Role], word: Word) -> int:
-        """How long a key may get. Those of the last two processes have the longest words, and the
-        turn of a loop is for another process than the caller."""
-        single = (it for it in word.indices if it not in (SELF, EACH))
-        fixed = len(word.base) + (len(word.indices) + 1 if word.indices else 0)
-        fixed += sum(self.lengths[it][-1] for it in single)
-        selves, eaches = word.indices.count(SELF), word.indices.count(EACH)
-        callers, others = self.lengths[role.name], self.lengths[(group or role).name]
-        pairs = [(-1, -2), (-2, -1)] if group is role else [(-1, -1)]
-        return fixed + max(selves * callers[it[0]] + eaches * others[it[1]] for it in pairs)
-
-
 def read(text: bytes) -> Pattern:
     """The pattern of a file. Raises what it's refused for."""
     if len(text) > grammar.FILE_BYTES:
@@ -437,17 +394,4 @@ def read(text: bytes) -> Pattern:
     SecondPass(first.pattern)
     for role in first.pattern.roles:
         judge_commits(role)
-    Largest(first.pattern)
     return first.pattern
-
-
-if __name__ == "__main__":
-    if len(sys.argv) != 2:
-        sys.exit(__doc__)
-    with open(sys.argv[1], "rb") as it:
-        given = it.read()
-    try:
-        found = read(given)
-        print(len(found.jobs), len(found.roles))
-    except Refused as why:
-        sys.exit(why.said().decode().rstrip())

@@ -9,11 +9,15 @@ from collections import Counter, defaultdict
 from collections.abc import Iterator, Sequence
 from typing import NamedTuple, Optional
 
+import grammar
+import pattern_grammar
 from grammar import Refused
-from pattern_grammar import Line, Loop, Pattern, read
+from pattern_grammar import Line, Loop, Pattern
 from pattern_plan import NOT_FOUND, OUTSIDE, SUCCESS, Call, Finding, Plan, Script, Verdict, answered
 
 CLEAN = b"findings 0 for every number of ranks on every placement"
+# How many turns may be left out or taken in the largest instance that is judged.
+MOST_TURNS = 20
 STATUSES = (SUCCESS, NOT_FOUND, OUTSIDE)
 
 
@@ -184,29 +188,73 @@ def finding_text(ranks: Ranks, finding: Finding) -> bytes:
     return b"race %s %s %s" % (place, kind, b" ".join(about))
 
 
-def instance_lines(ranks: Ranks, plan: Plan, nodes: Sequence[int]) -> list[bytes]:
+class Written(NamedTuple):
+    """A line of an instance, and the line of the pattern that it comes from: for a node that of the
+    role of the first rank there."""
+
+    text: bytes
+    at: int
+
+
+def written(ranks: Ranks, scripts: Sequence[Script], nodes: Sequence[int]) -> Iterator[Written]:
     """The lines of one instance of a pattern: each call as its line spells it."""
-    lines = [b"rehearsal 2", *([b"keep"] if plan.keeps else [])]
-    lines += [b"node n%d" % it for it in range(max(nodes, default=-1) + 1)]
-    for job, name in enumerate(ranks.pattern.jobs):
-        lines.append(b"job " + name)
-        for script in plan.scripts:
-            if ranks.job[script.rank] == job:
-                lines.append(b"rank n%d" % nodes[script.rank])
-                lines += [it.text for it in script.calls]
-    return lines
+    pattern = ranks.pattern
+    at = [pattern.roles[it].at for it in ranks.role]
+    yield Written(b"rehearsal 2", 0)
+    if pattern.keeps:
+        yield Written(b"keep", 0)
+    for node in range(max(nodes, default=-1) + 1):
+        yield Written(b"node n%d" % node, at[[*nodes].index(node)])
+    for job, name in enumerate(pattern.jobs):
+        yield Written(b"job " + name, pattern.job_lines[job])
+        for script in (it for it in scripts if ranks.job[it.rank] == job):
+            lines = [it.at for it in pattern.roles[ranks.role[script.rank]].lines]
+            yield Written(b"rank n%d" % nodes[script.rank], at[script.rank])
+            for call in script.calls:
+                yield Written(call.text, lines[call.line - 1])
+
+
+def instance_text(ranks: Ranks, scripts: Sequence[Script], nodes: Sequence[int]) -> bytes:
+    """The text of one instance."""
+    return text_of([it.text for it in written(ranks, scripts, nodes)])
 
 
 def counterexample(ranks: Ranks, plan: Plan, nodes: Sequence[int], found: list[Finding]) -> bytes:
     """What is written of an instance with findings."""
     size = b"1 rank" if ranks.count == 1 else b"%d ranks" % ranks.count
-    lines = [b"# counterexample, " + size, *instance_lines(ranks, plan, nodes)]
-    lines += [b"# " + finding_text(ranks, it) for it in found]
-    return text_of([*lines, b"# findings %d" % len(found)])
+    lines = [b"# " + finding_text(ranks, it) for it in found]
+    ends = text_of([*lines, b"# findings %d" % len(found)])
+    return b"# counterexample, %s\n" % size + instance_text(ranks, plan.scripts, nodes) + ends
 
 
 def text_of(lines: Sequence[bytes]) -> bytes:
     return b"".join(it + b"\n" for it in lines)
+
+
+# The largest instance.
+
+
+def judge_limits(pattern: Pattern) -> None:
+    """The fourth pass: raises what the largest instance that is judged is refused for. It has too
+    many turns that may be left out, or with all of them taken, and all ranks apart, it is no plan
+    within the limits."""
+    ranks = Ranks(pattern, [it.most for it in pattern.roles])
+    turns = [(rank, it) for rank in range(ranks.count) for it in ranks.optional(rank)]
+    for rank, turn in turns[MOST_TURNS:]:
+        raise Refused("TooMany", pattern.roles[ranks.role[rank]].steps[turn.step].at)
+    scripts = [ranks.script(it, frozenset()) for it in range(ranks.count)]
+    lines = [*written(ranks, scripts, range(ranks.count))]
+    try:
+        grammar.read(text_of([it.text for it in lines]))
+    except Refused as why:
+        raise Refused(why.name, lines[why.line - 1].at) from why
+
+
+def read_pattern(text: bytes) -> Pattern:
+    """The pattern of a file. Raises what it's refused for."""
+    pattern = pattern_grammar.read(text)
+    judge_limits(pattern)
+    return pattern
 
 
 # What is judged.
@@ -281,7 +329,7 @@ def all_statuses(verdict: Verdict, event: tuple[int, int], call: Call) -> set[by
 
 def judge(text: bytes) -> tuple[int, bytes, bytes]:
     """The exit status, what is written, and what `--answers` adds."""
-    judge = Judge(read(text))
+    judge = Judge(read_pattern(text))
     shown = judge.counterexample()
     if shown:
         return 1, shown, b""

@@ -21,7 +21,7 @@ from typing import NamedTuple, Optional
 import grammar
 import pattern_grammar
 import pattern_reference
-from pattern_plan import Plan
+from pattern_plan import Script
 from pattern_reference import CLEAN, Ranks
 from random_plans import styled
 from soaking import Difference, Ran, Runner, same
@@ -34,16 +34,15 @@ CHECK, ANSWERS = ("check", "--pattern"), ("check", "--pattern", "--answers")
 
 
 class Instance(NamedTuple):
-    """One instance of a pattern: its ranks, its plan, and the node of each rank."""
+    """One instance of a pattern: its ranks with their scripts, and the node of each."""
 
     ranks: Ranks
-    plan: Plan
+    scripts: list[Script]
     nodes: list[int]
 
     @property
     def text(self) -> bytes:
-        lines = pattern_reference.instance_lines(self.ranks, self.plan, self.nodes)
-        return pattern_reference.text_of(lines)
+        return pattern_reference.instance_text(self.ranks, self.scripts, self.nodes)
 
 
 @functools.cache
@@ -82,7 +81,7 @@ def larger_instance(pattern: pattern_grammar.Pattern, dice: random.Random) -> In
     ]
     hosts = dice.choice((1, 2, 3, 64))
     nodes = canonical_nodes([dice.randrange(hosts) for _ in scripts])
-    return Instance(ranks, Plan(pattern.keeps, scripts), nodes)
+    return Instance(ranks, scripts, nodes)
 
 
 def placed(count: int, size: int) -> list[tuple[list[str], list[int]]]:
@@ -146,7 +145,7 @@ class Look:
         for _ in range(LARGER):
             it = larger_instance(self.pattern, self.dice)
             is_plan = it.ranks.count <= grammar.LIMITS[b"2"].ranks
-            if is_plan and sum(len(script.calls) for script in it.plan.scripts) <= MOST_CALLS:
+            if is_plan and sum(len(script.calls) for script in it.scripts) <= MOST_CALLS:
                 text = it.text
                 checked = self.runner.run("check", given=text)
                 if checked.status != 2:
@@ -169,7 +168,7 @@ class Look:
         ]
         words, nodes = self.dice.choice(placed(ranks.count, self.dice.choice((1, 2, 3))))
         told = ["--ranks", b",".join(counts).decode()] if counts else []
-        wanted = Instance(ranks, Plan(self.pattern.keeps, scripts), nodes).text
+        wanted = Instance(ranks, scripts, nodes).text
         ran = self.runner.run("expand", *told, *words, self.path)
         same("another text of expand", Ran(0, wanted, b""), ran, [*told, *words])
         self.runner.held["expand"] += 1
@@ -188,7 +187,7 @@ def look(runner: Runner, text: bytes, seed: int) -> str:
     """Looks at a pattern. Answers whether it was refused, or has findings, or has none, or is too
     large to look at. Raises a difference."""
     try:
-        pattern = pattern_grammar.read(text)
+        pattern = pattern_reference.read_pattern(text)
     except grammar.Refused as why:
         at_refusal(runner, text, why.said())
         return "refused"

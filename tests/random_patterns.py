@@ -22,6 +22,8 @@ WORDS = b"""
     k[root] k[[self]] k[self][each] put commit fence collect get get-now publish lookup lookup-wait
     unpublish local remote global rank node # a,b
 """.split()
+NOT_ROLES = (b"self", b"each", b"all", b"app:*", b"srv:*")
+ITEM = re.compile(rb"(?<=[ ,[])(?:%s)(?=[],\s])" % b"|".join([*ROLES, b"self", b"each", b"all"]))
 # What a damage may bring: words of the grammar, words that are too long, words of plans.
 ODD_WORDS = [
     *WORDS,
@@ -309,13 +311,14 @@ def with_word(dice: random.Random, text: bytes) -> bytes:
 
 
 def with_item(dice: random.Random, text: bytes) -> bytes:
-    """A name in a word takes the place of another."""
-    spans = [it.span() for it in re.finditer(rb"[a-z]+", text)]
+    """A role, or what stands in its place, takes the place of another."""
+    spans = [it.span() for it in ITEM.finditer(text)]
     if not spans:
         return text
     start, end = dice.choice(spans)
     other = dice.choice(spans)
-    return text[:start] + text[other[0]:other[1]] + text[end:]
+    item = dice.choice((text[other[0]:other[1]], *NOT_ROLES))
+    return text[:start] + item + text[end:]
 
 
 DAMAGES: tuple[Callable[[random.Random, bytes], bytes], ...] = (

@@ -8,7 +8,6 @@ import unittest
 
 import grammar
 import pattern_faults
-import pattern_grammar
 import pattern_reference
 import pattern_soaking
 import random_patterns
@@ -59,7 +58,7 @@ def small_patterns(count: int) -> list[bytes]:
         lines = random_patterns.pattern_lines(random.Random(seed))
         text = pattern_reference.text_of([b" ".join(it) for it in lines])
         try:
-            pattern = pattern_grammar.read(text)
+            pattern = pattern_reference.read_pattern(text)
         except grammar.Refused:
             continue
         if pattern_reference.instance_count(pattern) <= MOST_INSTANCES:
@@ -79,7 +78,7 @@ class Reference(unittest.TestCase):
         for it in examples(".fault"):
             with self.subTest(it):
                 with self.assertRaises(grammar.Refused) as refused:
-                    pattern_grammar.read(text_at(f"{it}.pattern"))
+                    pattern_reference.read_pattern(text_at(f"{it}.pattern"))
                 self.assertEqual(text_at(f"{it}.fault"), refused.exception.said())
 
     def test_all_examples_have_one(self) -> None:
@@ -90,14 +89,14 @@ class Reference(unittest.TestCase):
         for it in pattern_faults.refusals():
             with self.subTest(it.lines[:200]):
                 with self.assertRaises(grammar.Refused) as refused:
-                    pattern_grammar.read(it.text)
+                    pattern_reference.read_pattern(it.text)
                 found = refused.exception
                 self.assertEqual((it.fault, it.line), (found.name, found.line))
 
     def test_taken(self) -> None:
         for it in pattern_faults.taken():
             with self.subTest(it[:200]):
-                pattern_grammar.read(pattern_faults.text_of(it))
+                pattern_reference.read_pattern(pattern_faults.text_of(it))
 
     def test_statuses(self) -> None:
         """A status is named if some placement brings it, in the order of the statuses."""
@@ -148,7 +147,7 @@ class Program(ProgramCase):
         for it in pattern_faults.taken():
             with self.subTest(it[:200]):
                 given = pattern_faults.text_of(it)
-                count = pattern_reference.instance_count(pattern_grammar.read(given))
+                count = pattern_reference.instance_count(pattern_reference.read_pattern(given))
                 if count <= MOST_INSTANCES:
                     status, wrote, _ = pattern_reference.judge(given)
                     self.hold(Run(it, ["check", "--pattern"], given, status=status, wrote=wrote))
