@@ -80,7 +80,7 @@ def words() -> Iterator[Refusal]:
     """The words of call lines."""
     for word in ("*", "*[self]", "k[", "k[]", "k]", "[self]", "k[self", "k[self]x", "k[self,]"):
         yield Refusal(f"{GROUP}lookup {word}", "BadLine", 4)
-    for word in ("k[,self]", "k[[self]]", "k[self][self]", "k[all]", "k[some]", "k[app:0]", "k[app:*]"):
+    for word in ("k[,self]", "k[[self]]", "k[self][self]", "k[all]", "k[app:0]", "k[app:*]"):
         yield Refusal(f"{GROUP}lookup {word}", "BadLine", 4)
     for word in ("all", "app:0", "app:*", "self,self", "some", "cyclic", "a["):
         yield Refusal(f"{GROUP}get {word} k", "BadLine", 4)

@@ -87,11 +87,10 @@ def larger_instance(pattern: pattern_grammar.Pattern, dice: random.Random) -> In
 def placed(count: int, size: int) -> list[tuple[list[str], list[int]]]:
     """The options of `expand` that place so many ranks, each with the nodes: all apart, so many on
     each node, and in turn on so many nodes."""
-    hosts = max(1, min(size, count))
     return [
         ([], [*range(count)]),
         (["--per-node", str(size)], [it // size for it in range(count)]),
-        (["--by", "node", "--nodes", str(hosts)], [it % hosts for it in range(count)]),
+        (["--by", "node", "--nodes", str(size)], [it % size for it in range(count)]),
     ]
 
 
