@@ -1,9 +1,6 @@
 use Rattle.std.proofs.Common.{◌∙◌, ap, sym, subst}
 use Rattle.wire_content.specs.Planned.{plan_of}
-use Rattle.wire_runs.specs.State.{start}
-use Rattle.wire_runs.specs.Step.{IsInterleaving, IsEnd, run}
 use Rattle.wire_runs.specs.Races.{IsSettled}
-use Rattle.wire_runs.specs.Ends.{outcome}
 use Rattle.wire_core.specs.EndsAfter.{plain_ends}
 use Rattle.wire_collect.proofs.AtRest.{ends_plainly}
 use Rattle.wire_collect.proofs.by_core.end_outcome.Goals as goal
