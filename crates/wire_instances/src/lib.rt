@@ -13,4 +13,5 @@ mod words;
 pub use cast::{Cast, Choice, Nodes, Turn, is_cast, process_total};
 pub use nodes::{all_alone, dealt, paired, per_node};
 pub use numbers::{instance_lines, pattern_fault};
+pub use tables::roles_by;
 pub use text::write_instance;

@@ -37,7 +37,7 @@ fn push_copies(out: &mut Vec<u32>, value: u32, count: u32) -> Result<(), AllocEr
 }
 
 /// The role of each process, where the roles have these sizes.
-pub(crate) fn roles_by(alloc: Global, sizes: &[u32]) -> Result<Vec<u32>, AllocError>
+pub fn roles_by(alloc: Global, sizes: &[u32]) -> Result<Vec<u32>, AllocError>
     requires { length sizes.now < 2 ^ 31 }
     ensures { IfOk result (λ v. v.items ≡ roles_from 0 sizes.now) }
 {
