@@ -86,7 +86,11 @@ fn group_size(asked: &[Asked], role: &Role) -> u32
 /// How many processes each role has: a single one 1, a group as many as are asked for, or else its least number. Nothing
 /// where a name that is asked for isn't that of a group, or is there twice, or where the number is lower than the group's
 /// least.
-pub fn sizes_asked(alloc: Global, pattern: &Pattern, asked: &[Asked]) -> Result<Option<Vec<u32>>, AllocError>
+pub fn sizes_asked(
+    alloc: Global,
+    pattern: &Pattern,
+    asked: &[Asked],
+) -> Result<Option<Vec<u32>>, AllocError>
     ensures fit { IfOk result (λ o. MatchOption o (spec.are_fit pattern.now.roles (map asked_by asked.now) ≡ false)
         (λ v. spec.are_fit pattern.now.roles (map asked_by asked.now) ≡ true)) }
     ensures sizes { IfOk result (λ o. IfSome o (λ v. v.items ≡ map (spec.size_asked (map asked_by asked.now)) pattern.now.roles)) }
@@ -98,7 +102,11 @@ pub fn sizes_asked(alloc: Global, pattern: &Pattern, asked: &[Asked]) -> Result<
     }
     let mut sizes = Vec::with_capacity(alloc, roles.len())?;
     for role in roles {
-        let size = if role.single { 1 } else { group_size(asked, role) };
+        let size = if role.single {
+            1
+        } else {
+            group_size(asked, role)
+        };
         sizes.push(size)?;
     }
     Ok(Some(sizes))
