@@ -1,4 +1,4 @@
--- What the tables of an instance hold: for private contracts alone.
+-- Sizes of a cast; and, for private contracts alone, what the tables of an instance hold.
 use Rattle.std.specs.Prelude.{◌≡◌, ◌≤◌, ◌<◌, ◌==◌, ◌&&◌, ℕ, suc, Bool, true, false, not, nat_le, nat_lt, List, length, take, sum_by, map, count_by}
 use Rattle.std.specs.Prelude.{slice_get, slice_index_or, Some}
 use Rattle.wire_runs.specs.Patterns.{Cast, Turns, Round, Chosen}
