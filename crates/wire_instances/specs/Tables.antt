@@ -1,5 +1,6 @@
 -- Sizes of a cast; and, for private contracts alone, what the tables of an instance hold.
-use Rattle.std.specs.Prelude.{◌≡◌, ◌≤◌, ◌<◌, ◌==◌, ◌&&◌, ℕ, suc, Bool, true, false, not, nat_le, nat_lt, List, length, take, sum_by, map, count_by}
+use Rattle.std.specs.Prelude.{◌≡◌, ◌≤◌, ◌<◌, ◌==◌, ◌&&◌, ℕ, suc, Bool, true, false, not, nat_le, nat_lt, List}
+use Rattle.std.specs.Prelude.{length, take, sum_by, map, count_by}
 use Rattle.std.specs.Prelude.{slice_get, slice_index_or, Some}
 use Rattle.wire_runs.specs.Patterns.{Cast, Turns, Round, Chosen}
 use Rattle.wire_pattern.specs.Pattern.{Pattern, Role}

@@ -55,4 +55,5 @@ operands_text said.UnpublishAll = []
 abbrev pub role_lines : Pattern → Cast → ℕ → ℕ → ℕ → List ℕ
 role_lines p cast role v zero = []
 role_lines p cast role v (suc n) =
-    (number_in (slice_get p.roles role) ∷ steps_lines cast v 0 (steps_in (slice_get p.roles role))) ++ role_lines p cast role (suc v) n
+    (number_in (slice_get p.roles role) ∷ steps_lines cast v 0 (steps_in (slice_get p.roles role)))
+    ++ role_lines p cast role (suc v) n

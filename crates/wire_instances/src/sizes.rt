@@ -1,6 +1,7 @@
 //! How many processes the roles of an instance have, where some groups are named.
 
-ghost use Rattle.std.specs.Prelude.{◌≡◌, ◌≤◌, ◌<◌, ◌^◌, ℕ, true, false, map, sum_by, length, IfOk, IfErr, IfSome, MatchOption};
+ghost use Rattle.std.specs.Prelude.{◌≡◌, ◌≤◌, ◌<◌, ◌^◌, ℕ, true, false, map, sum_by, length, IfOk, IfErr, IfSome};
+ghost use Rattle.std.specs.Prelude.{MatchOption};
 ghost use Rattle.std.specs.Str.{bytes_eq};
 ghost use Rattle.wire_pattern.specs.Shown.{role_by};
 ghost use Rattle.wire_instances.specs.Asked as spec;
@@ -83,9 +84,9 @@ fn group_size(asked: &[Asked], role: &Role) -> u32
     role.least
 }
 
-/// How many processes each role has: a single one 1, a group as many as are asked for, or else its least number. Nothing
-/// where a name that is asked for isn't that of a group, or is there twice, or where the number is lower than the group's
-/// least.
+/// How many processes each role has: a single one 1, a group as many as are asked for, or else its least number.
+/// Nothing where a name that is asked for isn't that of a group, or is there twice, or where the number is lower than
+/// the group's least.
 pub fn sizes_asked(
     alloc: Global,
     pattern: &Pattern,
@@ -112,8 +113,8 @@ pub fn sizes_asked(
     Ok(Some(sizes))
 }
 
-/// How many processes roles of these sizes have. If these are more than `most`, the fault is TooMany, with the line of the
-/// role with whose processes they are.
+/// How many processes roles of these sizes have. If these are more than `most`, the fault is TooMany, with the line
+/// of the role with whose processes they are.
 pub fn processes_within(pattern: &Pattern, sizes: &[u32], most: u32) -> Result<u32, Fault>
     requires { length sizes.now ≡ length pattern.now.roles }
     ensures ok { IfOk result (λ total. total ≡ sum_by (λ (size : ℕ). size) sizes.now) }
