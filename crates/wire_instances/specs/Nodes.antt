@@ -1,5 +1,5 @@
 -- Nodes for so many processes.
-use Rattle.std.specs.Prelude.{◌≡◌, ◌<◌, ◌^◌, ◌==◌, ◌/◌, ◌%◌, ◌+◌, ◌↔◌, ℕ, suc, pred, min, nat_lt, true, length}
+use Rattle.std.specs.Prelude.{◌≡◌, ◌<◌, ◌^◌, ◌==◌, ◌/◌, ◌%◌, ◌↔◌, ℕ, suc, pred, min, nat_lt, true, length}
 use Rattle.std.specs.Prelude.{slice_index_or, if◌then◌else◌}
 use Rattle.std.specs.List.{list_all}
 use Rattle.wire_runs.specs.Embeddings.{pair}

@@ -1,5 +1,5 @@
 -- Parts of the text of an instance: for private contracts alone.
-use Rattle.std.specs.Prelude.{ℕ, zero, suc, ◌+◌, List, [], ◌∷◌, ◌++◌, map, flat_map, codes, slice_get}
+use Rattle.std.specs.Prelude.{ℕ, zero, suc, List, [], ◌∷◌, ◌++◌, map, flat_map, codes, slice_get}
 use Rattle.wire_types.specs.Said as said
 use Rattle.wire_types.specs.Said.{spelled_scope, spelled_set, spelled_proc, collect_words}
 use Rattle.wire_content.specs.Canonical.{line_text}
