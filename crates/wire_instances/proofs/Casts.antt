@@ -1,7 +1,6 @@
 -- What makes a cast one of a pattern.
-use Rattle.std.proofs.Common.{◌≡◌, ◌∙◌, ap, sym, subst, refl, ℕ, ◌^◌, ◌<◌, ◌≤◌, List, length, true, Some, arith}
-use Rattle.std.specs.Prelude.{slice_get, sum_by, nat_lt}
-use Rattle.std.specs.List.{list_all}
+use Rattle.std.proofs.Common.{◌≡◌, ◌∙◌, ap, sym, ℕ, ◌^◌, ◌<◌, ◌≤◌, List, length, arith}
+use Rattle.std.specs.Prelude.{slice_get, sum_by}
 use Rattle.wire_pattern.specs.Pattern.{Pattern, Role}
 use Rattle.wire_pattern.specs.Planned.{single_in}
 use Rattle.wire_pattern.specs.Instances.{IsCast}

@@ -1,5 +1,5 @@
 -- One more element of a list is written.
-use Rattle.std.proofs.Common.{◌≡◌, ◌∙◌, ap, sym, refl, ℕ, zero, suc, ◌+◌, ◌-◌, ◌<◌, ◌==◌, List, [], ◌∷◌, ◌++◌, Option, Some, None, Bool, true, false, cond, length, map, flat_map, drop, get_or, append_assoc, append-nil, arith, add-one, codes}
+use Rattle.std.proofs.Common.{◌≡◌, ◌∙◌, ap, sym, ℕ, suc, ◌+◌, ◌-◌, ◌<◌, ◌==◌, List, [], ◌∷◌, ◌++◌, Some, true, false, length, map, flat_map, drop, get_or, append_assoc, arith, add-one}
 use Rattle.std.specs.Prelude.{slice_get, slice_index_or}
 use Rattle.std.specs.List.{range_with_len}
 use Rattle.std.proofs.lemmas.Grind.{flat_map-append}
@@ -7,7 +7,7 @@ use Rattle.std.proofs.lemmas.List.{get_or-map, length-map}
 use Rattle.std.proofs.lemmas.Bool.{eq-eqb, ne_eqb}
 use Rattle.std.proofs.lemmas.Option.{slice_get-get_or}
 use Rattle.wire_types.specs.Said as said
-use Rattle.wire_content.specs.Canonical.{line_text, words_text, items_text}
+use Rattle.wire_content.specs.Canonical.{line_text, items_text}
 use Rattle.wire_pattern.specs.declared.step.Line.{Line}
 use Rattle.wire_pattern.specs.declared.step.Step.{Step}
 use Rattle.wire_pattern.specs.declared.pattern.Role.{Role}
@@ -22,7 +22,7 @@ use Rattle.wire_pattern.specs.Instances.{step_lines, steps_lines, members_lines,
 use Rattle.wire_instances.specs.Tables.{first_of}
 use Rattle.wire_instances.specs.Written.{calls_text, role_said, role_lines, ended_text}
 use Rattle.wire_instances.proofs.Ranges.{opened}
-use Rattle.wire_instances.proofs.Texts.{moved, opened_list, calls_append, items_append, spaced}
+use Rattle.wire_instances.proofs.Texts.{moved, opened_list, calls_append, items_append}
 use Rattle.wire_instances.proofs.Members.{said_role, said_none, lines_role, lines_none, said_process, lines_process, said_node, lines_node}
 
 -- a mapped list, opened

@@ -1,6 +1,6 @@
 -- The processes of a job, one role after the other.
-use Rattle.std.proofs.Common.{◌≡◌, ◌∙◌, ap, sym, refl, ℕ, zero, suc, ◌+◌, ◌-◌, ◌<◌, ◌==◌, List, [], ◌∷◌, ◌++◌, Bool, true, false, cond, get_or, length, take, drop, replicate, append_assoc, arith, add-one, add-zero}
-use Rattle.std.specs.Prelude.{slice_get, slice_index_or, sum_by}
+use Rattle.std.proofs.Common.{◌≡◌, ◌∙◌, ap, sym, ℕ, zero, suc, ◌+◌, ◌-◌, ◌<◌, ◌==◌, List, [], ◌∷◌, ◌++◌, Bool, true, false, cond, length, drop, replicate, append_assoc, arith, add-one, add-zero}
+use Rattle.std.specs.Prelude.{slice_get, slice_index_or}
 use Rattle.std.proofs.lemmas.List.Sums.{sum_by_more}
 use Rattle.wire_types.specs.Said as said
 use Rattle.wire_pattern.specs.Pattern.{Pattern}

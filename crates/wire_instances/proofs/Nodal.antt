@@ -1,6 +1,6 @@
 -- Lists of nodes that a function gives.
-use Rattle.std.proofs.Common.{◌≡◌, ◌∙◌, ap, sym, refl, subst, ℕ, zero, suc, pred, ◌+◌, ◌-◌, ◌*◌, ◌/◌, ◌%◌, ◌^◌, ◌<◌, ◌≤◌, ◌==◌, ◌⊎◌, inl, inr, List, [], ◌∷◌, ◌++◌, Bool, true, false, cond, length, map, arith, min}
-use Rattle.std.specs.Prelude.{nat_lt, slice_index_or, if◌then◌else◌, ◌↔◌, ◌&&◌}
+use Rattle.std.proofs.Common.{◌≡◌, ◌∙◌, ap, sym, refl, ℕ, zero, suc, pred, ◌+◌, ◌-◌, ◌*◌, ◌/◌, ◌%◌, ◌^◌, ◌<◌, ◌≤◌, ◌⊎◌, inl, inr, List, [], ◌∷◌, ◌++◌, true, false, cond, length, map, arith, min}
+use Rattle.std.specs.Prelude.{nat_lt, slice_index_or, if◌then◌else◌, ◌↔◌}
 use Rattle.std.specs.List.{list_all, range_with_len}
 use Rattle.std.proofs.lemmas.Bool.Decides.{nat_tests}
 use Rattle.std.proofs.lemmas.List.FromFn.{length-map-range_with_len, get_or-map-range_with_len, map-range_with_len_more}
@@ -9,7 +9,7 @@ use Rattle.std.proofs.Math.Nat.{div-mul-le_self, mul-div_cancel, mod-eq-sub-div-
 use Rattle.std.proofs.lemmas.Bool.{eq-eqb, ne_eqb, cases_eq, cases_lt}
 use Rattle.wire_runs.specs.Embeddings.{pair}
 use Rattle.wire_instances.specs.declared.cast.Nodes.{Nodes}
-use Rattle.wire_instances.specs.Nodes.{node_of, AreNodes, paired_node, ArePaired, AreAlone, ArePerNode, AreDealt}
+use Rattle.wire_instances.specs.Nodes.{node_of, AreNodes, paired_node, ArePaired, ArePerNode}
 
 lower : (a b : ℕ) → a < b → nat_lt a b ≡ true
 lower a b h = grind (arith, nat_tests)

@@ -1,7 +1,8 @@
 -- The fault of an instance's text as a fault of the pattern.
 use Rattle.std.specs.Prelude.{ℕ, ◌-◌, List, slice_index_or}
 use Rattle.wire_types.specs.declared.fault.Fault.{Fault}
-use Rattle.wire_types.specs.declared.fault.Fault.TheVariants.{TooLong, BadHeader, BadLine, UnknownName, Twice, NotMember, TooMany}
+use Rattle.wire_types.specs.declared.fault.Fault.TheVariants.{TooLong, BadHeader, BadLine, UnknownName, Twice}
+use Rattle.wire_types.specs.declared.fault.Fault.TheVariants.{NotMember, TooMany}
 
 -- of the line n, counted from 1, the number in this list; 0 past its end
 abbrev pub line_in : List ℕ → ℕ → ℕ

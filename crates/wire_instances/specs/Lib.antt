@@ -3,3 +3,4 @@ pub mod Nodes
 pub mod Tables
 pub mod Written
 pub mod Faults
+pub mod Asked

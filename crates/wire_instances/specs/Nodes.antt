@@ -1,5 +1,5 @@
 -- Nodes for so many processes.
-use Rattle.std.specs.Prelude.{◌≡◌, ◌<◌, ◌^◌, ◌==◌, ◌/◌, ◌%◌, ◌+◌, ◌↔◌, ℕ, suc, pred, min, nat_lt, true, length}
+use Rattle.std.specs.Prelude.{◌≡◌, ◌<◌, ◌^◌, ◌==◌, ◌/◌, ◌%◌, ◌↔◌, ℕ, suc, pred, min, nat_lt, true, length}
 use Rattle.std.specs.Prelude.{slice_index_or, if◌then◌else◌}
 use Rattle.std.specs.List.{list_all}
 use Rattle.wire_runs.specs.Embeddings.{pair}
@@ -20,15 +20,16 @@ pub record AreAlone (processes : ℕ) (nodes : Nodes) : Type 0 where
   pub count : nodes.count ≡ processes
   pub node : (v : ℕ) → v < processes → node_of nodes v ≡ v
 
--- the processes a and b, a the lower, share a node; all others are alone; nodes are numbered in the order of their first
--- processes
+-- the processes a and b, a the lower, share a node; all others are alone; nodes are numbered in the order of their
+-- first processes
 abbrev pub paired_node : ℕ → ℕ → ℕ → ℕ
 paired_node a b v = if v == b then a else (if nat_lt v b then v else pred v)
 
 pub record ArePaired (processes a b : ℕ) (nodes : Nodes) : Type 0 where
   pub count : suc nodes.count ≡ processes
   pub node : (v : ℕ) → v < processes → node_of nodes v ≡ paired_node a b v
-  pub together : (v w : ℕ) → v < processes → w < processes → (node_of nodes v ≡ node_of nodes w) ↔ (pair a b v ≡ pair a b w)
+  pub together : (v w : ℕ) → v < processes → w < processes →
+      (node_of nodes v ≡ node_of nodes w) ↔ (pair a b v ≡ pair a b w)
 
 -- so many processes on each node, in their order; no node is without a process
 pub record ArePerNode (processes each : ℕ) (nodes : Nodes) : Type 0 where

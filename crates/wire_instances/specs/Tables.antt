@@ -1,7 +1,8 @@
--- What the tables of an instance hold: for private contracts alone.
-use Rattle.std.specs.Prelude.{◌≡◌, ◌≤◌, ◌<◌, ◌==◌, ◌&&◌, ℕ, suc, Bool, true, false, not, nat_le, nat_lt, List, length, take, sum_by, map, count_by}
+-- Sizes of a cast; and, for private contracts alone, what the tables of an instance hold.
+use Rattle.std.specs.Prelude.{◌≡◌, ◌≤◌, ◌<◌, ◌==◌, ◌&&◌, ℕ, suc, Bool, true, false, not, nat_le, nat_lt, List}
+use Rattle.std.specs.Prelude.{length, take, sum_by, map, count_by}
 use Rattle.std.specs.Prelude.{slice_get, slice_index_or, Some}
-use Rattle.wire_runs.specs.Patterns.{Cast, Turns, InOrder, Round, Chosen}
+use Rattle.wire_runs.specs.Patterns.{Cast, Turns, Round, Chosen}
 use Rattle.wire_pattern.specs.Pattern.{Pattern, Role}
 use Rattle.wire_pattern.specs.Lawful.{IsSound}
 use Rattle.wire_pattern.specs.Planned.{single_in}

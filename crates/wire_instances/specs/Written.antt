@@ -1,5 +1,5 @@
 -- Parts of the text of an instance: for private contracts alone.
-use Rattle.std.specs.Prelude.{ℕ, zero, suc, ◌+◌, List, [], ◌∷◌, ◌++◌, map, flat_map, codes, slice_get}
+use Rattle.std.specs.Prelude.{ℕ, zero, suc, List, [], ◌∷◌, ◌++◌, map, flat_map, codes, slice_get}
 use Rattle.wire_types.specs.Said as said
 use Rattle.wire_types.specs.Said.{spelled_scope, spelled_set, spelled_proc, collect_words}
 use Rattle.wire_content.specs.Canonical.{line_text}
@@ -55,4 +55,5 @@ operands_text said.UnpublishAll = []
 abbrev pub role_lines : Pattern → Cast → ℕ → ℕ → ℕ → List ℕ
 role_lines p cast role v zero = []
 role_lines p cast role v (suc n) =
-    (number_in (slice_get p.roles role) ∷ steps_lines cast v 0 (steps_in (slice_get p.roles role))) ++ role_lines p cast role (suc v) n
+    (number_in (slice_get p.roles role) ∷ steps_lines cast v 0 (steps_in (slice_get p.roles role)))
+    ++ role_lines p cast role (suc v) n

@@ -31,8 +31,8 @@ pub struct Nodes {
     pub of: Vec<u32>,
 }
 
-/// How many processes each role has, which turns of loops of `for some` are taken, and the nodes of the processes. Turns
-/// that aren't listed are taken.
+/// How many processes each role has, which turns of loops of `for some` are taken, and the nodes of the processes.
+/// Turns that aren't listed are taken.
 #[derive(Drop)]
 pub struct Cast {
     pub sizes: Vec<u32>,
@@ -93,8 +93,8 @@ fn are_nodes(processes: u32, nodes: &Nodes) -> bool
     true
 }
 
-/// Whether this is a cast of the pattern: each role has a size, that of a single role is 1, each process has a node, and
-/// processes and nodes are fewer than 2^31.
+/// Whether this is a cast of the pattern: each role has a size, that of a single role is 1, each process has a node,
+/// and processes and nodes are fewer than 2^31.
 pub fn is_cast(pattern: &Pattern, cast: &Cast) -> bool
     ensures { IsTrue result ↔ IsCast pattern.now (cast_by cast.now) }
 {

@@ -1,6 +1,7 @@
 //! A pattern with a cast, and what the text of the instance needs to know of its processes.
 
-ghost use Rattle.std.specs.Prelude.{◌≡◌, ◌≤◌, ◌<◌, ◌-◌, ◌++◌, ℕ, IfOk, OnOk, filter, map, nat_lt, true, length, ◌+◌, slice_index_or};
+ghost use Rattle.std.specs.Prelude.{◌≡◌, ◌≤◌, ◌<◌, ◌-◌, ◌++◌, ℕ, IfOk, OnOk, filter, map, nat_lt, true, length};
+ghost use Rattle.std.specs.Prelude.{◌+◌, slice_index_or};
 ghost use Rattle.std.specs.List.{range_with_len, list_all};
 ghost use Rattle.wire_runs.specs.Patterns as plan;
 ghost use Rattle.wire_runs.specs.Patterns.{group};

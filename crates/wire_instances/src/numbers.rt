@@ -1,6 +1,7 @@
 //! The lines of the pattern's file from which the lines of an instance's text come.
 
-ghost use Rattle.std.specs.Prelude.{◌≡◌, ◌<◌, ◌++◌, ◌∷◌, [], ℕ, IfOk, OnOk, map, flat_map, Some, length, slice_get, slice_index_or};
+ghost use Rattle.std.specs.Prelude.{◌≡◌, ◌<◌, ◌++◌, ◌∷◌, [], ℕ, IfOk, OnOk, map, flat_map, Some, length, slice_get};
+ghost use Rattle.std.specs.Prelude.{slice_index_or};
 ghost use Rattle.wire_pattern.specs.Instances as spec;
 ghost use Rattle.wire_pattern.specs.Instances.{IsCast, process_count, cast_of};
 ghost use Rattle.wire_pattern.specs.Shown.{line_by, step_by, role_by};
@@ -33,8 +34,8 @@ pub fn instance_lines(alloc: Global, pattern: &Pattern, cast: &Cast) -> Result<V
     Ok(out)
 }
 
-/// What a fault of the instance's text is as a fault of the pattern: a line is replaced by that of the pattern's file that
-/// it comes from. A fault without a line stays.
+/// What a fault of the instance's text is as a fault of the pattern: a line is replaced by that of the pattern's file
+/// that it comes from. A fault without a line stays.
 pub fn pattern_fault(
     alloc: Global,
     pattern: &Pattern,

@@ -1,6 +1,7 @@
 //! Tables of an instance: the first process of each role, and of each process its job and its rank there.
 
-ghost use Rattle.std.specs.Prelude.{◌≡◌, ◌≤◌, ◌<◌, ◌^◌, ◌+◌, ◌++◌, ◌==◌, ℕ, IfOk, OnOk, sum_by, take, length, map, replicate};
+ghost use Rattle.std.specs.Prelude.{◌≡◌, ◌≤◌, ◌<◌, ◌^◌, ◌+◌, ◌++◌, ◌==◌, ℕ, IfOk, OnOk, sum_by, take, length, map};
+ghost use Rattle.std.specs.Prelude.{replicate};
 ghost use Rattle.std.specs.Prelude.{slice_get, slice_index_or};
 ghost use Rattle.wire_pattern.specs.Instances.{roles_from, job_in};
 ghost use Rattle.wire_pattern.specs.Shown.{role_by};

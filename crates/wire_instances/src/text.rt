@@ -1,6 +1,7 @@
 //! The text of an instance.
 
-ghost use Rattle.std.specs.Prelude.{◌≡◌, ◌≤◌, ◌<◌, ◌-◌, ◌++◌, ◌∷◌, [], ℕ, IfOk, OnOk, map, flat_map, Some, true, length, nat_lt, slice_get, slice_index_or};
+ghost use Rattle.std.specs.Prelude.{◌≡◌, ◌≤◌, ◌<◌, ◌-◌, ◌++◌, ◌∷◌, [], ℕ, IfOk, OnOk, map, flat_map, Some, true};
+ghost use Rattle.std.specs.Prelude.{length, nat_lt, slice_get, slice_index_or};
 ghost use Rattle.std.specs.List.{list_all};
 ghost use Rattle.wire_types.specs.Said as said;
 ghost use Rattle.wire_types.specs.declared.Version.TheVariants.{Two};
@@ -219,8 +220,8 @@ fn write_header(out: &mut Vec<u8>, keeps: bool) -> Result<(), AllocError>
     }
 }
 
-/// The text of the instance with this cast: the header of version 2, `keep` where the pattern keeps what gets bring, the
-/// nodes `n0`, `n1` and so on, and the jobs with their processes.
+/// The text of the instance with this cast: the header of version 2, `keep` where the pattern keeps what gets bring,
+/// the nodes `n0`, `n1` and so on, and the jobs with their processes.
 pub fn write_instance(alloc: Global, pattern: &Pattern, cast: &Cast) -> Result<Vec<u8>, AllocError>
     requires { IsCast pattern.now (cast_by cast.now) }
     ensures { IfOk result (λ t. t.items ≡ instance_text pattern.now (cast_by cast.now)) }

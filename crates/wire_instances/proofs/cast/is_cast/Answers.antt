@@ -1,5 +1,5 @@
 use Rattle.std.proofs.lemmas.Bool.{false≢true}
-use Rattle.wire_instances.proofs.Casts.{too_many, cast_made, sizes_of, nodes_of}
+use Rattle.wire_instances.proofs.Casts.{too_many, cast_made, nodes_of}
 use Rattle.wire_instances.proofs.cast.is_cast.Goals as goal
 
 pub returns-in-None : goal.returns-in-None

@@ -1,6 +1,5 @@
-use Rattle.std.proofs.Common.{◌≡◌, ◌/◌, ◌%◌, map}
+use Rattle.std.proofs.Common.{◌≡◌, map}
 use Rattle.std.specs.List.{range_with_len}
-use Rattle.wire_instances.specs.Nodes.{paired_node}
 use Rattle.wire_instances.proofs.nodes.all_alone.Given as goal
 
 abbrev pub invariant-loop-process : goal.invariant-loop-process

@@ -1,5 +1,4 @@
-use Rattle.std.proofs.Common.{◌∙◌, ◌<◌, ◌%◌, refl, sym, ap, min, arith}
-use Rattle.wire_instances.specs.Nodes as spec
+use Rattle.std.proofs.Common.{◌%◌, refl, arith}
 use Rattle.wire_instances.proofs.Nodal.{one_more, ended, given, given_node, mod_below_both}
 use Rattle.wire_instances.proofs.nodes.dealt.Goals as goal
 

@@ -1,4 +1,4 @@
-use Rattle.std.proofs.Common.{refl, ◌/◌, ◌%◌, arith}
+use Rattle.std.proofs.Common.{arith}
 use Rattle.wire_instances.specs.Nodes as spec
 use Rattle.wire_instances.proofs.Nodal.{one_more, ended, given, given_node, paired_below, are_paired}
 use Rattle.wire_instances.proofs.nodes.paired.Goals as goal

@@ -1,4 +1,4 @@
-use Rattle.std.proofs.Common.{◌≡◌, ◌/◌, ◌%◌, map}
+use Rattle.std.proofs.Common.{◌≡◌, map}
 use Rattle.std.specs.List.{range_with_len}
 use Rattle.wire_instances.specs.Nodes.{paired_node}
 use Rattle.wire_instances.proofs.nodes.paired.Given as goal

@@ -1,5 +1,4 @@
-use Rattle.std.proofs.Common.{refl, ◌/◌, ◌%◌, arith}
-use Rattle.wire_instances.specs.Nodes as spec
+use Rattle.std.proofs.Common.{refl, ◌/◌, arith}
 use Rattle.wire_instances.proofs.Nodal.{one_more, ended, given, given_node, are_per_node}
 use Rattle.wire_instances.proofs.nodes.per_node.Goals as goal
 

@@ -1,5 +1,5 @@
-use Rattle.std.proofs.Common.{◌∙◌, ◌++◌, ◌∷◌, [], ◌-◌, ◌<◌, ap, sym, arith}
-use Rattle.wire_pattern.specs.Instances.{cast_of, nodes_lines}
+use Rattle.std.proofs.Common.{◌∙◌, ◌++◌, ◌∷◌, [], ◌<◌, ap, arith}
+use Rattle.wire_pattern.specs.Instances.{cast_of}
 use Rattle.wire_instances.proofs.Loops.{node_numbers}
 use Rattle.wire_instances.proofs.numbers.add_nodes.Goals as goal
 

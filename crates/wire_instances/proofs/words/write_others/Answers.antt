@@ -1,4 +1,4 @@
-use Rattle.std.proofs.Common.{◌∙◌, ◌++◌, ◌∷◌, [], ap, get_or}
+use Rattle.std.proofs.Common.{◌∙◌, ◌++◌, ap, get_or}
 use Rattle.wire_pattern.specs.declared.call.Who.{Who}
 use Rattle.wire_pattern.specs.declared.call.Who.TheVariants.{Only}
 use Rattle.wire_runs.specs.Patterns as plan
