@@ -80,6 +80,29 @@ class PagesTest(BrowserCase, report_support.PlanCase):
             self.browser.take_picture(os.path.join(room, name))
 
 
+# Changes to a page, by the function that must find each, and what that must say.
+FAULTS = {
+    "measurePage(1000)": ("document.body.style.minWidth = '1500px'", "the page is"),
+    "measureColours()": ("document.querySelector('h1').style.color = '#999'", "h1 "),
+    "measureFold(700)": ("document.body.style.paddingTop = '700px'", "header h1 ends"),
+    "measureFew(9)": ("document.querySelector('svg text').style.fontSize = '8px'", "letters of"),
+    "measureFew(8)": ("document.querySelector('figure svg').style.minWidth = '1200px'", "two l"),
+}
+
+
+class MeasureTest(BrowserCase):
+    """What is wrong with a page is found."""
+
+    def test_what_is_wrong(self) -> None:
+        page = report_support.make_page("early-get").page
+        self.browser.resize(1000, 700)
+        for call, (change, said) in FAULTS.items():
+            self.load(page)
+            self.assertEqual(self.ask(call), [])
+            self.browser.ask(f"{change}; 0")
+            self.assertTrue(any(it.startswith(said) for it in self.ask(call)), call)
+
+
 class PointingTest(BrowserCase):
     """While one points at a call of a diagram, all is lit that surely comes before it."""
 

@@ -18,10 +18,7 @@ from wire_up_tools.run.tables import Recorded, read_table
 
 # Plans that differ, and that the rules of a library don't explain: a node on which some callers of
 # a fence collect and some don't.
-UNEXPLAINED = {
-    "openpmix-5.0": ["collect-mixed-one-node"],
-    "slurm-24.11": ["collect-mixed-one-node"],
-}
+UNEXPLAINED = {"slurm-24.11": ["collect-mixed-one-node"]}
 PLANS = {it.name: it for it in read_suite()}
 
 

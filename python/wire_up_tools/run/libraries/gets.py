@@ -96,7 +96,20 @@ def answer_near(asked: Question) -> Reply:
         return succeed(put.here[asked.key])
     if asked.key in put.committed and put.committed[asked.key].scope == "remote":
         return NOT_FOUND if asked.has(Rule.REMOTE_ON_OWN_NODE) else OUTSIDE
-    return miss(asked)
+    return miss_near(asked)
+
+
+def miss_near(asked: Question) -> Reply:
+    """What a get of a rank on the same node gives that finds nothing yet."""
+    if not asked.waits or not asked.has(Rule.ANSWERED_AT_COMMIT):
+        return miss(asked)
+    name, commits = asked.caller.name, asked.put.commits
+    *of, before = asked.world.asked.get(name, (None, None, commits))
+    if of == [asked.owner.name, asked.key] and before < commits:
+        del asked.world.asked[name]
+        return NOT_FOUND
+    asked.world.asked[name] = (asked.owner.name, asked.key, commits)
+    return None
 
 
 def answer_far_now(asked: Question) -> Reply:
@@ -109,7 +122,7 @@ def answer_far(asked: Question) -> Reply:
     """What a get that waits gives of a rank on another node."""
     put, asks_at_once = asked.put, asked.traits.asks_owner_at_once
     is_at_once = asks_at_once and asked.has(Rule.OWNER_ANSWERS)
-    if not put.committed or (asked.key not in put.committed and not is_at_once):
+    if not put.commits or (asked.key not in put.committed and not is_at_once):
         return None
     if asked.key not in put.elsewhere:
         has_others = bool(put.elsewhere)

@@ -12,6 +12,8 @@ same ranks is another fence, and a rank that repeats makes it wait for ever"
     GET_BRINGS_ALL = "a get of a rank on another node brings all its keys to the caller's node"
     OWNER_ANSWERS = "a get of a rank on another node that has committed something doesn't wait for \
 another key"
+    ANSWERED_AT_COMMIT = "a get that waits for a rank of its node isn't found once that rank \
+commits, if that brings no such key"
     LOCAL_ELSEWHERE = "a key of scope local gives an error of the library on other nodes"
     RESERVED_KEYS = "reserved keys are taken like others, and some of the map isn't found"
     NAMES = "a second publish of a name succeeds, and so does an unpublish of what isn't there"
@@ -29,5 +31,11 @@ another key"
 EVERY_RULE = frozenset(Rule)
 # Those by which a reply can depend on which rank is fast, although nothing is found in the plan.
 TIMED = frozenset(
-    {Rule.KEPT_BY_CALLER, Rule.GET_BRINGS_ALL, Rule.OWNER_ANSWERS, Rule.FENCE_OF_NODE}
+    {
+        Rule.KEPT_BY_CALLER,
+        Rule.GET_BRINGS_ALL,
+        Rule.OWNER_ANSWERS,
+        Rule.ANSWERED_AT_COMMIT,
+        Rule.FENCE_OF_NODE,
+    }
 )

@@ -110,7 +110,8 @@ class Library:
 
 
 OPENPMIX_4 = Traits(
-    rules=COMMON | {Rule.OWNER_ANSWERS, Rule.MIXED_COLLECT, Rule.OWN_FROM_STORE},
+    rules=COMMON
+    | {Rule.OWNER_ANSWERS, Rule.ANSWERED_AT_COMMIT, Rule.MIXED_COLLECT, Rule.OWN_FROM_STORE},
     local_elsewhere="PMIX_STATUS(-13,HANDSHAKE-FAILED)",
     invalid="PMIX_STATUS(-33,INVALID-ARG)",
     asks_owner_at_once=True,
@@ -120,7 +121,9 @@ OPENPMIX_4 = Traits(
     several=Several.LAST,
     map_rule=MapRule.EVERY_RANK,
 )
-OPENPMIX_5 = Traits(rules=COMMON | {Rule.KEPT_BY_CALLER, Rule.COLLECT_BRINGS_NOTHING})
+OPENPMIX_5 = Traits(
+    rules=COMMON | {Rule.KEPT_BY_CALLER, Rule.COLLECT_BRINGS_NOTHING, Rule.ANSWERED_AT_COMMIT}
+)
 OPENPMIX_7 = Traits(
     rules=COMMON | {Rule.KEPT_BY_CALLER, Rule.MIXED_COLLECT},
     invalid="PMIX_STATUS(-33,INVALID_ARG)",

@@ -40,16 +40,19 @@ class Arrival:
 @dataclass(eq=False)
 class Owner:
     """What a rank has put and committed. `held` waits for the next commit; `here` is for its own
-    node and `elsewhere` for others, and `committed` has the scope of the last commit of a key."""
+    node and `elsewhere` for others, and `committed` has the scope of the last commit of a key. A
+    commit may have no key: `commits` counts them all."""
 
     put: dict[str, Held] = field(default_factory=dict)
     held: list[Held] = field(default_factory=list)
     here: Values = field(default_factory=dict)
     elsewhere: Values = field(default_factory=dict)
     committed: dict[str, Held] = field(default_factory=dict)
+    commits: int = 0
 
     def commit(self) -> None:
         """Hands all that is held to the server."""
+        self.commits += 1
         for it in self.held:
             self.committed[it.key] = it
             if it.scope != "remote":
@@ -62,7 +65,8 @@ class Owner:
 @dataclass(eq=False)
 class World:
     """All that is known. `on_node` is what a node has of a rank elsewhere, `by_fences` what fences
-    brought where that is kept apart, and `in_caller` what a rank has been given of another."""
+    brought where that is kept apart, and `in_caller` what a rank has been given of another.
+    `asked` is the key for which a rank waits, of a rank that had made so many commits before."""
 
     plan: Plan
     traits: Traits
@@ -71,6 +75,7 @@ class World:
     on_node: dict[tuple[str, str], Values] = field(init=False)
     by_fences: dict[tuple[str, str], Values] = field(init=False)
     in_caller: dict[tuple[str, str], Values] = field(init=False)
+    asked: dict[str, tuple[str, str, int]] = field(default_factory=dict)
     names: dict[str, list[Published]] = field(init=False)
     sets: Mapping[tuple[str, str], frozenset[str]] = field(init=False)
     ranks: Mapping[str, Rank] = field(init=False)
