@@ -55,7 +55,7 @@ def count_row(name: str, outcomes: Sequence[Outcome]) -> Sequence[str]:
 def make_table(outcomes: Sequence[Outcome]) -> Iterable[str]:
     """A table of all programs by their parts."""
     parts = dict.fromkeys(it.program.part for it in outcomes)
-    rows = [COLUMNS]
+    rows: list[Sequence[str]] = [COLUMNS]
     rows += [count_row(it, [one for one in outcomes if one.program.part == it]) for it in parts]
     rows.append(count_row("all", outcomes))
     widths = [max(map(len, column)) for column in zip(*rows)]

@@ -98,7 +98,7 @@ OTHER_WAYS = {
         2, 0, 1, IN_PART, f"{IN_PART}{PAST_RECORDER}", ("unseen", "closed", "plugin.so")
     ),
     "past": Program(
-        2, 0, 0, IN_PART, f"{IN_PART}{PMIX_PAST_RECORDER}", ("direct", "past", "pmix_plugin.so")
+        2, 0, 1, IN_PART, f"{IN_PART}{PMIX_PAST_RECORDER}", ("direct", "past", "pmix_plugin.so")
     ),
     "mixed": Program(2, 1, 1, words=("mixed", "message")),
     "mixed-barrier": Program(2, 1, 1, words=("mixed", "barrier")),

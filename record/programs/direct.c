@@ -4,8 +4,8 @@
  *              the plan doesn't have, and that its head tells of
  *   partial    process 1 looks up two names, of which one isn't there: no race
  *   last       process 0 publishes the name in a callback that ends with that call, so that it seems to come from PMIx itself: a race
- *   past       process 0 publishes the name by a function of a library that is opened so that it finds PMIx before the recorder; the second
- *              word is its path: a race that the plan doesn't have, and that its head tells of
+ *   past       process 0 takes the name away by a function of a library that is opened so that it finds PMIx before the recorder; the
+ *              second word is its path: a race that the plan doesn't have, and that its head tells of
  */
 #define _GNU_SOURCE
 #include <dlfcn.h>
@@ -63,12 +63,11 @@ static void partial(void)
     }
 }
 
-static void look_up_late(void)
+static void look_up(void)
 {
     pmix_pdata_t found;
     PMIX_PDATA_CONSTRUCT(&found);
     strncpy(found.key, "port", PMIX_MAX_KEYLEN);
-    usleep(300000);
     PMIx_Lookup(&found, 1, NULL, 0);
 }
 
@@ -90,20 +89,28 @@ static void last(void)
         while (!is_over)
             usleep(1000);
     } else {
-        look_up_late();
+        usleep(300000);
+        look_up();
     }
 }
 
 static void past(const char *path)
 {
-    typedef pmix_status_t publish_function(const pmix_info_t *, size_t);
+    typedef pmix_status_t unpublish_function(char **);
+    char key[] = "port", *keys[] = {key, NULL};
     void *library = dlopen(path, RTLD_NOW | RTLD_DEEPBIND);
-    publish_function *publish = library ? (publish_function *)dlsym(library, "plugin_publish") : NULL;
+    unpublish_function *unpublish =
+        library ? (unpublish_function *)dlsym(library, "plugin_unpublish") : NULL;
     PMIX_INFO_LOAD(&port, "port", "text", PMIX_STRING);
-    if (rank == 0 && publish)
-        publish(&port, 1);
+    if (rank == 0)
+        PMIx_Publish(&port, 1);
+    MPI_Barrier(MPI_COMM_WORLD);
+    if (rank == 0 && unpublish) {
+        usleep(300000);
+        unpublish(keys);
+    }
     if (rank == 1)
-        look_up_late();
+        look_up();
 }
 
 int main(int count, char **words)

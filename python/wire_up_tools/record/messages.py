@@ -274,7 +274,9 @@ class Inbox:
 
     def find_alone(self, key: Key) -> Mapping[Stream, Sequence[Call]]:
         """The stream that stands for a group of no other; none where no message fits."""
-        return OneStream(key, self.streams[key]) if isinstance(key, Stream) else {}
+        if isinstance(key, Stream):
+            return OneStream(key, self.streams[key])
+        return {}
 
 
 @dataclass

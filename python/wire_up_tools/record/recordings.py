@@ -86,8 +86,8 @@ class RecordedCommunicator:
 class Recording:
     """What one process did, from the file at `path`; `began` is in seconds since 1970.
 
-    `others` counts the calls that are only counted, by their names, and `unseen` what called MPI
-    past the recorder, by what is said of it. A process that
+    `others` counts the calls that are only counted, by their names; `unseen` what called MPI past
+    the recorder, and `unseen_pmix` what called PMIx so, by what is said of it. A process that
     `has_finalized` has called nothing after PMIx_Finalize; the last line of a recording that
     `is_cut` was dropped.
     """
@@ -101,6 +101,7 @@ class Recording:
     calls: Sequence[Call]
     others: Mapping[str, int]
     unseen: Mapping[str, int]
+    unseen_pmix: Mapping[str, int]
     world: Optional[World]
     communicators: Mapping[int, RecordedCommunicator]
     places: Mapping[str, Place]
@@ -139,11 +140,12 @@ def read_line(groups: Groups) -> Place:
     return f"{function} ({os.path.basename(file)}:{groups[2]})"
 
 
-# What is said of the process when something called MPI past the recorder, by its kind.
+# What is said of the process when something called MPI or PMIx past the recorder, by its kind.
+OF_PMIX = "pmix"
 UNSEEN = {
     "call": "calls of {} that a library took elsewhere: what it called of MPI isn't seen",
     "object": "processes in which {} calls MPI past the recorder: its calls aren't seen",
-    "pmix": "processes in which {} calls PMIx past the recorder: its calls aren't seen",
+    OF_PMIX: "processes in which {} calls PMIx past the recorder: its calls aren't seen",
 }
 
 
@@ -172,6 +174,7 @@ class Records:
     words: dict[str, str] = field(default_factory=dict)
     others: Counter[str] = field(default_factory=Counter)
     unseen: Counter[str] = field(default_factory=Counter)
+    unseen_pmix: Counter[str] = field(default_factory=Counter)
     world: Optional[World] = None
     communicators: dict[int, RecordedCommunicator] = field(default_factory=dict)
     places: dict[str, Place] = field(default_factory=dict)
@@ -220,7 +223,8 @@ class Records:
         if verb == "other":
             self.others[groups[0]] += 1
         elif verb == "unseen":
-            self.unseen[read_unseen(groups)] += 1
+            counts = self.unseen_pmix if groups[0] == OF_PMIX else self.unseen
+            counts[read_unseen(groups)] += 1
         elif verb == "world":
             self.world = World(int(groups[0]), int(groups[1]), number)
         elif verb in ("comm", "inter"):
@@ -290,6 +294,7 @@ def read_recording(path: str, data: bytes) -> Recording:
         calls=records.calls,
         others=records.others,
         unseen=records.unseen,
+        unseen_pmix=records.unseen_pmix,
         world=records.world,
         communicators=records.communicators,
         places=records.places,
