@@ -28,8 +28,9 @@ from soaking import Difference, Ran, Runner, same
 
 # Patterns of more instances aren't held to the reference, or not looked at.
 MOST_INSTANCES, MOST_LOOKED_AT = 200, 4_096
-# How many larger instances are looked at, and how many calls these may have.
-LARGER, MOST_CALLS = 4, 4_000
+# How many larger instances are looked at, how many ranks of each group they have, and how many
+# calls in all they may have.
+LARGER, LARGER_SIZES, MOST_CALLS = 4, (4, 7), 4_000
 CHECK, ANSWERS = ("check", "--pattern"), ("check", "--pattern", "--answers")
 
 
@@ -67,10 +68,13 @@ def canonical_nodes(nodes: list[int]) -> list[int]:
     return [seen.setdefault(it, len(seen)) for it in nodes]
 
 
-def larger_instance(pattern: pattern_grammar.Pattern, dice: random.Random) -> Instance:
-    """A random instance of any placement, with groups of 4 to 7 ranks, or as many as need be."""
+def random_instance(
+    pattern: pattern_grammar.Pattern, dice: random.Random, few: int, many: int
+) -> Instance:
+    """A random instance on a random placement, with so many ranks of each group, or as many as need
+    be."""
     sizes = [
-        1 if it.least is None else dice.randint(max(4, it.least), max(7, it.least))
+        1 if it.least is None else dice.randint(max(few, it.least), max(many, it.least))
         for it in pattern.roles
     ]
     ranks = Ranks(pattern, sizes)
@@ -142,7 +146,7 @@ class Look:
     def at_larger(self) -> None:
         """Nothing is found in larger instances."""
         for _ in range(LARGER):
-            it = larger_instance(self.pattern, self.dice)
+            it = random_instance(self.pattern, self.dice, *LARGER_SIZES)
             is_plan = it.ranks.count <= grammar.LIMITS[b"2"].ranks
             if is_plan and sum(len(script.calls) for script in it.scripts) <= MOST_CALLS:
                 text = it.text

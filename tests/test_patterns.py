@@ -1,23 +1,27 @@
-"""Patterns: the reference and the second reader by the examples and by faults, and `check
---pattern` of the built program beside them."""
+"""Patterns: the reference by the examples, by faults and by the model of plans, and `check
+--pattern` of the built program beside the reference."""
 import glob
 import os
 import random
 import tempfile
 import unittest
+from collections.abc import Iterator
 
 import grammar
+import model
 import pattern_faults
 import pattern_reference
 import pattern_soaking
 import random_patterns
 import support
+from pattern_plan import Plan, Verdict, answered
+from pattern_soaking import Instance
 from running import ProgramCase, Run, Runs, as_lines, start
 from soaking import Runner
 
 FOLDER = os.path.join(support.TOP, "examples", "patterns")
 # How many random patterns are tried, of at most so many instances.
-PATTERNS, MOST_INSTANCES = 300, 64
+PATTERNS, MOST_INSTANCES = 200, 64
 # A key of the root, with its scope, which workers look for after a fence that collects.
 CARD = (
     "pattern 1 / job app / one root / put {} card v / commit / fence all collect / many w"
@@ -107,6 +111,46 @@ class Reference(unittest.TestCase):
                 answers = as_lines(f"answers w {it} get-now {of}" for it, of in told.items())
                 waits = pattern_reference.CLEAN + b"\nwaits w 7 lookup-wait\n"
                 self.assertEqual((0, waits, answers), said)
+
+
+class Checker(unittest.TestCase):
+    """The checker of tests/pattern_plan.py beside the model of plans."""
+
+    def hold(self, instance: Instance) -> None:
+        """Fails where they find something else, or nothing and another end."""
+        text = instance.text
+        plan = Plan(instance.ranks.pattern.keeps, instance.scripts)
+        verdict, modelled = Verdict(plan), model.Plan(grammar.read(text))
+        found = verdict.findings(instance.nodes)
+        lines = [pattern_reference.finding_text(instance.ranks, it) for it in found]
+        lines.append(b"findings %d" % len(found))
+        self.assertEqual(modelled.findings(), pattern_reference.text_of(lines), text)
+        if not found:
+            report = model.Run(modelled).go().report().splitlines()[:-1]
+            wanted = [it.split(b" ")[2:4] for it in report]
+            self.assertEqual(wanted, [*ends(instance, verdict, wanted)], text)
+
+    def test_beside_the_model(self) -> None:
+        for number, text in enumerate(small_patterns(PATTERNS)):
+            dice, pattern = random.Random(number), pattern_reference.read_pattern(text)
+            with self.subTest(number=number):
+                self.hold(pattern_soaking.random_instance(pattern, dice, 0, 3))
+
+
+def ends(instance: Instance, verdict: Verdict, wanted: list[list[bytes]]) -> Iterator[list[bytes]]:
+    """The verb of each call, and what became of it. What another call than a get-now is answered is
+    as wanted, unless it is no status."""
+    rest = iter(wanted)
+    for script, count in zip(instance.scripts, answered(verdict.plan)):
+        for number, (call, at) in enumerate(zip(script.calls, script.firsts)):
+            said = next(rest)[1]
+            if number >= count:
+                said = b"waiting" if number == count else b"unreached"
+            elif call.verb == b"get-now":
+                said = verdict.status((script.rank, at), call, instance.nodes)
+            elif not said.startswith(b"PMIX_"):
+                said = b"a status"
+            yield [call.verb, said]
 
 
 class Program(ProgramCase):
