@@ -1,6 +1,6 @@
 //! What one line says.
 
-ghost use Rattle.std.specs.Prelude.{[], ◌≡◌, ◌≢◌, ◌↔◌, ℕ, List, ◌∷◌, ◌≤◌, true, IsTrue, IfOk, IfSome, IfNone, codes};
+ghost use Rattle.std.specs.Prelude.{[], ◌≡◌, ◌≢◌, ◌↔◌, ℕ, List, ◌∷◌, ◌≤◌, true, IsTrue, IfOk, IfSome, IfNone, codes, decimal};
 ghost use Rattle.wire_types.specs.Verbs.{text_of_verb};
 ghost use Rattle.wire_types.specs.Texts.{texts_of};
 ghost use Rattle.wire_runs.specs.Patterns.{Turns as PlanTurns};
@@ -30,15 +30,9 @@ pub enum Line<'a> {
     /// A role of one process.
     Single(&'a [u8]),
     /// A role of any number of processes, at least so many.
-    Many {
-        name: &'a [u8],
-        least: u32,
-    },
+    Many { name: &'a [u8], least: u32 },
     /// A loop over a role.
-    Begin {
-        turns: Turns,
-        group: &'a [u8],
-    },
+    Begin { turns: Turns, group: &'a [u8] },
     /// The end of a loop.
     End,
     Calls(CallLine<'a>),
@@ -66,17 +60,27 @@ fn role_alone<'a>(words: &[&'a [u8]]) -> Option<&'a [u8]>
     }
 }
 
+/// The number that a digit from 1 to 9 says.
+#[tactic(auto, using(crate::proofs::Least::other_decimal))]
+fn digit_of(word: &[u8]) -> Option<u32>
+    ensures found { IfSome result (λ n. (word.now ≡ decimal n) × (1 ≤ n) × (n ≤ 9)) }
+    ensures none { IfNone result ((n : ℕ) → 1 ≤ n → n ≤ 9 → word.now ≢ decimal n) }
+{
+    match number_of(word) {
+        Some(number) if 1 <= number && number <= 9 => Some(number),
+        _ => None,
+    }
+}
+
 /// How many processes a group has at least, by the words after its name.
+#[tactic(auto, using(crate::proofs::Least::min_shown))]
 fn least_in(words: &[&[u8]]) -> Option<u32>
     ensures found { IfSome result (λ n. (texts_of words.now ≡ min_words n) × (n ≤ 9)) }
     ensures none { IfNone result ((n : ℕ) → n ≤ 9 → texts_of words.now ≢ min_words n) }
 {
     match words {
         [] => Some(0),
-        [min, number] if is_text(min, b"min") => match number_of(number) {
-            Some(least) if 1 <= least && least <= 9 => Some(least),
-            _ => None,
-        },
+        [min, number] if is_text(min, b"min") => digit_of(number),
         _ => None,
     }
 }
@@ -192,11 +196,7 @@ fn alone<'a>(line: Line<'a>, words: &[&[u8]]) -> Option<Line<'a>>
     ensures found { IfSome result (λ l. (l ≡ line.entry) × (words.now ≡ [])) }
     ensures none { IfNone result (words.now ≢ []) }
 {
-    if words.is_empty() {
-        Some(line)
-    } else {
-        None
-    }
+    if words.is_empty() { Some(line) } else { None }
 }
 
 /// The line of a call, by its verb and the words after it.
