@@ -23,7 +23,7 @@ BOX_WIDTH = 148
 BOX_HEIGHT = 28
 ROW_HEIGHT = 58
 LEGEND_HEIGHT = 34
-GAP = 14
+GAP = 11
 
 # The colours of the layers, in the order of crates.txt: that of the box and that of its border.
 COLOURS = (
