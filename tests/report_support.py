@@ -120,6 +120,14 @@ def write_wide() -> str:
     return f"rehearsal 1\nnode {node}\njob {job}\n{ring}{last}".replace("fence all", "commit")
 
 
+def write_two_lanes() -> str:
+    """A plan of two ranks with a race, whose names are as long as they can be."""
+    job, key, node = "j" * 63, "k" * 63, "n" * 63
+    head = f"rehearsal 1\nnode {node}\njob {job}\n"
+    first = f"rank {node}\nput global {key} v\ncommit\npublish {key} v\n"
+    return f"{head}{first}rank {node}\nget-now {job}:0 {key}\nlookup-wait {key}\n"
+
+
 EVIL = b"<script>document.title='in'</script>&amp;\"'><img/src=x/onerror=alert(1)>"
 HOSTILE = (
     b"# Recorded by wire_up-record <i>on\xff\x00\x1b[31m a day</i>\n"
@@ -165,6 +173,7 @@ WRITTEN: dict[str, Callable[[], bytes]] = {
     "shapes": lambda: write_shapes().encode(),
     "cards": lambda: write_cards(6, 2, 5).encode(),
     "hostile-wide": lambda: write_wide().encode(),
+    "two-lanes": lambda: write_two_lanes().encode(),
     "manygroups": lambda: write_many_groups(60, 3).encode(),
     "large": lambda: write_cards(2048, 64, 46).encode(),
     "large-fence": lambda: write_cards(2048, 64, 46, "fence all collect").encode(),

@@ -5,9 +5,10 @@ import tempfile
 import unittest
 
 import report_support
+from wire_up_tools.failures import Refused
 from wire_up_tools.plan import read_plan
 from wire_up_tools.run.expected import Expected
-from wire_up_tools.run.libraries.judging import MOST_CALLS, Judged, judge
+from wire_up_tools.run.libraries.judging import MOST_CALLS, Judged, hold_small, judge
 from wire_up_tools.run.libraries.traits import LIBRARIES, find_recorded
 from wire_up_tools.run.reports import Line, Place, Report
 
@@ -94,10 +95,16 @@ class JudgedTest(unittest.TestCase):
         found = self.judge(BRINGS, "openpmix-4.2")
         self.assertEqual([str(it) for it in found.timed], ["app:2 1 get-now"])
 
+    def test_a_get_that_waits_at_a_commit(self) -> None:
+        """Only with the highest rank first does it wait there."""
+        text = BRINGS.replace("n1\nget app:0 a\nrank n1\nget-now app:0 b", "n0\nget app:0 c")
+        found = self.judge(text, "openpmix-4.2")
+        self.assertEqual([str(it) for it in found.timed], ["app:1 1 get"])
+
     def test_a_large_plan(self) -> None:
-        text = BRINGS + "commit\n" * MOST_CALLS
-        with self.assertRaisesRegex(Exception, "more than 10,000 calls isn't judged"):
-            self.judge(text, "openpmix-4.2")
+        plan = read_plan((BRINGS + "commit\n" * MOST_CALLS).encode())
+        with self.assertRaisesRegex(Refused, "more than 10,000 calls isn't judged"):
+            hold_small(plan)
 
     def test_which_library_was_recorded(self) -> None:
         names = {

@@ -7,6 +7,7 @@ import unittest
 
 import report_support
 import support
+from wire_up_tools.report.patterns import is_pattern
 
 CLEAN = "findings 0 for every number of ranks on every placement"
 # All workers put their cards, and read those of the others after a fence.
@@ -77,6 +78,16 @@ class PatternCase(unittest.TestCase):
         said = (ran.returncode, paged.returncode)
         self.assertEqual(said, (status, status), ran.stderr + paged.stderr)
         return " ".join(ran.stdout.split()), " ".join(report_support.read(page).split())
+
+
+class FirstLineTest(unittest.TestCase):
+    """Which files are patterns."""
+
+    def test_the_first_line_that_is_not_skipped(self) -> None:
+        for text in (b"pattern 1\n", b"# a\n\n \t# b\r\n\r\n  pattern 1", b"pattern"):
+            self.assertTrue(is_pattern(text), text)
+        for text in (b"", b"# pattern 1\n", b"patterns 1", b"rehearsal 1\npattern 1\n"):
+            self.assertFalse(is_pattern(text), text)
 
 
 class CleanTest(PatternCase):

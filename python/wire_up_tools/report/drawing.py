@@ -11,7 +11,7 @@ from wire_up_tools.report.phrases import count_of, cut
 
 # Pixels: the width of a character of a label, what stands at the left of the first lane, and what
 # stands between the labels of a lane and the next.
-CHARACTER, SIDE, LANE_GAP = 7.3, 16, 28
+CHARACTER, SIDE, LANE_GAP = 7.3, 16, 36
 # Pixels: the height of the lanes' names, of a row, of a row with a fence, and of a text below a
 # row.
 HEAD_HEIGHT, ROW_HEIGHT, BAR_HEIGHT, GAP_HEIGHT = 52, 38, 48, 18
@@ -21,7 +21,7 @@ NAME_LEFT, LABEL_RIGHT, MARK_RIGHT = 6, 11, 9
 MARGIN = 16
 # A diagram of at most so many pixels, as two lanes are, is made to fit a narrow page, and a wider
 # one can be moved there. Past the other width the page is broad.
-NARROW, BROAD = 460, 1100
+NARROW, BROAD = 470, 1100
 
 # Makes the diagram larger, without a script.
 ZOOM = '<label class="zoom"><input type="checkbox"> larger</label>'

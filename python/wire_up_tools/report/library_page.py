@@ -1,6 +1,4 @@
 """What a library is known to make of a plan, for a page and for a terminal."""
-from collections.abc import Sequence
-
 from wire_up_tools.plan import Call, Plan
 from wire_up_tools.report.asking import Asker
 from wire_up_tools.report.findings import PAIRS
@@ -10,7 +8,6 @@ from wire_up_tools.report.phrases import VALUE_WIDTH, count_of, cut, pick
 from wire_up_tools.run.expected import expect
 from wire_up_tools.run.libraries.judging import Judged, hold_small, judge
 from wire_up_tools.run.libraries.predicting import Predicted
-from wire_up_tools.run.libraries.rules import Rule
 from wire_up_tools.run.libraries.traits import take_library
 from wire_up_tools.run.libraries.writing import name_rules
 
@@ -45,12 +42,6 @@ def list_shown(judged: Judged, plan: Plan) -> list[tuple[Call, Predicted]]:
     return [(plan.find_call(place.rank, place.number), it) for place, it in places]
 
 
-def list_rules(judged: Judged) -> Sequence[Rule]:
-    """The rules of the library by which it answers otherwise."""
-    used = {rule for it in judged.found for rule in it.rules}
-    return [it for it in Rule if it in used]
-
-
 def describe(judged: Judged, predicted: Predicted) -> str:
     """How the library answers a call, and by which of its rules."""
     it = predicted.difference
@@ -66,7 +57,7 @@ def write_library(judged: Judged, plan: Plan) -> str:
         f"{escape(describe(judged, it))}</li>"
         for call, it in list_shown(judged, plan)
     ]
-    rules = [f"<li>{it.label}: {escape(it.value)}</li>" for it in list_rules(judged)]
+    rules = [f"<li>{it.label}: {escape(it.value)}</li>" for it in judged.rules]
     title = f"{say_library(judged)}: {count_of(len(judged.found), 'call')} answered otherwise"
     parts = [f"<section><h2>{escape(title)}</h2><ul>{''.join(rows)}</ul>"]
     rest = len(judged.found) - len(rows)
@@ -80,4 +71,4 @@ def write_library_text(judged: Judged, plan: Plan) -> list[str]:
     lines = [f"   {call.name} {name_kind(call)}: {describe(judged, it)}" for call, it in shown]
     rest = len(judged.found) - len(lines)
     lines += [f"   And {count_of(rest, 'other call')}."] if rest else []
-    return [*lines, *(f"   {it.label}: {it.value}" for it in list_rules(judged))]
+    return [*lines, *(f"   {it.label}: {it.value}" for it in judged.rules)]

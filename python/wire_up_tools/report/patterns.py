@@ -15,7 +15,9 @@ from wire_up_tools.plan import Plan, split_lines
 from wire_up_tools.report.asking import CLEAN, FOUND, Asker
 from wire_up_tools.report.phrases import count_of
 
-OPTION, WORD = "--pattern", "pattern"
+OPTION = "--pattern"
+# Lines that are skipped, and the first word after them.
+FIRST = re.compile(rb"(?:[ \t]*(?:#[^\n]*)?\r?\n)*[ \t]*pattern(?=\s|\Z)")
 EVERYWHERE = "for every number of ranks on every placement"
 NOTHING = f"findings 0 {EVERYWHERE}"
 WAITS = re.compile(r"waits (\S+) ([1-9]\d*) (\S+)")
@@ -77,9 +79,7 @@ class Counterexample:
 
 def is_pattern(data: bytes) -> bool:
     """Whether a file is a pattern, by its first line that isn't skipped."""
-    said = (line.split() for line in data.split(b"\n"))
-    first: list[bytes] = next((it for it in said if it and not it[0].startswith(b"#")), [])
-    return bool(first) and first[0] == WORD.encode()
+    return FIRST.match(data) is not None
 
 
 def judge_pattern(path: str, asker: Asker) -> Union[CleanPattern, Counterexample]:

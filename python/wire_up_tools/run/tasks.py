@@ -14,13 +14,9 @@ from wire_up_tools.plan import Plan, read_plan
 from wire_up_tools.run import answers, fake_nodes
 from wire_up_tools.run.expected import Expected, ask_witness, expect, expect_in_order
 from wire_up_tools.run.launchers import find_launcher, read_command
-from wire_up_tools.run.libraries.predicting import Way, explain_differences
+from wire_up_tools.run.libraries.judging import judge
 from wire_up_tools.run.libraries.traits import find_library, take_library
-from wire_up_tools.run.libraries.writing import (
-    Predictions,
-    write_predictions,
-    write_predictions_json,
-)
+from wire_up_tools.run.libraries.writing import write_predictions, write_predictions_json
 from wire_up_tools.run.live import Outcome, Setting, Task, is_among_fake_nodes, run_plan
 from wire_up_tools.run.reports import Line
 from wire_up_tools.run.suite import Kind, Suite, choose_plans, read_suite
@@ -258,12 +254,10 @@ def predict_plan(asked: PredictRequest, choices: Choices, folder: str) -> int:
     data = read_file(asked.plan)
     request = PlanRequest(asked.plan)
     expected = expect_plan(choose_checker(choices, folder), data, request)
-    plan, report = read_plan(data), expected.report
-    found = explain_differences(plan, library.traits, report, Way(expected.order or ()))
-    of = Predictions(library, found, len(report.lines))
+    of = judge(read_plan(data), library, expected)
     text = write_predictions_json(of) if choices.is_json else write_predictions(of)
     write_whole(STANDARD_OUTPUT, text)
-    return DIFFERENT if found else SAME
+    return DIFFERENT if of.found else SAME
 
 
 def do(asked: Request, choices: Choices, folder: str) -> int:

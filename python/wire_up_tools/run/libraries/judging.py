@@ -12,11 +12,11 @@ from wire_up_tools.run.libraries.predicting import (
     Way,
     explain_differences,
 )
-from wire_up_tools.run.libraries.rules import TIMED
+from wire_up_tools.run.libraries.rules import TIMED, Rule
 from wire_up_tools.run.libraries.traits import Library
 from wire_up_tools.run.reports import Place
 
-# A plan of more calls isn't judged: it would take minutes.
+# A plan of more calls isn't judged beside something else: it would take minutes.
 MOST_CALLS = 10_000
 
 
@@ -30,6 +30,12 @@ class Judged:
     timed: Sequence[Place]
     calls: int
 
+    @property
+    def rules(self) -> list[Rule]:
+        """The rules of the library by which it does."""
+        used = {rule for it in self.found for rule in it.rules}
+        return [it for it in Rule if it in used]
+
 
 def hold_small(plan: Plan) -> None:
     """Raises Refused for a plan that has too many calls."""
@@ -39,8 +45,7 @@ def hold_small(plan: Plan) -> None:
 
 def judge(plan: Plan, library: Library, expected: Expected) -> Judged:
     """What a library makes of a plan. One without races is taken in two orders: with the lowest
-    rank first, and with the highest. Raises Refused for a large one."""
-    hold_small(plan)
+    rank first, and with the highest."""
     ways = [LOWEST_FIRST, Way(is_backwards=True)]
     if expected.order is not None:
         ways = [Way(expected.order)]

@@ -34,7 +34,6 @@ TIMED = frozenset(
     {
         Rule.KEPT_BY_CALLER,
         Rule.GET_BRINGS_ALL,
-        Rule.OWNER_ANSWERS,
         Rule.ANSWERED_AT_COMMIT,
         Rule.FENCE_OF_NODE,
     }
