@@ -1,7 +1,7 @@
 -- What a line of a pattern's file can say, and its spelling. Jobs and roles are told by their names here: which job or
 -- role a name is, all lines tell together.
-use Rattle.std.specs.Prelude.{◌≡◌, ℕ, ◌==◌, ◌||◌, ◌&&◌, Bool, true, false, not, nat_lt, nat_le, List, [], ◌∷◌, ◌++◌}
-use Rattle.std.specs.Prelude.{length, map, flat_map, codes, decimal, if◌then◌else◌}
+use Rattle.std.specs.Prelude.{◌≡◌, ℕ, ◌==◌, ◌||◌, ◌&&◌, Bool, true, false, not, nat_le, List, [], ◌∷◌, ◌++◌}
+use Rattle.std.specs.Prelude.{map, flat_map, codes, decimal, if◌then◌else◌}
 use Rattle.std.specs.List.{list_all, list_any, join_with_byte}
 use Rattle.std.specs.Str.{bytes_eq}
 use Rattle.wire_types.specs.declared.call.Scope.{Scope}
@@ -79,7 +79,8 @@ spelled_set (Listed items) = join_with_byte 44 (map spelled_item items)
 
 abbrev pub is_lawful_set : Set → Bool
 is_lawful_set Own = true
-is_lawful_set (Listed items) = nat_lt 0 (length items) && list_all is_lawful_item items
+is_lawful_set (Listed []) = false
+is_lawful_set (Listed (item ∷ items)) = list_all is_lawful_item (item ∷ items)
 
 -- a call, as its line says it
 pub data Call : Type 0 where

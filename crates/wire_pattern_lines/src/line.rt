@@ -1,6 +1,6 @@
 //! What one line says.
 
-ghost use Rattle.std.specs.Prelude.{[], ◌≡◌, ◌≢◌, ◌↔◌, ℕ, List, ◌∷◌, ◌≤◌, true, IsTrue, IfOk, IfSome, IfNone, codes};
+ghost use Rattle.std.specs.Prelude.{[], ◌≡◌, ◌≢◌, ◌↔◌, ℕ, List, ◌∷◌, ◌≤◌, true, IsTrue, IfOk, IfSome, IfNone, codes, decimal};
 ghost use Rattle.wire_types.specs.Verbs.{text_of_verb};
 ghost use Rattle.wire_types.specs.Texts.{texts_of};
 ghost use Rattle.wire_runs.specs.Patterns.{Turns as PlanTurns};
@@ -66,17 +66,27 @@ fn role_alone<'a>(words: &[&'a [u8]]) -> Option<&'a [u8]>
     }
 }
 
+/// The number that a digit from 1 to 9 says.
+#[tactic(auto, using(crate::proofs::Least::other_decimal))]
+fn digit_of(word: &[u8]) -> Option<u32>
+    ensures found { IfSome result (λ n. (word.now ≡ decimal n) × (1 ≤ n) × (n ≤ 9)) }
+    ensures none { IfNone result ((n : ℕ) → 1 ≤ n → n ≤ 9 → word.now ≢ decimal n) }
+{
+    match number_of(word) {
+        Some(number) if 1 <= number && number <= 9 => Some(number),
+        _ => None,
+    }
+}
+
 /// How many processes a group has at least, by the words after its name.
+#[tactic(auto, using(crate::proofs::Least::min_shown))]
 fn least_in(words: &[&[u8]]) -> Option<u32>
     ensures found { IfSome result (λ n. (texts_of words.now ≡ min_words n) × (n ≤ 9)) }
     ensures none { IfNone result ((n : ℕ) → n ≤ 9 → texts_of words.now ≢ min_words n) }
 {
     match words {
         [] => Some(0),
-        [min, number] if is_text(min, b"min") => match number_of(number) {
-            Some(least) if 1 <= least && least <= 9 => Some(least),
-            _ => None,
-        },
+        [min, number] if is_text(min, b"min") => digit_of(number),
         _ => None,
     }
 }

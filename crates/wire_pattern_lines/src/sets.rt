@@ -65,9 +65,13 @@ fn item_of(word: &[u8]) -> Option<Item<'_>>
     if let Some(proc) = proc_of(word) {
         return Some(Item::One(proc));
     }
-    match before_star(word) {
-        Some(job) if is_bare_name(job) => Some(Item::Every(job)),
-        _ => None,
+    let Some(job) = before_star(word) else {
+        return None;
+    };
+    if is_bare_name(job) {
+        Some(Item::Every(job))
+    } else {
+        None
     }
 }
 
