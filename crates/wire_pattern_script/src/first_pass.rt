@@ -303,7 +303,10 @@ fn add_step<'a>(roles: &mut Vec<RoleDraft<'a>>, step: StepDraft<'a>) -> Result<(
     ensures count { vec_len roles.new ≡ vec_len roles.old }
 {
     match roles.last_mut() {
-        Some(role) => role.steps.push(step),
+        Some(role) => {
+            role.steps.push(step)?;
+            Ok(())
+        }
         None => Ok(()),
     }
 }
@@ -338,7 +341,10 @@ fn add_call<'a>(draft: &mut Draft<'a>, call: Placed<'a>) -> Result<(), AllocErro
     ensures { OnOk result (declared_of draft.new ≡ with_call (declared_of draft.old) (declared_of draft.old).open_loop (placed_of call.entry)) }
 {
     match &mut draft.open_loop {
-        Some(open) => open.lines.push(call),
+        Some(open) => {
+            open.lines.push(call)?;
+            Ok(())
+        }
         None => add_step(&mut draft.roles, StepDraft::Once(call)),
     }
 }

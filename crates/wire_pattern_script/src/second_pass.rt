@@ -9,6 +9,7 @@ use wire_pattern::{Line, Role, Step, Turns};
 use wire_types::Fault;
 
 /// A script's surroundings: how many jobs there are, all roles, and the number of the script's role.
+#[derive(Drop)]
 struct Script<'a> {
     jobs: usize,
     roles: &'a [Role],
