@@ -1,7 +1,7 @@
 -- What a line of a pattern's file can say, and its spelling. Jobs and roles are told by their names here: which job or
 -- role a name is, all lines tell together.
 use Rattle.std.specs.Prelude.{◌≡◌, ℕ, ◌==◌, ◌||◌, ◌&&◌, Bool, true, false, not, nat_le, List, [], ◌∷◌, ◌++◌}
-use Rattle.std.specs.Prelude.{map, flat_map, codes, decimal, if◌then◌else◌}
+use Rattle.std.specs.Prelude.{map, codes, decimal, if◌then◌else◌}
 use Rattle.std.specs.List.{list_all, list_any, join_with_byte}
 use Rattle.std.specs.Str.{bytes_eq}
 use Rattle.wire_types.specs.declared.call.Scope.{Scope}
@@ -194,35 +194,34 @@ is_lawful (Calls call) = is_lawful_call call
 abbrev pub Says : List (List ℕ) → Said → Type 0
 Says words said = (words ≡ first_word said ∷ other_words said) × (is_lawful said ≡ true)
 
--- the processes that a call names by themselves: the owner of its key, items of its set, and those that index
-abbrev pub procs_in_item : Item → List Proc
-procs_in_item (One proc) = proc ∷ []
-procs_in_item (Every job) = []
-
-abbrev pub procs_in_set : Set → List Proc
-procs_in_set Own = []
-procs_in_set (Listed items) = flat_map procs_in_item items
-
-abbrev pub procs_in : Call → List Proc
-procs_in (Put scope key value) = key.indices
-procs_in Commit = []
-procs_in (Fence set collect) = procs_in_set set
-procs_in (Get owner key) = owner ∷ key.indices
-procs_in (GetNow owner key) = owner ∷ key.indices
-procs_in (Publish name value) = name.indices
-procs_in (Lookup name) = name.indices
-procs_in (LookupWait name) = name.indices
-procs_in (Unpublish name) = name.indices
-procs_in UnpublishAll = []
-
 abbrev pub is_each : Proc → Bool
 is_each Caller = false
 is_each Each = true
 is_each (Named role) = false
 
--- whether it names the process that the turn of a loop is for
+abbrev pub is_each_item : Item → Bool
+is_each_item (One proc) = is_each proc
+is_each_item (Every job) = false
+
+abbrev pub is_each_in : Set → Bool
+is_each_in Own = false
+is_each_in (Listed items) = list_any is_each_item items
+
+abbrev pub has_each : Key → Bool
+has_each key = list_any is_each key.indices
+
+-- whether a call names the process that the turn of a loop is for: as owner of its key, as item of its set, or as index
 abbrev pub names_each : Call → Bool
-names_each call = list_any is_each (procs_in call)
+names_each (Put scope key value) = has_each key
+names_each Commit = false
+names_each (Fence set collect) = is_each_in set
+names_each (Get owner key) = is_each owner || has_each key
+names_each (GetNow owner key) = is_each owner || has_each key
+names_each (Publish name value) = has_each name
+names_each (Lookup name) = has_each name
+names_each (LookupWait name) = has_each name
+names_each (Unpublish name) = has_each name
+names_each UnpublishAll = false
 
 abbrev pub is_commit : Call → Bool
 is_commit Commit = true

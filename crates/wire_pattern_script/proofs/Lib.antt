@@ -1,2 +1,5 @@
 pub mod Lists
+pub mod Mapped
 pub mod Named
+pub mod Judging
+pub mod Once

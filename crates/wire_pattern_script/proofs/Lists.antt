@@ -1,33 +1,27 @@
--- Tests and counts over what is seen of the parts of a list.
-use Rattle.std.proofs.Common.{◌≡◌, ◌∙◌, ap, sym, refl, ℕ, ◌+◌, List, [], ◌∷◌, ◌++◌, Bool, true, false, map, flat_map, cond, count_by, arith}
-use Rattle.std.specs.Prelude.{◌&&◌, ◌||◌, not, filter, length}
-use Rattle.std.specs.List.{list_all, list_any}
-use Rattle.wire_pattern_lines.specs.Said.{Item, One, Every, procs_in_item, is_each}
+-- Lists that are mapped: one more step of the last role.
+use Rattle.std.proofs.Common.{◌≡◌, ◌∙◌, ap, sym, ℕ, suc, ◌-◌, ◌<◌, List, [], ◌∷◌, ◌++◌, map, length, arith, slice_index_or, slice_set}
+use Rattle.std.specs.Prelude.{Vec}
+use Rattle.std.specs.declared.alloc.Global.{Global}
+use Rattle.std.proofs.lemmas.List.{map-append}
+use Rattle.wire_pattern_script.specs.FirstPass.{with_step, StepLines}
+use Rattle.wire_pattern_script.specs.Drafted.{role_of, step_of}
+use Rattle.wire_pattern_script.specs.declared.draft.RoleDraft.{RoleDraft}
+use Rattle.wire_pattern_script.specs.declared.draft.StepDraft.{StepDraft}
 
-pub all_of : {X Y : Type 0} (f : X → Y) (p : Y → Bool) (xs : List X) → list_all (λ x. p (f x)) xs ≡ list_all p (map f xs)
-all_of f p [] = refl
-all_of f p (x ∷ xs) = rw (all_of f p xs) refl
+with_last : (rs : List RoleDraft) (q d : RoleDraft) (s : StepLines) → 0 < length rs
+    → role_of q ≡ record (role_of (slice_index_or rs (length rs - 1) d)) { steps = (role_of (slice_index_or rs (length rs - 1) d)).steps ++ s ∷ [] }
+    → map role_of (slice_set rs (length rs - 1) q) ≡ with_step (map role_of rs) s
+with_last [] q d s some e = absurd (omega arith)
+with_last (r ∷ []) q d s some e = ap (λ x. x ∷ []) e
+with_last (r ∷ r2 ∷ rs) q d s some e =
+    let one : length (r ∷ r2 ∷ rs) - 1 ≡ suc (length (r2 ∷ rs) - 1) = omega arith in
+    rw one (ap (λ t. role_of r ∷ t) (with_last (r2 ∷ rs) q d s (omega arith) (rw one at e)))
 
-pub any_of : {X Y : Type 0} (f : X → Y) (p : Y → Bool) (xs : List X) → list_any (λ x. p (f x)) xs ≡ list_any p (map f xs)
-any_of f p [] = refl
-any_of f p (x ∷ xs) = rw (any_of f p xs) refl
-
-pub any_of_two : {X Y Z : Type 0} (f : X → Y) (g : Y → Z) (p : Z → Bool) (xs : List X) → list_any (λ x. p (g (f x))) xs ≡ list_any p (map g (map f xs))
-any_of_two f g p [] = refl
-any_of_two f g p (x ∷ xs) = rw (any_of_two f g p xs) refl
-
-pub count_of : {X Y : Type 0} (f : X → Y) (p : Y → Bool) (xs : List X) → count_by (λ x. p (f x)) xs ≡ count_by p (map f xs)
-count_of f p [] = refl
-count_of f p (x ∷ xs) = rw (count_of f p xs) refl
-
-any_append : {X : Type 0} (p : X → Bool) (xs ys : List X) → list_any p (xs ++ ys) ≡ list_any p xs || list_any p ys
-any_append p [] ys = refl
-any_append p (x ∷ xs) ys = rw (any_append p xs ys) (or_assoc (p x) (list_any p xs) (list_any p ys))
-  where
-    or_assoc : (a b c : Bool) → (a || (b || c)) ≡ ((a || b) || c)
-    or_assoc true b c = refl
-    or_assoc false b c = refl
-
-pub any_item : (items : List Item) → list_any (λ i. list_any is_each (procs_in_item i)) items ≡ list_any is_each (flat_map procs_in_item items)
-any_item [] = refl
-any_item (i ∷ is) = rw (any_append is_each (procs_in_item i) (flat_map procs_in_item is), any_item is) refl
+-- one more step of the last role
+pub step_added : (rs : List RoleDraft) (n : ℕ) (r : RoleDraft) (new : Vec StepDraft Global) (s : StepDraft) → n ≡ length rs → 0 < n → r ≡ slice_index_or rs (n - 1) r → new.items ≡ r.steps.items ++ s ∷ []
+    → map role_of (slice_set rs (n - 1) (record { job = r.job; name = r.name; single = r.single; least = r.least; number = r.number; steps = new })) ≡ with_step (map role_of rs) (step_of s)
+step_added rs n r new s len some at items =
+    let there : slice_index_or rs (length rs - 1) r ≡ r = rw (← len) (sym at) in
+    let all : map step_of new.items ≡ map step_of r.steps.items ++ step_of s ∷ [] = ap (map step_of) items ∙ map-append step_of r.steps.items (s ∷ []) in
+    rw len (with_last rs (record { job = r.job; name = r.name; single = r.single; least = r.least; number = r.number; steps = new }) r (step_of s) (omega arith)
+    (rw there (ap (λ t. record { job = r.job; name = r.name.now; single = r.single; least = r.least; number = r.number; steps = t }) all)))

@@ -53,16 +53,14 @@ group_fault roles number group =
     else if single_in (slice_get roles group) then Some (BadLine number)
     else None
 
--- the first fault of the lines of a loop
-abbrev pub lines_fault : ℕ → List Role → ℕ → ℕ → Turns → List Line → Option Fault
-lines_fault jobs roles caller group turns [] = None
-lines_fault jobs roles caller group turns (line ∷ lines) =
-    first_of (line_fault jobs roles caller (fits_loop roles group turns line.call) line) (lines_fault jobs roles caller group turns lines)
+-- the fault of a line in a loop over this group
+abbrev pub turn_fault : ℕ → List Role → ℕ → ℕ → Turns → Line → Option Fault
+turn_fault jobs roles caller group turns line = line_fault jobs roles caller (fits_loop roles group turns line.call) line
 
 abbrev pub step_fault : ℕ → List Role → ℕ → Step → Option Fault
 step_fault jobs roles caller (Once line) = line_fault jobs roles caller true line
 step_fault jobs roles caller (Loop number group turns lines) =
-    first_of (group_fault roles number group) (lines_fault jobs roles caller group turns lines)
+    first_of (group_fault roles number group) (first_fault (turn_fault jobs roles caller group turns) lines)
 
 -- the first fault of the scripts of these roles, the first of them with the number n
 abbrev pub scripts_fault : ℕ → List Role → ℕ → List Role → Option Fault

@@ -5,10 +5,10 @@ ghost use Rattle.std.specs.List.{list_all, list_any};
 ghost use Rattle.wire_pattern.specs.Lawful as pattern;
 ghost use Rattle.wire_pattern.specs.Planned.{single_in};
 ghost use Rattle.wire_pattern.specs.Instances.{job_in};
-ghost use Rattle.wire_pattern.specs.Shown.{who_by, item_by, call_by, role_by, turns_by};
+ghost use Rattle.wire_pattern.specs.Shown.{who_by, indexed_by, item_by, call_by, role_by, turns_by};
 ghost use Rattle.wire_pattern_script.specs.Faults as spec;
 
-use wire_pattern::{Call, Item, Role, Turns, Who};
+use wire_pattern::{Call, Indexed, Item, Role, Turns, Who};
 
 /// Whether the role of this number is of one process.
 pub fn is_single(roles: &[Role], role: u32) -> bool
@@ -41,11 +41,17 @@ fn is_declared_who(roles: usize, who: &Who) -> bool
 }
 
 /// Whether the roles of these processes are declared.
-#[tactic(auto, using(crate::proofs::Lists::all_of))]
 fn are_declared_whos(roles: usize, whos: &[Who]) -> bool
-    ensures { result ≡ list_all (spec.is_declared_who roles) (map who_by whos.now) }
+    ensures { result ≡ list_all (λ w. spec.is_declared_who roles (who_by w)) whos.now }
 {
     whos.iter().all(|who| is_declared_who(roles, who))
+}
+
+/// Whether the roles that index a word are declared.
+fn is_declared_word(roles: usize, word: &Indexed) -> bool
+    ensures { result ≡ list_all (spec.is_declared_who roles) (indexed_by word.now).indices }
+{
+    are_declared_whos(roles, &word.indices)
 }
 
 /// Whether the role or the job of an item is declared.
@@ -60,28 +66,26 @@ fn is_declared_item(jobs: usize, roles: usize, item: &Item) -> bool
 }
 
 /// Whether the roles and jobs of these items are declared.
-#[tactic(auto, using(crate::proofs::Lists::all_of))]
 fn are_declared_items(jobs: usize, roles: usize, items: &[Item]) -> bool
-    ensures { result ≡ list_all (spec.is_declared_item jobs roles) (map item_by items.now) }
+    ensures { result ≡ list_all (λ i. spec.is_declared_item jobs roles (item_by i)) items.now }
 {
     items.iter().all(|item| is_declared_item(jobs, roles, item))
 }
 
 /// Whether the roles and jobs that a call names are declared.
-#[tactic(auto, using(crate::proofs::Named::declared_twice))]
 pub fn is_declared(jobs: usize, roles: usize, call: &Call) -> bool
     ensures { result ≡ spec.is_declared jobs roles (call_by call.now) }
 {
     match call {
         Call::Commit | Call::UnpublishAll => true,
-        Call::Put { key, .. } => are_declared_whos(roles, &key.indices),
+        Call::Put { key, .. } => is_declared_word(roles, key),
         Call::Fence { items, .. } => are_declared_items(jobs, roles, items),
         Call::Get { owner, key } | Call::GetNow { owner, key } => is_declared_who(roles, owner)
-            && are_declared_whos(roles, &key.indices),
+            && is_declared_word(roles, key),
         Call::Publish { name, .. }
         | Call::Lookup { name }
         | Call::LookupWait { name }
-        | Call::Unpublish { name } => are_declared_whos(roles, &name.indices),
+        | Call::Unpublish { name } => is_declared_word(roles, name),
     }
 }
 
@@ -96,11 +100,17 @@ fn is_known_who(roles: &[Role], who: &Who) -> bool
 }
 
 /// Whether the roles that stand for these processes are of one.
-#[tactic(auto, using(crate::proofs::Lists::all_of))]
 fn are_known_whos(roles: &[Role], whos: &[Who]) -> bool
-    ensures { result ≡ list_all (pattern.is_known_who (map role_by roles.now)) (map who_by whos.now) }
+    ensures { result ≡ list_all (λ w. pattern.is_known_who (map role_by roles.now) (who_by w)) whos.now }
 {
     whos.iter().all(|who| is_known_who(roles, who))
+}
+
+/// Whether the roles that index a word are of one process.
+fn is_known_word(roles: &[Role], word: &Indexed) -> bool
+    ensures { result ≡ list_all (pattern.is_known_who (map role_by roles.now)) (indexed_by word.now).indices }
+{
+    are_known_whos(roles, &word.indices)
 }
 
 /// Whether what an item names is there.
@@ -115,28 +125,26 @@ fn is_known_item(jobs: usize, roles: &[Role], item: &Item) -> bool
 }
 
 /// Whether what these items name is there.
-#[tactic(auto, using(crate::proofs::Lists::all_of))]
 fn are_known_items(jobs: usize, roles: &[Role], items: &[Item]) -> bool
-    ensures { result ≡ list_all (pattern.is_known_item jobs (map role_by roles.now)) (map item_by items.now) }
+    ensures { result ≡ list_all (λ i. pattern.is_known_item jobs (map role_by roles.now) (item_by i)) items.now }
 {
     items.iter().all(|item| is_known_item(jobs, roles, item))
 }
 
 /// Whether all that a call names is there, and one process where it stands for one.
-#[tactic(auto, using(crate::proofs::Named::known_twice))]
 pub fn is_known(jobs: usize, roles: &[Role], call: &Call) -> bool
     ensures { result ≡ pattern.is_known jobs (map role_by roles.now) (call_by call.now) }
 {
     match call {
         Call::Commit | Call::UnpublishAll => true,
-        Call::Put { key, .. } => are_known_whos(roles, &key.indices),
+        Call::Put { key, .. } => is_known_word(roles, key),
         Call::Fence { items, .. } => are_known_items(jobs, roles, items),
         Call::Get { owner, key } | Call::GetNow { owner, key } => is_known_who(roles, owner)
-            && are_known_whos(roles, &key.indices),
+            && is_known_word(roles, key),
         Call::Publish { name, .. }
         | Call::Lookup { name }
         | Call::LookupWait { name }
-        | Call::Unpublish { name } => are_known_whos(roles, &name.indices),
+        | Call::Unpublish { name } => is_known_word(roles, name),
     }
 }
 
@@ -153,13 +161,19 @@ fn has_caller(roles: &[Role], caller: u32, item: &Item) -> bool
     }
 }
 
+/// Whether one of these items has the caller, a process of this role.
+fn have_caller(roles: &[Role], caller: u32, items: &[Item]) -> bool
+    ensures { result ≡ list_any (λ i. pattern.has_caller (map role_by roles.now) caller (item_by i)) items.now }
+{
+    items.iter().any(|item| has_caller(roles, caller, item))
+}
+
 /// Whether the caller, a process of this role, is in the set of its fence.
-#[tactic(auto, using(crate::proofs::Lists::any_of))]
 pub fn is_member_call(roles: &[Role], caller: u32, call: &Call) -> bool
     ensures { result ≡ pattern.is_member_call (map role_by roles.now) caller (call_by call.now) }
 {
     match call {
-        Call::Fence { items, .. } => items.iter().any(|item| has_caller(roles, caller, item)),
+        Call::Fence { items, .. } => have_caller(roles, caller, items),
         _ => true,
     }
 }
@@ -175,13 +189,19 @@ fn has_role(roles: &[Role], role: u32, item: &Item) -> bool
     }
 }
 
+/// Whether one of these items has all processes of the role.
+fn have_role(roles: &[Role], role: u32, items: &[Item]) -> bool
+    ensures { result ≡ list_any (λ i. pattern.has_role (map role_by roles.now) role (item_by i)) items.now }
+{
+    items.iter().any(|item| has_role(roles, role, item))
+}
+
 /// Whether the set of a fence has an item with all processes of the role.
-#[tactic(auto, using(crate::proofs::Lists::any_of))]
 fn has_whole(roles: &[Role], role: u32, call: &Call) -> bool
     ensures { result ≡ list_any (pattern.has_role (map role_by roles.now) role) (pattern.items_in (call_by call.now)) }
 {
     match call {
-        Call::Fence { items, .. } => items.iter().any(|item| has_role(roles, role, item)),
+        Call::Fence { items, .. } => have_role(roles, role, items),
         _ => false,
     }
 }

@@ -50,19 +50,24 @@ fn is_short_proc(proc: &Proc) -> bool
 }
 
 /// Whether the names of these processes are within their limit.
-#[tactic(auto, using(crate::proofs::Lists::all_of))]
 fn are_short_procs(procs: &[Proc]) -> bool
     ensures { result ≡ list_all (λ p. spec.is_short_proc (proc_by p)) procs.now }
 {
     procs.iter().all(|proc| is_short_proc(proc))
 }
 
+/// Whether the names in the brackets of a key are within their limit.
+fn has_short_indices(key: &Key) -> bool
+    ensures { result ≡ list_all spec.is_short_proc (key_by key.now).indices }
+{
+    are_short_procs(&key.indices)
+}
+
 /// Whether the base of a key and the names in its brackets are within their limit.
-#[tactic(auto, using(crate::proofs::Lists::all_of))]
 fn is_short_key(key: &Key) -> bool
     ensures { result ≡ spec.is_short_key (key_by key.now) }
 {
-    is_short_name(key.base) && are_short_procs(&key.indices)
+    is_short_name(key.base) && has_short_indices(key)
 }
 
 /// Whether the name in an item of a set is within its limit.
@@ -83,7 +88,6 @@ fn are_short_items(items: &[Item]) -> bool
 }
 
 /// Whether the names in a set are within their limit.
-#[tactic(auto, using(crate::proofs::Lists::all_of))]
 fn is_short_set(set: &Set) -> bool
     ensures { result ≡ spec.is_short_set (set_by set.now) }
 {
@@ -130,16 +134,22 @@ fn is_each(proc: &Proc) -> bool
 }
 
 /// Whether one of these is the process of the turn.
-#[tactic(auto, using(crate::proofs::Lists::any_of))]
 fn has_each(procs: &[Proc]) -> bool
-    ensures { result ≡ list_any said.is_each (map proc_by procs.now) }
+    ensures { result ≡ list_any (λ p. said.is_each (proc_by p)) procs.now }
 {
     procs.iter().any(|proc| is_each(proc))
 }
 
+/// Whether the process of the turn indexes a key.
+fn is_indexed_by_each(key: &Key) -> bool
+    ensures { result ≡ said.has_each (key_by key.now) }
+{
+    has_each(&key.indices)
+}
+
 /// Whether an item is the process of the turn.
 fn is_each_item(item: &Item) -> bool
-    ensures { result ≡ list_any said.is_each (said.procs_in_item (item_by item.now)) }
+    ensures { result ≡ said.is_each_item (item_by item.now) }
 {
     match item {
         Item::One(proc) => is_each(proc),
@@ -147,14 +157,20 @@ fn is_each_item(item: &Item) -> bool
     }
 }
 
+/// Whether one of these items is the process of the turn.
+fn have_each(items: &[Item]) -> bool
+    ensures { result ≡ list_any (λ i. said.is_each_item (item_by i)) items.now }
+{
+    items.iter().any(|item| is_each_item(item))
+}
+
 /// Whether a set has the process of the turn as an item.
-#[tactic(auto, using(crate::proofs::Lists::any_item))]
 fn is_each_in(set: &Set) -> bool
-    ensures { result ≡ list_any said.is_each (said.procs_in_set (set_by set.now)) }
+    ensures { result ≡ said.is_each_in (set_by set.now) }
 {
     match set {
         Set::Own => false,
-        Set::Listed(items) => items.iter().any(|item| is_each_item(item)),
+        Set::Listed(items) => have_each(items),
     }
 }
 
@@ -164,14 +180,14 @@ fn names_each(call: &CallLine) -> bool
 {
     match call {
         CallLine::Commit | CallLine::UnpublishAll => false,
-        CallLine::Put { key, .. } => has_each(&key.indices),
+        CallLine::Put { key, .. } => is_indexed_by_each(key),
         CallLine::Fence { set, .. } => is_each_in(set),
         CallLine::Get { owner, key } | CallLine::GetNow { owner, key } => is_each(owner)
-            || has_each(&key.indices),
+            || is_indexed_by_each(key),
         CallLine::Publish { name, .. }
         | CallLine::Lookup { name }
         | CallLine::LookupWait { name }
-        | CallLine::Unpublish { name } => has_each(&name.indices),
+        | CallLine::Unpublish { name } => is_indexed_by_each(name),
     }
 }
 
@@ -214,20 +230,32 @@ pub fn is_role_named(role: &RoleDraft, name: &[u8]) -> bool
     name == role.name
 }
 
+/// Whether one of these jobs has this name.
+fn is_job_among(jobs: &[JobDraft], name: &[u8]) -> bool
+    ensures { result ≡ list_any (λ j. bytes_eq name.now j.name.now) jobs.now }
+{
+    jobs.iter().any(|job| is_job_named(job, name))
+}
+
 /// Whether there is a job of this name.
-#[tactic(auto, using(crate::proofs::Lists::any_of_two))]
 fn has_job(draft: &Draft, name: &[u8]) -> bool
     ensures { result ≡ plan.is_among (job_names (declared_of draft.now)) name.now }
 {
-    draft.jobs.iter().any(|job| is_job_named(job, name))
+    is_job_among(&draft.jobs, name)
+}
+
+/// Whether one of these roles has this name.
+fn is_role_among(roles: &[RoleDraft], name: &[u8]) -> bool
+    ensures { result ≡ list_any (λ r. bytes_eq name.now r.name.now) roles.now }
+{
+    roles.iter().any(|role| is_role_named(role, name))
 }
 
 /// Whether there is a role of this name.
-#[tactic(auto, using(crate::proofs::Lists::any_of_two))]
 fn has_role(draft: &Draft, name: &[u8]) -> bool
     ensures { result ≡ plan.is_among (role_names (declared_of draft.now)) name.now }
 {
-    draft.roles.iter().any(|role| is_role_named(role, name))
+    is_role_among(&draft.roles, name)
 }
 
 /// Whether a line declares what is declared already.
@@ -243,7 +271,6 @@ fn is_again(draft: &Draft, said: &Line) -> bool
 }
 
 /// How many roles are groups.
-#[tactic(auto, using(crate::proofs::Lists::count_of))]
 fn group_count(draft: &Draft) -> usize
     ensures { result ≡ spec.group_count (declared_of draft.now) }
 {

@@ -1,6 +1,7 @@
 //! Numbers for the names of jobs and roles.
 
-ghost use Rattle.std.specs.Prelude.{◌≡◌, ◌<◌, ◌^◌, map, slice_get, IfOk};
+ghost use Rattle.std.specs.Prelude.{◌≡◌, map, position, slice_get, IfOk};
+ghost use Rattle.std.specs.Str.{bytes_eq};
 ghost use Rattle.wire_script.specs.FirstPass.{number_or_count};
 ghost use Rattle.wire_pattern.specs.Shown as shown;
 ghost use Rattle.wire_pattern.specs.Shown.{who_by, indexed_by, line_by, step_by, role_by, job_by};
@@ -15,11 +16,25 @@ use std::alloc::{AllocError, Global};
 use wire_pattern::{Call, Indexed, Item, Job, Line, Role, Step, Who};
 use wire_pattern_lines::{CallLine, Item as ItemLine, Key, Proc, Set};
 
+/// The place of the role of this name.
+fn place_of_role(roles: &[RoleDraft], name: &[u8]) -> Option<usize>
+    ensures { result ≡ position (λ r. bytes_eq name.now r.name.now) roles.now }
+{
+    roles.iter().position(|role| is_role_named(role, name))
+}
+
+/// The place of the job of this name.
+fn place_of_job(jobs: &[JobDraft], name: &[u8]) -> Option<usize>
+    ensures { result ≡ position (λ j. bytes_eq name.now j.name.now) jobs.now }
+{
+    jobs.iter().position(|job| is_job_named(job, name))
+}
+
 /// The number of a role, or that of all where there is none of this name.
 fn role_number(draft: &Draft, name: &[u8]) -> u32
     ensures { result ≡ spec.role_number (declared_of draft.now) name.now }
 {
-    match draft.roles.iter().position(|role| is_role_named(role, name)) {
+    match place_of_role(&draft.roles, name) {
         Some(number) => number as u32,
         None => draft.roles.len() as u32,
     }
@@ -29,15 +44,15 @@ fn role_number(draft: &Draft, name: &[u8]) -> u32
 fn job_number(draft: &Draft, name: &[u8]) -> u32
     ensures { result ≡ number_or_count (job_names (declared_of draft.now)) name.now }
 {
-    match draft.jobs.iter().position(|job| is_job_named(job, name)) {
+    match place_of_job(&draft.jobs, name) {
         Some(number) => number as u32,
         None => draft.jobs.len() as u32,
     }
 }
 
 /// A process with the number of its role.
-fn who_of(draft: &Draft, proc: Proc) -> Who
-    ensures { who_by result ≡ spec.who_of (declared_of draft.now) (proc_by proc.entry) }
+fn who_of(draft: &Draft, proc: &Proc) -> Who
+    ensures { who_by result ≡ spec.who_of (declared_of draft.now) (proc_by proc.now) }
 {
     match proc {
         Proc::Caller => Who::Caller,
@@ -52,7 +67,8 @@ fn whos_of(alloc: Global, draft: &Draft, procs: &[Proc]) -> Result<Vec<Who>, All
 {
     let mut whos = Vec::with_capacity(alloc, procs.len())?;
     for proc in procs {
-        whos.push(who_of(draft, *proc))?;
+        let made = who_of(draft, proc);
+        whos.push(made)?;
     }
     Ok(whos)
 }
@@ -88,8 +104,8 @@ fn role_item(draft: &Draft, role: u32) -> Item
 }
 
 /// An item of a set with numbers for its names.
-fn item_of(draft: &Draft, item: ItemLine) -> Item
-    ensures { shown.item_by result ≡ spec.item_of (declared_of draft.now) (item_by item.entry) }
+fn item_of(draft: &Draft, item: &ItemLine) -> Item
+    ensures { shown.item_by result ≡ spec.item_of (declared_of draft.now) (item_by item.now) }
 {
     match item {
         ItemLine::One(Proc::Caller) => Item::One(Who::Caller),
@@ -105,7 +121,8 @@ fn listed_items(alloc: Global, draft: &Draft, items: &[ItemLine]) -> Result<Vec<
 {
     let mut numbered = Vec::with_capacity(alloc, items.len())?;
     for item in items {
-        numbered.push(item_of(draft, *item))?;
+        let made = item_of(draft, item);
+        numbered.push(made)?;
     }
     Ok(numbered)
 }
@@ -121,8 +138,8 @@ fn items_of(alloc: Global, draft: &Draft, job: u32, set: &Set) -> Result<Vec<Ite
 }
 
 /// A get of either kind with numbers for its names.
-fn get_of(alloc: Global, draft: &Draft, is_now: bool, owner: Proc, key: &Key) -> Result<Call, AllocError>
-    ensures { IfOk result (λ c. shown.call_by c ≡ spec.get_of (declared_of draft.now) is_now (proc_by owner.entry) (key_by key.now)) }
+fn get_of(alloc: Global, draft: &Draft, is_now: bool, owner: &Proc, key: &Key) -> Result<Call, AllocError>
+    ensures { IfOk result (λ c. shown.call_by c ≡ spec.get_of (declared_of draft.now) is_now (proc_by owner.now) (key_by key.now)) }
 {
     let key = indexed_of(alloc, draft, key)?;
     let owner = who_of(draft, owner);
@@ -150,8 +167,8 @@ fn call_of(alloc: Global, draft: &Draft, job: u32, call: &CallLine) -> Result<Ca
             let collect = *collect;
             Ok(Call::Fence { items, collect })
         }
-        CallLine::Get { owner, key } => get_of(alloc, draft, false, *owner, key),
-        CallLine::GetNow { owner, key } => get_of(alloc, draft, true, *owner, key),
+        CallLine::Get { owner, key } => get_of(alloc, draft, false, owner, key),
+        CallLine::GetNow { owner, key } => get_of(alloc, draft, true, owner, key),
         CallLine::Publish { name, value } => {
             let value = Vec::from_slice(alloc, value)?;
             let name = indexed_of(alloc, draft, name)?;
@@ -192,7 +209,8 @@ fn numbered_lines(
 {
     let mut numbered = Vec::with_capacity(alloc, lines.len())?;
     for line in lines {
-        numbered.push(line_of(alloc, draft, job, line)?)?;
+        let made = line_of(alloc, draft, job, line)?;
+        numbered.push(made)?;
     }
     Ok(numbered)
 }
@@ -231,7 +249,8 @@ fn numbered_steps(
 {
     let mut numbered = Vec::with_capacity(alloc, steps.len())?;
     for step in steps {
-        numbered.push(numbered_step(alloc, draft, job, step)?)?;
+        let made = numbered_step(alloc, draft, job, step)?;
+        numbered.push(made)?;
     }
     Ok(numbered)
 }
@@ -252,13 +271,18 @@ fn numbered_role(alloc: Global, draft: &Draft, role: &RoleDraft) -> Result<Role,
     })
 }
 
-/// The roles with numbers for the names in their scripts.
-pub fn numbered_roles(alloc: Global, draft: &Draft) -> Result<Vec<Role>, AllocError>
-    ensures { IfOk result (λ v. map role_by v.items ≡ (spec.pattern_of (declared_of draft.now)).roles) }
+/// These roles with numbers for the names in their scripts.
+pub fn numbered_roles(
+    alloc: Global,
+    draft: &Draft,
+    roles: &[RoleDraft],
+) -> Result<Vec<Role>, AllocError>
+    ensures { IfOk result (λ v. map role_by v.items ≡ map (spec.role_of (declared_of draft.now)) (map role_of roles.now)) }
 {
-    let mut numbered = Vec::with_capacity(alloc, draft.roles.len())?;
-    for role in &draft.roles {
-        numbered.push(numbered_role(alloc, draft, role)?)?;
+    let mut numbered = Vec::with_capacity(alloc, roles.len())?;
+    for role in roles {
+        let made = numbered_role(alloc, draft, role)?;
+        numbered.push(made)?;
     }
     Ok(numbered)
 }
@@ -275,12 +299,13 @@ fn owned_job(alloc: Global, job: &JobDraft) -> Result<Job, AllocError>
 }
 
 /// The jobs.
-pub fn owned_jobs(alloc: Global, draft: &Draft) -> Result<Vec<Job>, AllocError>
-    ensures { IfOk result (λ v. map job_by v.items ≡ (declared_of draft.now).jobs) }
+pub fn owned_jobs(alloc: Global, jobs: &[JobDraft]) -> Result<Vec<Job>, AllocError>
+    ensures { IfOk result (λ v. map job_by v.items ≡ map job_of jobs.now) }
 {
-    let mut jobs = Vec::with_capacity(alloc, draft.jobs.len())?;
-    for job in &draft.jobs {
-        jobs.push(owned_job(alloc, job)?)?;
+    let mut owned = Vec::with_capacity(alloc, jobs.len())?;
+    for job in jobs {
+        let made = owned_job(alloc, job)?;
+        owned.push(made)?;
     }
-    Ok(jobs)
+    Ok(owned)
 }

@@ -60,8 +60,8 @@ fn numbered(alloc: Global, draft: &Draft) -> Result<(Vec<Job>, Vec<Role>), Alloc
     ensures jobs { IfOk result (λ n. map job_by n.0.items ≡ (numbered_pattern (declared_of draft.now)).jobs) }
     ensures roles { IfOk result (λ n. map role_by n.1.items ≡ (numbered_pattern (declared_of draft.now)).roles) }
 {
-    let jobs = owned_jobs(alloc, draft)?;
-    let roles = numbered_roles(alloc, draft)?;
+    let jobs = owned_jobs(alloc, &draft.jobs)?;
+    let roles = numbered_roles(alloc, draft, &draft.roles)?;
     Ok((jobs, roles))
 }
 

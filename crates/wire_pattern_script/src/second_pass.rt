@@ -23,7 +23,9 @@ impl Script<'_> {
     {
         if !is_declared(self.jobs, self.roles.len(), &line.call) {
             Some(Fault::UnknownName(line.number))
-        } else if !(is_known(self.jobs, self.roles, &line.call) && fits) {
+        } else if !is_known(self.jobs, self.roles, &line.call) {
+            Some(Fault::BadLine(line.number))
+        } else if !fits {
             Some(Fault::BadLine(line.number))
         } else if !is_member_call(self.roles, self.caller, &line.call) {
             Some(Fault::NotMember(line.number))
@@ -45,13 +47,20 @@ impl Script<'_> {
         }
     }
 
+    /// The fault of a line in a loop over this group.
+    fn turn_fault(&self, group: u32, turns: Turns, line: &Line) -> Option<Fault>
+        ensures { result ≡ spec.turn_fault self.now.jobs (map role_by self.now.roles.now) self.now.caller group (turns_by turns) (line_by line.now) }
+    {
+        let fits = fits_loop(self.roles, group, turns, &line.call);
+        self.line_fault(fits, line)
+    }
+
     /// The first fault of the lines of a loop.
     fn lines_fault(&self, group: u32, turns: Turns, lines: &[Line]) -> Option<Fault>
-        ensures { result ≡ spec.lines_fault self.now.jobs (map role_by self.now.roles.now) self.now.caller group (turns_by turns) (map line_by lines.now) }
+        ensures { result ≡ spec.first_fault (spec.turn_fault self.now.jobs (map role_by self.now.roles.now) self.now.caller group (turns_by turns)) (map line_by lines.now) }
     {
         for line in lines {
-            let fits = fits_loop(self.roles, group, turns, &line.call);
-            if let Some(fault) = self.line_fault(fits, line) {
+            if let Some(fault) = self.turn_fault(group, turns, line) {
                 return Some(fault);
             }
         }
