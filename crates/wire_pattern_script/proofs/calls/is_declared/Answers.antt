@@ -8,5 +8,5 @@ use Rattle.wire_pattern_script.proofs.calls.is_declared.Goals as goal
 
 pub returns-in-Fence : goal.returns-in-Fence
 returns-in-Fence c =
-    rw c.in-Fence.is (c.are_declared_items.ensures ∙ ap (list_all (λ x. is_declared_item c.args.jobs c.args.roles (item_by x))) c.deref-in-Fence.ensures.value ∙ all_of item_by (is_declared_item c.args.jobs c.args.roles) c.in-Fence.items.items
+    rw c.in-Fence.is (c.are_declared_items.ensures ∙ ap (list_all (λ x. is_declared_item c.args.jobs c.args.roles (item_by x))) c.deref.ensures.value ∙ all_of item_by (is_declared_item c.args.jobs c.args.roles) c.in-Fence.items.items
     ∙ sym (declared_twice c.args.jobs c.args.roles (map item_by c.in-Fence.items.items)))

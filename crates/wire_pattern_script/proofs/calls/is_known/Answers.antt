@@ -8,5 +8,5 @@ use Rattle.wire_pattern_script.proofs.calls.is_known.Goals as goal
 
 pub returns-in-Fence : goal.returns-in-Fence
 returns-in-Fence c =
-    rw c.in-Fence.is (c.are_known_items.ensures ∙ ap (list_all (λ x. is_known_item c.args.jobs (map role_by c.args.roles.now) (item_by x))) c.deref-in-Fence.ensures.value ∙ all_of item_by (is_known_item c.args.jobs (map role_by c.args.roles.now)) c.in-Fence.items.items
+    rw c.in-Fence.is (c.are_known_items.ensures ∙ ap (list_all (λ x. is_known_item c.args.jobs (map role_by c.args.roles.now) (item_by x))) c.deref.ensures.value ∙ all_of item_by (is_known_item c.args.jobs (map role_by c.args.roles.now)) c.in-Fence.items.items
     ∙ sym (known_twice c.args.jobs (map role_by c.args.roles.now) (map item_by c.in-Fence.items.items)))
