@@ -15,6 +15,3 @@ min_shown n first number =
       | true ↦ λ e h. cc
       | false ↦ λ e h. let some = eqb-false n 0 e in (cc, cc, omega arith)
     ] refl
-
-
-

@@ -92,10 +92,7 @@ fn key_alone<'a>(alloc: Global, words: &[&'a [u8]]) -> Result<Option<Key<'a>>, A
 }
 
 /// A key and a value.
-fn pair_of<'a>(
-    alloc: Global,
-    words: &[&'a [u8]],
-) -> Result<Option<(Key<'a>, &'a [u8])>, AllocError>
+fn pair_of<'a>(alloc: Global, words: &[&'a [u8]]) -> Result<Option<(Key<'a>, &'a [u8])>, AllocError>
     ensures found { IfOk result (λ o. IfSome o (λ p. (texts_of words.now ≡ spelled_key (key_by p.0) ∷ p.1.now ∷ [])
         × (is_lawful_key (key_by p.0) ≡ true) × (plan.is_word p.1.now ≡ true))) }
     ensures none { IfOk result (λ o. IfNone o ((key : spec.Key) (value : List ℕ) → is_lawful_key key ≡ true

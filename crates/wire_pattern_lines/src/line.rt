@@ -30,15 +30,9 @@ pub enum Line<'a> {
     /// A role of one process.
     Single(&'a [u8]),
     /// A role of any number of processes, at least so many.
-    Many {
-        name: &'a [u8],
-        least: u32,
-    },
+    Many { name: &'a [u8], least: u32 },
     /// A loop over a role.
-    Begin {
-        turns: Turns,
-        group: &'a [u8],
-    },
+    Begin { turns: Turns, group: &'a [u8] },
     /// The end of a loop.
     End,
     Calls(CallLine<'a>),
@@ -202,11 +196,7 @@ fn alone<'a>(line: Line<'a>, words: &[&[u8]]) -> Option<Line<'a>>
     ensures found { IfSome result (λ l. (l ≡ line.entry) × (words.now ≡ [])) }
     ensures none { IfNone result (words.now ≢ []) }
 {
-    if words.is_empty() {
-        Some(line)
-    } else {
-        None
-    }
+    if words.is_empty() { Some(line) } else { None }
 }
 
 /// The line of a call, by its verb and the words after it.

@@ -120,10 +120,10 @@ apart_more : (texts : List Name) (t : Name) → AreApart texts → is_among text
 apart_more texts t apart new m n lm ln e =
     elim (cases_lt m (length texts)) [
       | inl a ↦ elim (cases_lt n (length texts)) [
-          | inl b ↦ apart m n a b (sym (at_front texts t m a) ∙ e ∙ at_front texts t n b)
-          | inr b ↦ (let end : n ≡ length texts = omega (arith, length-append texts (t ∷ [])) in
-              absurd (not_there t texts new m a (sym (at_end texts t) ∙ ap (text_at (texts ++ t ∷ [])) (sym end) ∙ sym e ∙ at_front texts t m a)))
-        ]
+        | inl b ↦ apart m n a b (sym (at_front texts t m a) ∙ e ∙ at_front texts t n b)
+        | inr b ↦ (let end : n ≡ length texts = omega (arith, length-append texts (t ∷ [])) in
+            absurd (not_there t texts new m a (sym (at_end texts t) ∙ ap (text_at (texts ++ t ∷ [])) (sym end) ∙ sym e ∙ at_front texts t m a)))
+      ]
       | inr a ↦ (let last : m ≡ length texts = omega (arith, length-append texts (t ∷ [])) in
           elim (cases_lt n (length texts)) [
             | inl b ↦ absurd (not_there t texts new n b (sym (at_end texts t) ∙ ap (text_at (texts ++ t ∷ [])) (sym last) ∙ e ∙ at_front texts t n b))
@@ -182,7 +182,15 @@ fit_call d (Some l) line call e f lawful right =
     let fit : is_fit_turn (line, call) ≡ true = rw (lawful, right) refl in
     let lines : list_all is_fit_turn l.lines ≡ true = subst (λ o. is_fit_loop o ≡ true) e f.open_lines in
     record {
-      few_jobs = f.few_jobs; few_roles = f.few_roles; named_jobs = f.named_jobs; apart = f.apart; named_roles = f.named_roles; in_jobs = f.in_jobs; rising = f.rising; least = f.least; steps = f.steps;
+      few_jobs = f.few_jobs;
+      few_roles = f.few_roles;
+      named_jobs = f.named_jobs;
+      apart = f.apart;
+      named_roles = f.named_roles;
+      in_jobs = f.in_jobs;
+      rising = f.rising;
+      least = f.least;
+      steps = f.steps;
       open_lines = all_more is_fit_turn l.lines (line, call) lines fit;
     }
 
@@ -190,7 +198,15 @@ fit_after : (d : Declared) (line : ℕ) (said : Said) → is_lawful said ≡ tru
     → IsFit (after d line said)
 fit_after d line Header lawful place short new room f = f
 fit_after d line Keep lawful place short new room f = record {
-  few_jobs = f.few_jobs; few_roles = f.few_roles; named_jobs = f.named_jobs; apart = f.apart; named_roles = f.named_roles; in_jobs = f.in_jobs; rising = f.rising; least = f.least; steps = f.steps;
+  few_jobs = f.few_jobs;
+  few_roles = f.few_roles;
+  named_jobs = f.named_jobs;
+  apart = f.apart;
+  named_roles = f.named_roles;
+  in_jobs = f.in_jobs;
+  rising = f.rising;
+  least = f.least;
+  steps = f.steps;
   open_lines = f.open_lines;
 }
 fit_after d line (Job name) lawful place short new room f =
@@ -216,7 +232,15 @@ fit_after d line (Many name least) lawful place short new room f =
     let few : nat_le least 9 ≡ true = and_right _ _ lawful in
     fit_role d line name false least f (ltb-true 0 (length d.jobs) (and_left _ _ place)) (ltb-true (length d.roles) role_limit (and_left _ _ room)) (and_left _ _ lawful) short (rw few refl)
 fit_after d line (Begin turns group) lawful place short new room f = record {
-  few_jobs = f.few_jobs; few_roles = f.few_roles; named_jobs = f.named_jobs; apart = f.apart; named_roles = f.named_roles; in_jobs = f.in_jobs; rising = f.rising; least = f.least; steps = f.steps;
+  few_jobs = f.few_jobs;
+  few_roles = f.few_roles;
+  named_jobs = f.named_jobs;
+  apart = f.apart;
+  named_roles = f.named_roles;
+  in_jobs = f.in_jobs;
+  rising = f.rising;
+  least = f.least;
+  steps = f.steps;
   open_lines = refl;
 }
 fit_after d line End lawful place short new room f = fit_end d d.open_loop f f.open_lines
@@ -243,7 +267,16 @@ fit_all (line ∷ lines) d e last h f = go (λ x m g. fit_all lines x e line.0 m
 
 fit_nothing : IsFit nothing
 fit_nothing = record {
-  few_jobs = omega arith; few_roles = omega arith; named_jobs = refl; apart = λ m n lm ln e. absurd (omega arith); named_roles = refl; in_jobs = refl; rising = refl; least = refl; steps = refl; open_lines = refl;
+  few_jobs = omega arith;
+  few_roles = omega arith;
+  named_jobs = refl;
+  apart = λ m n lm ln e. absurd (omega arith);
+  named_roles = refl;
+  in_jobs = refl;
+  rising = refl;
+  least = refl;
+  steps = refl;
+  open_lines = refl;
 }
 
 pub first_fit : (lines : List Statement) (n : ℕ) (d : Declared) → FirstPass lines n (Ok d) → IsFit d

@@ -21,7 +21,6 @@ either : (P : plan.Line → Type 0) (word : Indexed) (reply : Reply) (line : pla
 either P word reply line fixed plain = elim (is_reserved word.base) as (λ t. P (if t then plan.LineFixed reply else line)) [ true ↦ fixed | false ↦ plain ]
 
 module _ (jobs : ℕ) (roles : List Role) where
-
   know_who : (w : Who) → is_known_who roles w ≡ true → KnowsWho (λ role. single_in (slice_get roles role)) w
   know_who (Only r) h = h
   know_who Self h = tt
@@ -165,9 +164,10 @@ module _ (jobs : ℕ) (roles : List Role) where
       let sound = and_left (is_sound_call jobs roles caller l.call) (is_loop_call roles group turns l.call) first in
       let loop = and_right (is_sound_call jobs roles caller l.call) (is_loop_call roles group turns l.call) first in
       let known = and_left (is_known jobs roles l.call) (is_member_call roles caller l.call) (and_right (has_words l.call) _ sound) in
-      let fits = and_right (is_commit l.call || names_each l.call) _ loop in
-      ((know_line l.call known, (loop_line group l.call (and_left _ _ loop) (not_true _ (and_left _ _ fits)), turn_line turns l.call (and_right _ _ fits))),
-      loop_lines caller group turns ls (and_right _ _ h))
+      let fits = and_right (is_commit l.call || names_each l.call) _ loop in (
+        (know_line l.call known, (loop_line group l.call (and_left _ _ loop) (not_true _ (and_left _ _ fits)), turn_line turns l.call (and_right _ _ fits))),
+        loop_lines caller group turns ls (and_right _ _ h),
+      )
 
   -- where a put waits in the plan's lines, one waits in the pattern's
   waits_more : (u w : Bool) (call : Call) → (u ≡ true → w ≡ true) → plan.waits_line u (line_of roles call) ≡ true → waits_after w call ≡ true
@@ -226,11 +226,14 @@ module _ (jobs : ℕ) (roles : List Role) where
   is_step caller u w (Once line) up h =
       know_line line.call (and_left (is_known jobs roles line.call) (is_member_call roles caller line.call) (and_right (has_words line.call) _ (and_left (is_sound_call jobs roles caller line.call) _ h)))
   is_step caller u w (Loop n group turns lines) up h =
-      let body = and_right _ _ h in
-      (loop_lines caller group turns lines (and_left _ _ body), λ c.
-      let both = or_split (has_commit lines) (not w && not (waits_after_all false lines)) (and_right _ _ body) (commits lines c) in
-      (false_by u w up (not_true w (and_left _ _ both)),
-      false_by (plan.waits_lines false (map (λ l. line_of roles l.call) lines)) (waits_after_all false lines) (waits_more_all false false lines (λ e. e)) (not_true _ (and_right _ _ both))))
+      let body = and_right _ _ h in (
+        loop_lines caller group turns lines (and_left _ _ body),
+        λ c.
+            let both = or_split (has_commit lines) (not w && not (waits_after_all false lines)) (and_right _ _ body) (commits lines c) in (
+              false_by u w up (not_true w (and_left _ _ both)),
+              false_by (plan.waits_lines false (map (λ l. line_of roles l.call) lines)) (waits_after_all false lines) (waits_more_all false false lines (λ e. e)) (not_true _ (and_right _ _ both)),
+            ),
+      )
 
   are_steps : (caller : ℕ) (u w : Bool) (steps : List Step) → (u ≡ true → w ≡ true) → are_sound_steps jobs roles caller w steps ≡ true
       → AreSteps (λ role. single_in (slice_get roles role)) u (map (step_of roles) steps)

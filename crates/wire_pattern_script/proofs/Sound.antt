@@ -126,7 +126,7 @@ module _ (d : Declared) where
     turn_sound job group turns line fit none =
         let n = line_none (fits_loop roles group turns (call_of d job line.1)) (line_of d job line) none in
         let named : (is_commit (call_of d job line.1) || names_each (call_of d job line.1)) ≡ true =
-            ap (λ b. b || names_each (call_of d job line.1)) (commit_same job line.1) ∙ ap (λ b. said.is_commit line.1 || b) (each_same job line.1) ∙ and_right _ _ fit in
+        ap (λ b. b || names_each (call_of d job line.1)) (commit_same job line.1) ∙ ap (λ b. said.is_commit line.1 || b) (each_same job line.1) ∙ and_right _ _ fit in
         both (is_sound_call jobs roles caller (call_of d job line.1)) _ (call_sound job line.1 (and_left _ _ fit) n.0 n.2)
         (both (is_commit (call_of d job line.1) || names_each (call_of d job line.1)) _ named n.1)
 

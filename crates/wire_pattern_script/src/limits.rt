@@ -8,5 +8,7 @@ pub const VALUE_BYTES: usize = 255;
 
 /// How many jobs, roles, and roles of any number of processes a file may have.
 pub const JOBS: usize = 16;
+
 pub const ROLES: usize = 64;
+
 pub const GROUPS: usize = 6;

@@ -138,7 +138,13 @@ fn items_of(alloc: Global, draft: &Draft, job: u32, set: &Set) -> Result<Vec<Ite
 }
 
 /// A get of either kind with numbers for its names.
-fn get_of(alloc: Global, draft: &Draft, is_now: bool, owner: &Proc, key: &Key) -> Result<Call, AllocError>
+fn get_of(
+    alloc: Global,
+    draft: &Draft,
+    is_now: bool,
+    owner: &Proc,
+    key: &Key,
+) -> Result<Call, AllocError>
     ensures { IfOk result (λ c. shown.call_by c ≡ spec.get_of (declared_of draft.now) is_now (proc_by owner.now) (key_by key.now)) }
 {
     let key = indexed_of(alloc, draft, key)?;

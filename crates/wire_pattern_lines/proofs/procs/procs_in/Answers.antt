@@ -14,8 +14,11 @@ returns-clause-found c =
     some_through (λ v. (map spelled_proc (map proc_by v.items) ≡ texts_of c.deref.result.now) × (list_all is_lawful_proc (map proc_by v.items) ≡ true))
     (λ v. (c.args.text.now ≡ join_with_byte 44 (map spelled_proc (map proc_by v.items))) × (0 < length v.items) × (list_all is_lawful_proc (map proc_by v.items) ≡ true))
     c.procs_of.result
-    (λ v h. (joined spelled_proc is_lawful_proc c.args.text.now (map proc_by v.items) (h.0 ∙ p),
-    some_mapped proc_by v.items (some_parts spelled_proc is_lawful_proc c.args.text.now (map proc_by v.items) (h.0 ∙ p)), h.1))
+    (λ v h. (
+      joined spelled_proc is_lawful_proc c.args.text.now (map proc_by v.items) (h.0 ∙ p),
+      some_mapped proc_by v.items (some_parts spelled_proc is_lawful_proc c.args.text.now (map proc_by v.items) (h.0 ∙ p)),
+      h.1,
+    ))
     c.procs_of.ensures.found
 
 pub returns-clause-none : goal.returns-clause-none
