@@ -42,12 +42,12 @@ static int connect_here(const char *path)
     return made;
 }
 
-/* Connects with a port of another machine. */
+/* Connects with a port of another machine; below 0 where it can't. */
 static int connect_there(const char *host, const char *port)
 {
     struct addrinfo wanted = {.ai_socktype = SOCK_STREAM}, *found = NULL;
     if (getaddrinfo(host, port, &wanted, &found))
-        give_up("the host of wire_up-run isn't known");
+        return -1;
     int made = -1;
     for (struct addrinfo *it = found; it && made < 0; it = it->ai_next) {
         made = socket(it->ai_family, it->ai_socktype | SOCK_CLOEXEC, it->ai_protocol);
@@ -57,8 +57,6 @@ static int connect_there(const char *host, const char *port)
         }
     }
     freeaddrinfo(found);
-    if (made < 0)
-        give_up("wire_up-run can't be reached");
     return made;
 }
 
@@ -67,12 +65,15 @@ void connect_to(const char *address)
     if (address[0] == '/') {
         to = connect_here(address);
     } else {
-        char *host = strdup(address), *colon = host ? strrchr(host, ':') : NULL;
+        char *hosts = strdup(address), *colon = hosts ? strrchr(hosts, ':') : NULL, *rest = NULL;
         if (!colon)
             give_up("no address");
         *colon = 0;
-        to = connect_there(host, colon + 1);
-        free(host);
+        for (char *it = strtok_r(hosts, ",", &rest); it && to < 0; it = strtok_r(NULL, ",", &rest))
+            to = connect_there(it, colon + 1);
+        free(hosts);
+        if (to < 0)
+            give_up("wire_up-run can't be reached");
     }
     from = fdopen(dup(to), "r");
     if (!from)

@@ -145,6 +145,44 @@ class InPartTest(RoomTest):
         self.assertIn(said, ran.stderr)
 
 
+# A get of one key brings the others to the node, where another rank asks for one without waiting.
+OWNER = (("put global a text:1", "0"), ("put global b text:2", "0"), ("commit", "0"))
+ASKING = (
+    ("get blocks job:0 :a -", "0 text:1"),
+    ("get blocks job:0 :b pmix.immediate=number:1:1", "-46"),
+)
+OF_LIBRARY = "library OpenPMIx%204.2.2rc2%20(PMIx%20Standard)"
+
+
+class LibraryTest(RoomTest):
+    """What is said of the library that was recorded."""
+
+    def record(self, library: str, namespace: str) -> str:
+        """What the recorder says of a plan of three ranks that a library served."""
+        scripts = (OWNER, ASKING[:1], ASKING[1:])
+        for rank, script in enumerate(scripts):
+            tape = Tape(rank, namespace, f"n{min(rank, 1)}")
+            tape.lines[-1] = library
+            for call, end in script:
+                tape.call(call.replace("job:", f"{namespace}:"), end)
+            write_file(os.path.join(self.room, f"{namespace}.{rank}.recording"), tape.text())
+        os.remove(self.good)
+        ran = run_recorder("--checker", support.program(), "-o", self.plan, "--from", self.room)
+        self.assertEqual(ran.returncode, 0, ran.stderr)
+        return ran.stderr.splitlines()[-1] if ran.stderr else ""
+
+    def test_calls_that_it_answers_otherwise(self) -> None:
+        self.assertEqual(
+            self.record(OF_LIBRARY, "7001"),
+            "wire_up-record: OpenPMIx 4.2.2, which was recorded, is known to answer 1 of 5 calls "
+            "otherwise than the rules (wire_up-run --predict openpmix-4.2 names them); the verdict "
+            "says less of app:2 1 get-now: the reply can depend on which rank is fast",
+        )
+
+    def test_a_library_that_is_not_known(self) -> None:
+        self.assertNotIn("otherwise", self.record(OF_LIBRARY.replace("4.2.2", "3.2.3"), "7001"))
+
+
 class WhereTest(RoomTest):
     """Where in the program the calls of a plan come from."""
 

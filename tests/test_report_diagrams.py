@@ -60,7 +60,7 @@ class WireUpTest(unittest.TestCase):
         diagram = make_diagram(TWO_RANKS.format("get a:1 k\ncommit\n", "commit\n"), r0=1)
         styles = [it.style for it in diagram.items]
         self.assertEqual(styles, [Style.WAITING, Style.UNREACHED, Style.PLAIN])
-        self.assertIn("waits for ever", drawing.draw_figure(diagram, ""))
+        self.assertIn("waits for ever", drawing.draw_figure(diagram, "", "it"))
 
     def test_ranks_of_one_shape_are_one_lane(self) -> None:
         diagram = make_diagram(report_support.write_cards(30, 3, 2, "fence all collect"))
@@ -73,7 +73,7 @@ class WireUpTest(unittest.TestCase):
         (bar,) = diagram.bars
         labels = [it.label for it in bar.marks.values()]
         self.assertEqual(labels, ["3–18 fence ×16", "1–16 fence ×16"])
-        self.assertNotIn("…", drawing.draw_figure(diagram, ""))
+        self.assertNotIn("…", drawing.draw_figure(diagram, "", "it"))
 
     def test_few_ranks_that_give_to_each_other_are_lanes(self) -> None:
         script = "rank n0\nput global k v\ncommit\nget a:{} k\n"
@@ -114,20 +114,22 @@ class DrawingTest(unittest.TestCase):
 
     def test_a_long_label_is_cut(self) -> None:
         key = "k" * 60
-        svg = drawing.draw_figure(make_diagram(TWO_RANKS.format(f"put global {key} v\n", "")), "")
+        plan = TWO_RANKS.format(f"put global {key} v\n", "")
+        svg = drawing.draw_figure(make_diagram(plan), "", "it")
         self.assertIn(f"<title>1 put {key}</title>", svg)
         self.assertRegex(svg, ">1 put k{19,50}…<")
 
     def test_a_label_uses_the_room_in_its_row(self) -> None:
         key = "k" * 30
         plan = TWO_RANKS.format(f"put global {key} v\ncommit\n", f"get a:0 {key}\n")
-        svg = drawing.draw_figure(make_diagram(plan), "")
+        svg = drawing.draw_figure(make_diagram(plan), "", "it")
         self.assertIn(f">1 put {key}<", svg)
         self.assertRegex(svg, ">1 get k{19,29}…<")
 
     def test_what_is_not_drawn_is_counted(self) -> None:
         puts = "".join(f"put global k{it} v\ncommit\n" for it in range(30))
-        figure = drawing.draw_figure(make_diagram(TWO_RANKS.format(puts, "get a:0 k29\n")), "")
+        plan = TWO_RANKS.format(puts, "get a:0 k29\n")
+        figure = drawing.draw_figure(make_diagram(plan), "", "it")
         self.assertIn("… 1 call</text>", figure)
 
 

@@ -1,4 +1,5 @@
 """Tests the SARIF 2.1.0 that `wire_up-report` writes."""
+import importlib
 import json
 import os
 import re
@@ -73,6 +74,55 @@ class SarifTest(report_support.PlanCase):
             self.assertRegex(run["originalUriBaseIds"][file["uriBaseId"]]["uri"], "^file:///.*/$")
         else:
             self.assertTrue(file["uri"].startswith("file:///"), file["uri"])
+
+
+# What the standard requires of each object, as a schema of JSON.
+FIELDS = os.path.join(support.TOP, "tests", "sarif_fields.json")
+
+
+def find_validator() -> Any:
+    """What validates by a schema. A test is skipped where there is none."""
+    try:
+        return importlib.import_module("jsonschema").Draft7Validator
+    except ImportError:
+        raise unittest.SkipTest(
+            "there is no python3-jsonschema: SARIF isn't validated by a schema"
+        ) from None
+
+
+def list_faults(said: Any) -> list[str]:
+    """What the standard doesn't allow in a text of SARIF."""
+    schema = json.loads(report_support.read(FIELDS))
+    return [it.message for it in find_validator()(schema).iter_errors(said)]
+
+
+@report_support.for_each_plan
+class FieldsTest(report_support.PlanCase):
+    """The SARIF of each plan is valid by the fields that the standard requires."""
+
+    def setUp(self) -> None:
+        find_validator()
+
+    def check(self, name: str) -> None:
+        said = json.loads(report_support.read(report_support.make_page(name).sarif))
+        self.assertEqual(list_faults(said), [])
+
+
+class ValidatorTest(unittest.TestCase):
+    """What lacks a field that the standard requires is refused."""
+
+    def test_what_lacks_a_field(self) -> None:
+        said = json.loads(report_support.read(report_support.make_page("early-get").sarif))
+        self.assertEqual(list_faults(said), [])
+        for path in (("runs",), ("runs", 0, "tool"), ("runs", 0, "results", 0, "message")):
+            with self.subTest(path):
+                other = json.loads(json.dumps(said))
+                within = other
+                for it in path[:-1]:
+                    within = within[it]
+                del within[path[-1]]
+                (fault,) = list_faults(other)
+                self.assertIn(f"'{path[-1]}' is a required property", fault)
 
 
 class SourceTest(unittest.TestCase):

@@ -8,7 +8,7 @@ import model
 from running import ProgramCase, text_of, written
 from test_run_parts import run
 from wire_up_tools.plan import read_plan
-from wire_up_tools.run.libraries.predicting import explain_differences, predict
+from wire_up_tools.run.libraries.predicting import Way, explain_differences, predict
 from wire_up_tools.run.libraries.rules import Rule
 from wire_up_tools.run.libraries.traits import LIBRARIES, Library
 from wire_up_tools.run.profile import ProfileRule
@@ -105,7 +105,7 @@ class Predictions(unittest.TestCase):
         """The steps of an order come first."""
         plan = read_plan(text_of("examples/early-get.plan"))
         traits = LIBRARIES["openpmix-4.2"].traits
-        late = predict(plan, traits, order=["app:1"]).lines[-1].reply
+        late = predict(plan, traits, way=Way(["app:1"])).lines[-1].reply
         self.assertEqual("PMIX_ERR_NOT_FOUND", late)
 
 

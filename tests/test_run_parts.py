@@ -1,6 +1,9 @@
 """Parts of wire_up-run that need no MPI: reports, launchers, orders, and its command line."""
+import contextlib
+import ipaddress
 import json
 import os
+import socket
 import subprocess
 import sys
 import tempfile
@@ -11,7 +14,7 @@ from xml.etree import ElementTree
 from support import TOP
 from wire_up_tools.failures import Refused
 from wire_up_tools.plan import Rank, read_plan
-from wire_up_tools.run import fake_nodes, launchers, ranks, turns
+from wire_up_tools.run import channels, fake_nodes, launchers, ranks, turns
 from wire_up_tools.run.answers import Case, Seen, write_junit
 from wire_up_tools.run.channels import Channel
 from wire_up_tools.run.expected import read_order
@@ -30,6 +33,8 @@ from wire_up_tools.run.suite_answers import (
 from wire_up_tools.run.tables import read_table, write_table
 
 COMMAND = os.path.join(TOP, "wire_up-run")
+# A host elsewhere, of those that are kept for documents.
+OTHER = "192.0.2.77"
 PLAN = b"""\
 rehearsal 1
 node n0
@@ -140,6 +145,38 @@ class Launchers(unittest.TestCase):
         for it in ("no-such-command -n 2", "'", ""):
             with self.assertRaises(Refused):
                 launchers.read_command(it)
+
+
+class Halls(unittest.TestCase):
+    """Where a run listens: at no more addresses than its hosts need."""
+
+    def test_hosts_that_are_this_machine(self) -> None:
+        """Then nothing outside can reach it."""
+        for hosts in (["localhost"], [socket.gethostname(), "127.0.0.1"]):
+            with contextlib.closing(channels.open_hall(".", hosts)) as hall:
+                (listener,) = hall.listeners
+                self.assertEqual("127.0.0.1", listener.getsockname()[0])
+                self.assertEqual(f"127.0.0.1:{listener.getsockname()[1]}", hall.address)
+
+    def test_another_host(self) -> None:
+        """The address is that from which it is reached."""
+        if channels.find_own_address(OTHER) is None:
+            self.skipTest("no way leads out of this machine")
+        (address,) = channels.find_addresses(["localhost", OTHER])
+        self.assertFalse(ipaddress.ip_address(address).is_loopback)
+
+    def test_a_host_that_is_not_known(self) -> None:
+        """Then it is every address."""
+        self.assertEqual([""], channels.find_addresses(["localhost", ""]))
+
+    def test_several_addresses(self) -> None:
+        """They have one port."""
+        listeners, told = channels.listen_at(["127.0.0.1", "127.0.0.2"])
+        ports = {it.getsockname()[1] for it in listeners}
+        for it in listeners:
+            it.close()
+        self.assertEqual(f"127.0.0.1,127.0.0.2:{ports.pop()}", told)
+        self.assertFalse(ports)
 
 
 class Scripts(unittest.TestCase):

@@ -25,6 +25,12 @@ from wire_up_tools.record.forms import (
 from wire_up_tools.words import make_printable
 
 ENDING = ".recording"
+# The file that stands in a folder where processes were started by PMI alone.
+STARTED_BY_PMI = "pmi"
+NOT_LOADED = "no process called PMIx_Init with the recorder in it"
+WITHOUT_PMIX = (
+    "the processes were started by PMI, as MPICH's mpiexec does: there is no PMIx to record"
+)
 LAST_DATE = 253402300799
 
 NUMBER = r"\d{1,18}"
@@ -112,7 +118,7 @@ class Recording:
 PLAIN = {
     "finalize": re.compile(r"finalize"),
     "other": re.compile(r"other (.+)"),
-    "unseen": re.compile(rf"unseen (call|object) ({WORD})"),
+    "unseen": re.compile(rf"unseen (call|object|pmix) ({WORD})"),
     "world": re.compile(r"world (\d{1,9}) (\d{1,9})"),
     "comm": re.compile(r"comm (\d{1,9}) (\d{1,9}) ([wcgvs]-?\d{1,18}) ([\d,-]+)"),
     "inter": re.compile(r"inter (\d{1,9}) (\d{1,9}) (c-?\d{1,18}) ([\d,-]+) ([\d,-]+)"),
@@ -137,6 +143,7 @@ def read_line(groups: Groups) -> Place:
 UNSEEN = {
     "call": "calls of {} that a library took elsewhere: what it called of MPI isn't seen",
     "object": "processes in which {} calls MPI past the recorder: its calls aren't seen",
+    "pmix": "processes in which {} calls PMIx past the recorder: its calls aren't seen",
 }
 
 
@@ -291,6 +298,11 @@ def read_recording(path: str, data: bytes) -> Recording:
     )
 
 
+def has_recordings(folder: str) -> bool:
+    """Whether there is a recording in a folder. Raises OSError."""
+    return any(it.endswith(ENDING) for it in os.listdir(folder))
+
+
 def find_files(paths: Sequence[str]) -> list[str]:
     """The files that are named, and the recordings in the folders that are. Raises OSError."""
     found: list[str] = []
@@ -318,7 +330,6 @@ def read_recordings(paths: Sequence[str], most: Limits) -> list[Recording]:
         with open(path, "rb") as it:
             found.append(read_recording(path, it.read()))
     if not found:
-        raise Refused(
-            "there is no recording: no process called PMIx_Init with the recorder in it"
-        )
+        is_pmi = any(os.path.exists(os.path.join(it, STARTED_BY_PMI)) for it in paths)
+        raise Refused(f"there is no recording: {WITHOUT_PMIX if is_pmi else NOT_LOADED}")
     return found

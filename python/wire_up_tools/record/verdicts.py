@@ -1,13 +1,21 @@
 """Finds what the checker says with and without the order of ends that another run may have found
 open, where that differs; on other placements of the ranks; and of several runs, of what they share
-and of each by itself."""
+and of each by itself. And what the library that was recorded answers otherwise than the rules."""
 from collections.abc import Iterator, Sequence
 from typing import Optional
 
 from wire_up_tools.checker import Checker
+from wire_up_tools.failures import Refused
+from wire_up_tools.plan import read_plan
+from wire_up_tools.record.planning import Plan
+from wire_up_tools.run.expected import expect
+from wire_up_tools.run.libraries.judging import MOST_CALLS, Judged, judge
+from wire_up_tools.run.libraries.traits import find_recorded
 
 NOTHING = "findings 0"
 ANYWHERE = "--anywhere"
+# How many calls are named whose reply can depend on which rank is fast.
+NAMED = 4
 
 
 def find_verdict(checker: Checker, plan: str, *options: str) -> Optional[str]:
@@ -55,3 +63,35 @@ def judge_runs(
         yield f"{found}: it holds for each of the {len(each)} runs"
     else:
         yield f"what the runs share has {found}; by themselves they have {', '.join(each)}"
+
+
+def judge_library(checker: Checker, plan: Plan, text: str) -> Optional[str]:
+    """How many calls of a plan the library that was recorded answers otherwise, and which of them
+    make the verdict say less; None where it answers none so, where nothing is known of it, or where
+    the plan is too large."""
+    first = plan.processes.all[0].recording
+    library = find_recorded(first.library, first.namespace.decode("ascii", "replace"))
+    if library is None or plan.draft.count > MOST_CALLS:
+        return None
+    data = text.encode()
+    try:
+        judged = judge(read_plan(data), library, expect(checker, data))
+    except (Refused, OSError):
+        return None
+    return say_judged(judged) if judged.found else None
+
+
+def say_judged(judged: Judged) -> str:
+    """How many calls a library answers otherwise, and which of them make the verdict say less."""
+    library = judged.library
+    said = (
+        f"{library.version}, which was recorded, is known to answer {len(judged.found)} of "
+        f"{judged.calls} calls otherwise than the rules (wire_up-run --predict {library.name} "
+        "names them)"
+    )
+    if not judged.timed:
+        return said
+    places = [f"{it}" for it in judged.timed]
+    rest = len(places) - NAMED
+    named = ", ".join(places[:NAMED]) + (f" and {rest} more" if rest > 0 else "")
+    return f"{said}; the verdict says less of {named}: the reply can depend on which rank is fast"

@@ -1,16 +1,19 @@
 """The reporter: what `wire_up` finds in a plan, for people to look at.
 
 - `command_line` begins. `contents` gathers all that a report says, whatever its form.
-- `asking` asks the checker; `findings`, `chains`, `runs` and `replies` read what it answers.
+- `asking` asks the checker; `findings`, `chains`, `runs` and `replies` read what it answers. Of a
+  large plan `plan_parts` makes parts, which are asked one by one.
 - `language` has what calls are called, and `messages` finds the message that would order a race.
 - `causes` puts the groups of the checker that have one cause into one mistake.
-- `placements` tells what is found on other placements of the ranks.
+- `placements` tells what is found on other placements of the ranks, `patterns` what is found for
+  every number of ranks, and `library_page` what a library is known to answer otherwise.
 - `uses` says who puts which key, `orders` what waits for what, and `waits` why ranks wait for
   ever.
 - `race_diagram`, `wire_up_diagram` and `node_diagram` choose what stands in a `diagram`.
-- `drawing` draws a diagram as SVG, and `text_drawing` as text.
+- `drawing` draws a diagram as SVG, with `hovering` for what is pointed at, and `text_drawing` as
+  text.
 - `explaining` and `verdict` have the words, with `phrases` for numbers and names; `partial` says
   why a verdict holds only in part.
-- `html_page` writes a page, with `markup` and `page_style`; `terminal_text` writes text for a
-  terminal, and `sarif` SARIF.
+- `html_page` writes a page, with `markup` and `page_style`, and `pattern_page` that of a pattern;
+  `terminal_text` writes text for a terminal, and `sarif` SARIF.
 """

@@ -3,18 +3,22 @@ import os
 import shutil
 import sys
 from collections.abc import Sequence
-from dataclasses import dataclass
+from dataclasses import dataclass, replace
 from typing import Optional
 
 from wire_up_tools.checker import Checker, find_checker
 from wire_up_tools.failures import Refused, Unusable, explain
 from wire_up_tools.files import STANDARD_OUTPUT, write_whole
 from wire_up_tools.options import Option, Parser, describe
-from wire_up_tools.report.asking import Asker
-from wire_up_tools.report.contents import make_report
+from wire_up_tools.report.asking import CLEAN, Asker
+from wire_up_tools.report.contents import Report, make_report
 from wire_up_tools.report.html_page import write_page
-from wire_up_tools.report.sarif import write_sarif
+from wire_up_tools.report.library_page import find_judged
+from wire_up_tools.report.pattern_page import write_pattern_page, write_pattern_text
+from wire_up_tools.report.patterns import CleanPattern, is_pattern, judge_pattern
+from wire_up_tools.report.sarif import write_results, write_sarif
 from wire_up_tools.report.terminal_text import write_text
+from wire_up_tools.run.libraries.traits import LIBRARIES, take_library
 
 HELPED, FAILED = 0, 125
 PAGE = "report.html"
@@ -38,6 +42,11 @@ OPTIONS = (
         "so that SARIF has their paths",
     ),
     Option(
+        "--library",
+        "NAME",
+        f"says also which calls this library is known to answer otherwise: {', '.join(LIBRARIES)}",
+    ),
+    Option(
         "--checker",
         "FILE",
         "the program `wire_up`; else the one beside this command or on the path is taken",
@@ -53,6 +62,7 @@ Writes a report that people look at: what `wire_up` finds in a plan, with diagra
 fixes.
 
     wire_up-report [OPTION..] PLAN                  writes the report of a plan as one HTML file
+    wire_up-report [OPTION..] PATTERN               does so for plans of every number of ranks
 
 {describe(OPTIONS)}
 The plan is a file. If it comes from `wire_up-record`, the report says where in the program each \
@@ -75,6 +85,7 @@ class Options:
     sarif: Optional[str]
     source: Optional[str]
     checker: Optional[str]
+    library: Optional[str] = None
 
 
 def read_options(words: Sequence[str]) -> Options:
@@ -84,7 +95,14 @@ def read_options(words: Sequence[str]) -> Options:
         raise Unusable("one plan at a time" if said.rest else "which plan?")
     output = said.o or (STANDARD_OUTPUT if said.text else PAGE)
     return Options(
-        said.rest[0], output, said.text, said.large, said.sarif, said.source, said.checker
+        plan=said.rest[0],
+        output=output,
+        is_text=said.text,
+        is_large=said.large,
+        sarif=said.sarif,
+        source=said.source,
+        checker=said.checker,
+        library=said.library,
     )
 
 
@@ -107,15 +125,53 @@ def write_report(options: Options, folder: str) -> int:
     """Makes and writes a report. Answers the status. Raises Refused or OSError."""
     if options.source is not None and not os.path.isdir(options.source):
         raise Refused(f"{options.source}: there is no such folder")
+    if options.library is not None:
+        take_library(options.library)
     with open(options.plan, "rb") as plan:
         data = plan.read()
     checker = Checker(choose_checker(options.checker, folder), options.is_large)
-    report = make_report(options.plan, Asker(checker, data))
-    text = write_text(report) if options.is_text else write_page(report)
+    written = write_forms(options, Asker(checker, data))
     if options.sarif:
-        write_whole(options.sarif, write_sarif(report, options.source))
-    write_whole(options.output, text)
-    return report.status
+        write_whole(options.sarif, written.sarif)
+    write_whole(options.output, written.text)
+    return written.status
+
+
+@dataclass(frozen=True)
+class Written:
+    """A report in the form that is asked for, its SARIF if that is, and the status."""
+
+    text: str
+    sarif: str
+    status: int
+
+
+def write_forms(options: Options, asker: Asker) -> Written:
+    """The report of a plan, or of a pattern. Raises Refused, OSError."""
+    if not is_pattern(asker.data):
+        return write_plan_forms(options, report_plan(options, asker))
+    found = judge_pattern(options.plan, asker)
+    if isinstance(found, CleanPattern):
+        write = write_pattern_text if options.is_text else write_pattern_page
+        sarif = write_results(found.version, [], options.source) if options.sarif else ""
+        return Written(write(found), sarif, CLEAN)
+    report = report_plan(options, replace(asker, data=found.data))
+    return write_plan_forms(options, replace(report, pattern=found.pattern))
+
+
+def report_plan(options: Options, asker: Asker) -> Report:
+    """What is told of a plan, and what a library makes of it. Raises Refused, OSError."""
+    report = make_report(options.plan, asker)
+    if options.library is None:
+        return report
+    return replace(report, judged=find_judged(asker, report.plan, options.library))
+
+
+def write_plan_forms(options: Options, report: Report) -> Written:
+    """The report of a plan."""
+    text = write_text(report) if options.is_text else write_page(report)
+    sarif = write_sarif(report, options.source) if options.sarif else ""
+    return Written(text, sarif, report.status)
 
 
 def tell(*lines: str) -> None:

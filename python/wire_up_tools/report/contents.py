@@ -13,12 +13,14 @@ from wire_up_tools.report.diagram import Diagram
 from wire_up_tools.report.findings import find_groups
 from wire_up_tools.report.orders import Order, find_order
 from wire_up_tools.report.partial import find_reasons, find_verdicts
+from wire_up_tools.report.patterns import PLAN_NAME, Pattern, is_counterexample
 from wire_up_tools.report.placements import Elsewhere, find_elsewhere
 from wire_up_tools.report.race_diagram import make_race_diagram
 from wire_up_tools.report.replies import Failure, find_replies
 from wire_up_tools.report.runs import Runs, Search, begin_search, find_runs
 from wire_up_tools.report.waits import Wait, find_circle, find_waits
 from wire_up_tools.report.wire_up_diagram import make_wire_up_diagram
+from wire_up_tools.run.libraries.judging import Judged
 
 # How many causes are told in full, and of two runs how many calls that end differently.
 CAUSES, ENDINGS = 40, 8
@@ -48,9 +50,11 @@ class WireUp:
 @dataclass(frozen=True, eq=False)
 class Report:
     """What is found in a plan: causes, of which the first are told in full, or else its wire-up;
-    and what is found on other placements only, if the checker can tell.
+    what is found on other placements only, if the checker can tell; and what a library makes of
+    the plan, if that is asked for.
 
-    `path` is that of the plan as it was given, and `version` that of the checker.
+    `path` is that of the plan as it was given, or of the pattern of which the plan is the
+    counterexample, and `version` that of the checker.
     """
 
     path: str
@@ -60,6 +64,8 @@ class Report:
     details: Sequence[Detail] = ()
     wire_up: Optional[WireUp] = None
     elsewhere: Optional[Elsewhere] = None
+    pattern: Optional[Pattern] = None
+    judged: Optional[Judged] = None
 
     @property
     def plan(self) -> Plan:
@@ -70,6 +76,16 @@ class Report:
     def name(self) -> str:
         """The name of the plan's file."""
         return os.fsencode(os.path.basename(self.path)).decode("utf-8", "replace")
+
+    @property
+    def plan_name(self) -> str:
+        """What the plan is called whose lines are named."""
+        return PLAN_NAME if self.pattern else self.name
+
+    @property
+    def is_counterexample(self) -> bool:
+        """Whether the plan is the counterexample of a pattern, and something is found in it."""
+        return bool(self.causes) and is_counterexample(self.plan)
 
     @property
     def status(self) -> int:

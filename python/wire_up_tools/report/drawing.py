@@ -5,12 +5,13 @@ from dataclasses import dataclass
 from typing import Optional
 
 from wire_up_tools.report.diagram import LABEL_WIDTH, Bar, Diagram, Item, Link, Row, Style
+from wire_up_tools.report.hovering import name_arrow, name_part, write_rules
 from wire_up_tools.report.markup import escape, link_to_line
 from wire_up_tools.report.phrases import count_of, cut
 
 # Pixels: the width of a character of a label, what stands at the left of the first lane, and what
 # stands between the labels of a lane and the next.
-CHARACTER, SIDE, LANE_GAP = 7.3, 16, 36
+CHARACTER, SIDE, LANE_GAP = 7.3, 16, 28
 # Pixels: the height of the lanes' names, of a row, of a row with a fence, and of a text below a
 # row.
 HEAD_HEIGHT, ROW_HEIGHT, BAR_HEIGHT, GAP_HEIGHT = 52, 38, 48, 18
@@ -18,8 +19,8 @@ HEAD_HEIGHT, ROW_HEIGHT, BAR_HEIGHT, GAP_HEIGHT = 52, 38, 48, 18
 NAME_LEFT, LABEL_RIGHT, MARK_RIGHT = 6, 11, 9
 # Pixels between a label and what stands next in its row.
 MARGIN = 16
-# A diagram of at most so many pixels is made to fit a narrow page, and a wider one can be moved
-# there. Past the other width the page is broad.
+# A diagram of at most so many pixels, as two lanes are, is made to fit a narrow page, and a wider
+# one can be moved there. Past the other width the page is broad.
 NARROW, BROAD = 460, 1100
 
 # Makes the diagram larger, without a script.
@@ -77,13 +78,15 @@ class Layout:
         return Point(self.lanes[item.lane], self.rows[item.row])
 
 
-def draw_figure(diagram: Diagram, about: str) -> str:
-    """A diagram with its legend as an element of a page. `about` says what it shows."""
+def draw_figure(diagram: Diagram, about: str, name: str) -> str:
+    """A diagram with its legend as an element of a page. `about` says what it shows, and no other
+    figure of the page has its name."""
     layout = lay_out(diagram)
     hint = HINT if layout.width > NARROW else ""
     svg = draw_svg(layout, about)
     caption = f"<figcaption>{hint}{ZOOM}{draw_legend(diagram)}</figcaption>"
-    return f'<figure><div class="wide" tabindex="0">{svg}</div>{caption}</figure>'
+    rules, wide = write_rules(diagram, name), f'<div class="wide" tabindex="0">{svg}</div>'
+    return f'<figure id="{name}">{rules}{wide}{caption}</figure>'
 
 
 # --- where everything stands ---
@@ -138,16 +141,25 @@ def draw_svg(layout: Layout, about: str) -> str:
     """The picture: lanes, and above them fences, arrows, the race and the calls."""
     diagram = layout.diagram
     parts = [draw_lane(layout, lane) for lane in range(len(diagram.lanes))]
-    parts += [draw_bar(layout, it) for it in diagram.bars if it.marks]
-    parts += [draw_arrow(layout, it) for it in diagram.arrows]
+    items = len(diagram.items)
+    bars = ((number, it) for number, it in enumerate(diagram.bars, items) if it.marks)
+    parts += [group(f"at {name_part(number)}", draw_bar(layout, it)) for number, it in bars]
+    arrows = enumerate(diagram.arrows)
+    parts += [group(f"way {name_arrow(number)}", draw_arrow(layout, it)) for number, it in arrows]
     parts += [draw_race(layout, diagram.race)] if diagram.race else []
-    parts += [draw_item(layout, it) for it in diagram.items]
+    calls = enumerate(diagram.items)
+    parts += [group(f"at {name_part(number)}", draw_item(layout, it)) for number, it in calls]
     width, height = f"{layout.width:.0f}", f"{layout.height:.0f}"
     size = f'width="{width}" height="{height}" viewBox="0 0 {width} {height}"'
     kind = ' class="broad"' if layout.width > BROAD else ""
     kind = ' class="narrow"' if layout.width <= NARROW else kind
     head = f'<svg role="group"{kind} aria-label="{escape(about)}" {size}>'
     return "\n".join([head, *parts, "</svg>"])
+
+
+def group(kind: str, drawn: str) -> str:
+    """What is drawn, as one element of a kind."""
+    return f'<g class="{kind}">{drawn}</g>'
 
 
 def draw_lane(layout: Layout, lane: int) -> str:

@@ -14,6 +14,7 @@ from wire_up_tools.report.contents import ENDINGS, Detail, Report, WireUp
 from wire_up_tools.report.drawing import draw_figure
 from wire_up_tools.report.findings import PAIRS, Finding, Group, Kind
 from wire_up_tools.report.language import name_kind
+from wire_up_tools.report.library_page import list_shown, write_library
 from wire_up_tools.report.markup import escape, escape_lines
 from wire_up_tools.report.messages import explain_late, find_late, say_place
 from wire_up_tools.report.page_style import STYLE
@@ -51,7 +52,10 @@ def write_page(report: Report) -> str:
     parts += [write_detail(report, number, it) for number, it in enumerate(report.details, 1)]
     parts += [write_others(report)] if report.others else []
     parts += [write_wire_up(report.wire_up)] if report.wire_up else []
-    parts += [write_placed(report, it) for it in (elsewhere.placed if elsewhere else ())]
+    placed = enumerate(elsewhere.placed if elsewhere else (), 1)
+    parts += [write_placed(report, number, it) for number, it in placed]
+    judged = report.judged
+    parts += [write_library(judged, report.plan)] if judged and judged.found else []
     parts.append(write_plan(report))
     return HEAD.format(title=title, style=STYLE) + "\n".join(parts) + FOOT
 
@@ -75,7 +79,7 @@ def write_header(report: Report) -> str:
     ]
     if report.verdicts:
         parts.append(f"<p>The recorder's verdicts: {escape(report.verdicts)}.</p>")
-    parts += [f'<p class="part">{escape(it)}</p>' for it in verdict.say_placements(report)]
+    parts += [f'<p class="part">{escape(it)}</p>' for it in verdict.say_besides(report)]
     parts += [write_recording(report)] if report.plan.is_recorded else []
     parts += [write_contents(report)] if len(report.causes) > 1 else []
     return "\n".join([*parts, "</header>"])
@@ -90,6 +94,8 @@ def choose_badge(report: Report) -> tuple[str, str]:
         return "partly", "in part"
     if report.elsewhere and (report.elsewhere.causes or report.elsewhere.fault):
         return "partly", "as placed here"
+    if report.judged and report.judged.timed:
+        return "partly", "by the rules"
     if report.waits:
         return "waits", "ranks wait for ever"
     return ("fails", "calls fail") if report.failed else ("quiet", "no race")
@@ -132,7 +138,7 @@ def write_detail(report: Report, number: int, detail: Detail) -> str:
     title = f"{number}. {write_title(cause)} {write_count(verdict.say_count(cause))}"
     fix = escape(explaining.fix(one, report.order.uses))
     calls = " and ".join(f"{it.name} {name_kind(it)}" for it in one.calls)
-    figure = draw_figure(detail.diagram, f"Diagram: {calls}")
+    figure = draw_figure(detail.diagram, f"Diagram: {calls}", f"diagram-{number}")
     parts = [
         f'<section id="cause-{number}" class="found"><h2>{title}</h2>',
         write_calls(report, one.calls),
@@ -146,13 +152,14 @@ def write_detail(report: Report, number: int, detail: Detail) -> str:
     return "\n".join([*parts, "</section>"])
 
 
-def write_placed(report: Report, placed: Placed) -> str:
+def write_placed(report: Report, number: int, placed: Placed) -> str:
     """A cause that is found on another placement only, with its diagram there."""
     cause, one = placed.cause, placed.cause.first
     count = write_count(verdict.say_count(cause))
     where, fix = escape(verdict.say_ranks(placed)), escape(explaining.fix(one, report.order.uses))
-    figure = draw_figure(placed.diagram, f"Diagram: {verdict.say_ranks(placed)}")
-    command = escape(f"wire_up place {','.join(placed.ranks)} {report.name}")
+    about = f"Diagram: {verdict.say_ranks(placed)}"
+    figure = draw_figure(placed.diagram, about, f"placement-{number}")
+    command = escape(f"wire_up place {','.join(placed.ranks)} {report.plan_name}")
     parts = [
         f'<section class="found"><h2>{where}: {write_title(cause)} {count}</h2>',
         write_calls(report, one.calls),
@@ -179,7 +186,7 @@ def write_calls(report: Report, calls: Sequence[Call]) -> str:
     for call in calls:
         said = escape(say_place(report.plan, call) or words.UNKNOWN_PLACE)
         place = f"<td>{said}</td>" if has_places else ""
-        link = link_to_call(call, f"{report.name}:{call.line}")
+        link = link_to_call(call, f"{report.plan_name}:{call.line}")
         named = escape(f"{call.name} {name_kind(call)}")
         rows.append(f"<tr><td>{named}</td><td>{link}</td>{place}</tr>")
     return f'<div class="wide" tabindex="0"><table>{head}{"".join(rows)}</table></div>'
@@ -234,7 +241,7 @@ def write_steps(report: Report, finding: Finding, which: str, run: Run) -> str:
     if count > STEPS:
         one, other = finding.calls
         said = escape(f"wire_up witness --{which} {one.name} {other.name}")
-        return f"<p>Its {count:,} steps: <code>{said} {escape(report.name)}</code></p>"
+        return f"<p>Its {count:,} steps: <code>{said} {escape(report.plan_name)}</code></p>"
     title = f"its {count_of(count, 'step')}, for <code>wire_up follow</code>"
     steps = escape_lines(run.order)
     return f"<details><summary>{title}</summary><pre>{steps}</pre></details>"
@@ -289,7 +296,7 @@ def write_wire_up(wire_up: WireUp) -> str:
     """The diagram of a wire-up, which calls fail, and who waits for ever."""
     parts = []
     if wire_up.diagram.rows:
-        figure = draw_figure(wire_up.diagram, "Diagram of the wire-up")
+        figure = draw_figure(wire_up.diagram, "Diagram of the wire-up", "diagram")
         parts += ["<section><h2>The wire-up</h2>", figure, "</section>"]
     parts += [write_failures(wire_up)] if wire_up.failed else []
     parts += [write_waits(wire_up)] if wire_up.waits else []
@@ -328,11 +335,12 @@ def write_plan(report: Report) -> str:
     shown = choose_lines(len(lines), named)
     cut_to = f"cut to what is named: {len(shown):,} of {len(lines):,} lines"
     count = f" {write_count(cut_to)}" if len(lines) > WHOLE_PLAN else ""
-    parts = [f'<section class="long"><h2>The plan{count}</h2><div class="plan mono">']
+    title = "The counterexample" if report.pattern else "The plan"
+    parts = [f'<section class="long"><h2>{title}{count}</h2><div class="plan mono">']
     before = 0
     for number in shown:
         parts += write_left_out(number - before - 1)
-        parts.append(write_line(number, lines[number - 1], number in named))
+        parts.append(write_plan_line(number, lines[number - 1], number in named))
         before = number
     parts += write_left_out(len(lines) - before)
     return "\n".join([*parts, "</div></section>"])
@@ -352,6 +360,7 @@ def find_named(report: Report) -> set[int]:
         calls += placed.cause.first.calls
         found |= placed.diagram.lines
     calls += (call for it in report.others[:MORE_CAUSES] for call in it.first.calls)
+    calls += (it for it, _ in list_shown(report.judged, report.plan)) if report.judged else ()
     return found.union(it.line for it in calls)
 
 
@@ -368,7 +377,7 @@ def write_left_out(count: int) -> list[str]:
     return [f'<div class="cut"><b>…</b>{count_of(count, "line")}</div>'] if count > 0 else []
 
 
-def write_line(number: int, line: str, is_named: bool) -> str:
+def write_plan_line(number: int, line: str, is_named: bool) -> str:
     """A line of the plan. A long one is cut, and has its whole as a title."""
     said = line.split()
     kind = "said" if said and said[0].startswith("#") else ""

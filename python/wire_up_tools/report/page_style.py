@@ -33,7 +33,8 @@ table{border-collapse:collapse;margin:.4rem 0}
 th,td{text-align:left;vertical-align:top;padding:.15rem 1.2rem .15rem 0;font-weight:400;\
 white-space:nowrap}\
 th{color:var(--soft)}
-@media (max-width:40rem){tr:first-child{display:none}tr{display:block;margin-bottom:.5rem}\
+@media (max-width:40rem){body{padding:.5rem}:is(header,section){padding:.6rem}\
+tr:first-child{display:none}tr{display:block;margin-bottom:.5rem}\
 td{display:block;padding:0}}
 .wide{overflow-x:auto;max-width:100%;background:linear-gradient(90deg,var(--card) 40%,\
 transparent) 0/3rem 100% no-repeat local,
@@ -68,6 +69,7 @@ svg .racing{font-weight:700}
 svg text.unreached{fill:var(--soft)}.never{stroke-dasharray:3 3}
 circle.racing{fill:var(--loud)}rect.waiting{fill:var(--wait);stroke:var(--ink)}
 .arrow{stroke:var(--ink);stroke-width:1.2}.tip{fill:var(--ink)}\
+figure:has(style):has(.at:is(:hover,:focus-within)) :is(.at,.way){opacity:.25}\
 .race{stroke:var(--loud);stroke-width:3.5;stroke-dasharray:7 5}
 @media print{:root{--paper:#fff;--card:#fff;--ink:#000;--soft:#333;--line:#999;--loud:#000;\
 --loud-ink:#000;--quiet:#000;--wait:#fff;--good:#000}

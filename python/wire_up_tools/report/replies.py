@@ -1,5 +1,6 @@
 """What becomes of the calls of a plan without findings, as `wire_up replay` tells it."""
 import contextlib
+import dataclasses
 import re
 from collections.abc import Mapping
 from dataclasses import dataclass, field
@@ -7,6 +8,7 @@ from typing import Optional
 
 from wire_up_tools.plan import Call, Plan
 from wire_up_tools.report.asking import Asker, stream_blocks
+from wire_up_tools.report.plan_parts import PlanPart, list_parts
 
 # At which call each rank waits for ever, by the name of the rank; None for one that doesn't wait.
 WaitingAt = Mapping[str, Optional[int]]
@@ -46,17 +48,29 @@ class Replies:
 
 
 def find_replies(asker: Asker, plan: Plan) -> Replies:
-    """Asks what becomes of the calls of a plan. Raises Refused if no report is written."""
+    """Asks what becomes of the calls of a plan without findings: of a large one, part by part.
+
+    Raises Refused if no report is written.
+    """
     replies = Replies({rank.name: None for rank in plan.ranks})
+    for part in list_parts(plan, asker.data):
+        take_replies(dataclasses.replace(asker, data=part.data), plan, part, replies)
+    return replies
+
+
+def take_replies(asker: Asker, plan: Plan, part: PlanPart, replies: Replies) -> None:
+    """Takes what becomes of the calls of a part. Raises Refused if no report is written."""
     last = b""
     try:
         with contextlib.closing(stream_blocks(asker, "replay")) as blocks:
             for block in blocks:
                 last = block
-                for rank, number, reply in OTHER_END.findall(block):
-                    replies.add(plan, rank.decode(), int(number), reply)
+                for said, count, reply in OTHER_END.findall(block):
+                    rank = said.decode()
+                    number = part.find_number(rank, int(count))
+                    if number:
+                        replies.add(plan, rank, number, reply)
     except (LookupError, ValueError):
         raise asker.refuse("report") from None
     if not LAST.search(last):
         raise asker.refuse("report")
-    return replies

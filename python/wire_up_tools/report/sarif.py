@@ -14,6 +14,7 @@ from wire_up_tools.report.causes import Cause
 from wire_up_tools.report.contents import Report
 from wire_up_tools.report.findings import Finding, Kind
 from wire_up_tools.report.language import name_kind
+from wire_up_tools.report.patterns import PLAN_NAME
 from wire_up_tools.report.phrases import count_of
 
 SCHEMA = "https://json.schemastore.org/sarif-2.1.0.json"
@@ -62,9 +63,14 @@ class Location:
 def write_sarif(report: Report, folder: Optional[str]) -> str:
     """The whole text. `folder` is that of the files that places name, if it is known."""
     source = Source(folder, find_files(folder) if folder else {})
-    rules = [{"id": it, "shortDescription": {"text": said}} for it, said in RULES.items()]
-    driver = {"name": "wire_up", "version": report.version, "rules": rules}
     results = [make_result(report, it, source) for it in report.causes]
+    return write_results(report.version, results, folder)
+
+
+def write_results(version: str, results: Sequence[Any], folder: Optional[str]) -> str:
+    """The whole text, by its results and the version of the checker."""
+    rules = [{"id": it, "shortDescription": {"text": said}} for it, said in RULES.items()]
+    driver = {"name": "wire_up", "version": version, "rules": rules}
     run: dict[str, Any] = {"tool": {"driver": driver}, "results": results}
     if folder:
         run["originalUriBaseIds"] = {ROOT: {"uri": f"{make_absolute(folder)}/"}}
@@ -88,10 +94,11 @@ def make_result(report: Report, cause: Cause, source: Source) -> dict[str, Any]:
     names = {it: f"{it.name} {name_kind(it)}" for it in one.calls}
     fix = explaining.fix(one, report.order.uses)
     title = f"{explaining.title(one, cause.abouts)} ({count_of(cause.count, 'finding')})."
+    plan = PLAN_NAME if report.pattern else "the plan"
     in_plan = [
         {
             "id": number,
-            **make_location(source, locate_in_plan(report, it, source), f"{names[it]} in the plan"),
+            **make_location(source, locate_in_plan(report, it, source), f"{names[it]} in {plan}"),
         }
         for number, it in enumerate(one.calls, 1)
     ]
@@ -132,12 +139,13 @@ def locate(report: Report, call: Call, source: Source) -> Location:
 
 
 def locate_in_plan(report: Report, call: Call, source: Source) -> Location:
-    """Where a call stands in the plan, which may be below the folder of the source."""
+    """Where a call stands in the plan, which may be below the folder of the source. One of a
+    counterexample stands in no file: then it is the pattern."""
     path = os.path.realpath(report.path)
     if source.folder:
         relative = os.path.relpath(path, os.path.realpath(source.folder))
         path = path if relative.split(os.sep)[0] == os.pardir else relative
-    return Location(path, call.line)
+    return Location(path, 1 if report.pattern else call.line)
 
 
 def make_location(source: Source, where: Location, said: str) -> dict[str, Any]:

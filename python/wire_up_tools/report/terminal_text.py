@@ -1,11 +1,13 @@
 """Writes a report as text for a terminal."""
 import textwrap
+from collections.abc import Iterable
 
 from wire_up_tools.plan import Call
 from wire_up_tools.report import explaining, verdict
 from wire_up_tools.report.contents import ENDINGS, Detail, Report, WireUp
 from wire_up_tools.report.findings import PAIRS, Kind
 from wire_up_tools.report.language import name_kind
+from wire_up_tools.report.library_page import say_library, write_library_text
 from wire_up_tools.report.markup import REPLACEMENT
 from wire_up_tools.report.messages import explain_late, find_late, say_place
 from wire_up_tools.report.phrases import VALUE_WIDTH, count_of, cut, describe_circle
@@ -27,7 +29,7 @@ def write_text(report: Report) -> str:
     ]
     if report.verdicts:
         lines.append(f"The recorder's verdicts: {report.verdicts}.")
-    lines += verdict.say_placements(report)
+    lines += verdict.say_besides(report)
     if report.plan.is_recorded:
         lines.append(f"A recording. Left out: {'; '.join(report.left_out) or 'nothing'}.")
     for number, detail in enumerate(report.details, 1):
@@ -38,6 +40,14 @@ def write_text(report: Report) -> str:
         lines += ["", *write_wire_up(report, report.wire_up)]
     for placed in report.elsewhere.placed if report.elsewhere else ():
         lines += ["", *write_placed(report, placed)]
+    if report.judged and report.judged.found:
+        title = f"{say_library(report.judged)} answers otherwise:"
+        lines += ["", title, *write_library_text(report.judged, report.plan)]
+    return write_lines(lines)
+
+
+def write_lines(lines: Iterable[str]) -> str:
+    """Lines, of which long ones are folded."""
     folded = (part for line in lines for part in fold(line))
     return "".join(f"{make_printable(it)}\n" for it in folded)
 
@@ -73,14 +83,14 @@ def write_placed(report: Report, placed: Placed) -> list[str]:
         *draw_lines(placed.diagram),
         "",
         *write_runs(placed.runs),
-        f"   This placement as a plan: wire_up place {','.join(placed.ranks)} {report.name}",
+        f"   This placement as a plan: wire_up place {','.join(placed.ranks)} {report.plan_name}",
     ]
 
 
 def describe_call(report: Report, call: Call) -> str:
     """A call with its line and its place."""
     place = f", {say_place(report.plan, call)}" if call.place else ""
-    return f"{call.name} {name_kind(call)}, {report.name}:{call.line}{place}"
+    return f"{call.name} {name_kind(call)}, {report.plan_name}:{call.line}{place}"
 
 
 def write_runs(runs: Runs) -> list[str]:

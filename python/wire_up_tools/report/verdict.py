@@ -2,6 +2,8 @@
 from wire_up_tools.report.causes import Cause
 from wire_up_tools.report.contents import Report
 from wire_up_tools.report.findings import MOST_GROUPS, Kind
+from wire_up_tools.report.library_page import say_otherwise
+from wire_up_tools.report.patterns import say_counterexample
 from wire_up_tools.report.phrases import count_of
 from wire_up_tools.report.placements import Placed
 from wire_up_tools.report.runs import SECONDS, Outcome
@@ -37,7 +39,9 @@ def say_found(report: Report) -> str:
         said += "; others may be missed"
     more = say_elsewhere(report)
     nothing = f"no race seen{more}, in part" if report.reasons else f"no race{more}"
-    return "; ".join(filter(None, [said or nothing, say_ends(report), more * bool(said)]))
+    of_pattern = say_counterexample(report.plan) if report.is_counterexample else ""
+    parts = [said or nothing, of_pattern, say_ends(report), more * bool(said)]
+    return "; ".join(filter(None, parts))
 
 
 def say_elsewhere(report: Report) -> str:
@@ -70,6 +74,20 @@ def say_placements(report: Report) -> list[str]:
         what = count_of(it.cause.count, "this race", "races such as this")
         said.append(f"{say_ranks(it)[0].lower()}{say_ranks(it)[1:]}: {what.removeprefix('1 ')}")
     return [f"{'; '.join(said)}."]
+
+
+def say_pattern(report: Report) -> list[str]:
+    """How the counterexample of a pattern is written to a file."""
+    if not report.pattern:
+        return []
+    command = f"wire_up check --pattern {report.name} > {report.plan_name}"
+    return [f"The plan below is one of the pattern; this writes it: {command}"]
+
+
+def say_besides(report: Report) -> list[str]:
+    """What is said below the verdict: of the pattern, of other placements, and of a library."""
+    of_library = [say_otherwise(report.judged)] if report.judged else []
+    return [*say_pattern(report), *say_placements(report), *of_library]
 
 
 def say_reasons(report: Report) -> str:

@@ -1,9 +1,11 @@
 """The sockets between a run and its ranks."""
+import contextlib
+import ipaddress
 import os
 import secrets
 import selectors
 import socket
-from collections.abc import Iterator
+from collections.abc import Iterable, Iterator, Sequence
 from dataclasses import dataclass, field
 from typing import Optional
 
@@ -12,6 +14,12 @@ from wire_up_tools.failures import Refused
 READ_BYTES = 1 << 16
 # A socket's path has at most so many bytes.
 PATH_BYTES = 100
+# Every address of this machine, and the one that nothing outside reaches.
+EVERY, LOOPBACK = "", "127.0.0.1"
+# No datagram goes to this port: it is named to learn the way to a host.
+ANY_PORT = 9
+# How often a port is looked for that is free at each address.
+TRIES = 20
 
 
 @dataclass(eq=False)
@@ -52,7 +60,7 @@ class Heard:
 class Hall:
     """Where the ranks of a run connect, and what the launcher writes."""
 
-    listener: socket.socket
+    listeners: Sequence[socket.socket]
     address: str
     # What a process shows to prove that it belongs to the run.
     word: str = field(default_factory=lambda: secrets.token_hex(16))
@@ -71,8 +79,8 @@ class Hall:
                 yield from self.hear_channel(key.data)
             elif isinstance(key.data, int):
                 self.hear_launcher(key.data)
-            else:
-                connection, _ = self.listener.accept()
+            elif isinstance(key.data, socket.socket):
+                connection, _ = key.data.accept()
                 self.selector.register(connection, selectors.EVENT_READ, Channel(connection))
 
     def hear_channel(self, channel: Channel) -> Iterator[Heard]:
@@ -97,22 +105,79 @@ class Hall:
             if isinstance(key.data, Channel):
                 key.data.connection.close()
         self.selector.close()
-        self.listener.close()
+        for it in self.listeners:
+            it.close()
 
 
-def open_hall(folder: str, is_here: bool) -> Hall:
-    """Opens a hall: for ranks of this machine in a folder, else at a port. Raises Refused, OSError.
-    """
-    if is_here:
-        path = os.path.join(folder, "talk")
-        if len(os.fsencode(path)) > PATH_BYTES:
-            raise Refused(f"{folder}: the path is too long for a socket: set TMPDIR")
-        listener, address = socket.socket(socket.AF_UNIX), path
-        listener.bind(path)
+def open_hall(folder: str, hosts: Optional[Iterable[str]]) -> Hall:
+    """Opens a hall: at a port that the hosts reach, or without hosts for ranks of this machine, in
+    a folder. Raises Refused, OSError."""
+    if hosts is None:
+        listeners, address = listen_here(folder)
     else:
-        listener = socket.create_server(("", 0))
-        address = f"{socket.gethostname()}:{listener.getsockname()[1]}"
-    listener.listen(1024)
-    hall = Hall(listener, address)
-    hall.selector.register(listener, selectors.EVENT_READ, None)
+        listeners, address = listen_at(find_addresses(hosts))
+    hall = Hall(listeners, address)
+    for it in listeners:
+        it.listen(1024)
+        hall.selector.register(it, selectors.EVENT_READ, it)
     return hall
+
+
+def listen_here(folder: str) -> tuple[list[socket.socket], str]:
+    """A socket in a folder, and its path. Raises Refused, OSError."""
+    path = os.path.join(folder, "talk")
+    if len(os.fsencode(path)) > PATH_BYTES:
+        raise Refused(f"{folder}: the path is too long for a socket: set TMPDIR")
+    listener = socket.socket(socket.AF_UNIX)
+    listener.bind(path)
+    return [listener], path
+
+
+def listen_at(addresses: Sequence[str]) -> tuple[list[socket.socket], str]:
+    """A socket at each address, all at one port; and how ranks are told of them. Raises OSError."""
+    for left in reversed(range(TRIES)):
+        with contextlib.ExitStack() as opened:
+            first = opened.enter_context(create_server(addresses[0], 0))
+            port = first.getsockname()[1]
+            try:
+                rest = [opened.enter_context(create_server(it, port)) for it in addresses[1:]]
+            except OSError:
+                if not left:
+                    raise
+                continue
+            opened.pop_all()
+            named = [it or socket.gethostname() for it in addresses]
+            return [first, *rest], f"{','.join(named)}:{port}"
+    raise AssertionError
+
+
+def create_server(address: str, port: int) -> socket.socket:
+    """A socket at an address of this machine. Raises OSError."""
+    family = socket.AF_INET6 if ":" in address else socket.AF_INET
+    return socket.create_server((address, port), family=family)
+
+
+def find_addresses(hosts: Iterable[str]) -> list[str]:
+    """The addresses of this machine that hosts need: those from which it reaches them, or the
+    loopback alone where they are this machine. Where the way to one isn't known, it is every
+    address."""
+    found: dict[str, None] = {}
+    for host in dict.fromkeys(hosts):
+        own = find_own_address(host)
+        if own is None:
+            return [EVERY]
+        found[own] = None
+    outer = [it for it in found if not ipaddress.ip_address(it).is_loopback]
+    return outer or [LOOPBACK]
+
+
+def find_own_address(host: str) -> Optional[str]:
+    """The address from which this machine reaches a host; the loopback where the host is this
+    machine. None where the way to it isn't known."""
+    with contextlib.suppress(OSError, UnicodeError):
+        for family, kind, _, _, to in socket.getaddrinfo(host, ANY_PORT, type=socket.SOCK_DGRAM):
+            with contextlib.suppress(OSError), socket.socket(family, kind) as way:
+                way.connect(to)
+                own = str(way.getsockname()[0])
+                return LOOPBACK if own == to[0] else own
+    return None

@@ -270,6 +270,16 @@ def is_among_fake_nodes(setting: Setting) -> bool:
     return setting.hosts is None and setting.launcher.makes_fake_nodes
 
 
+def list_reached(task: Task, setting: Setting) -> Optional[Sequence[str]]:
+    """The hosts that must reach this machine; None where all is on it. Of a command of the user's
+    without hosts none is known: an empty name stands for any. Raises Refused."""
+    if is_among_fake_nodes(setting):
+        return None
+    if setting.hosts is None and setting.launcher.kind is Kind.OWN:
+        return [""]
+    return choose_hosts(task.plan, task.plan.ranks, setting.hosts)
+
+
 def make_start(task: Task, setting: Setting, folder: str, hall: Hall) -> Start:
     """What is started. Raises Refused, OSError."""
     plan, launcher = task.plan, setting.launcher
@@ -322,7 +332,7 @@ def started(task: Task, setting: Setting) -> Iterator[Run]:
     """A run that has started. At the end nothing of it is left. Raises Refused, OSError."""
     folder = tempfile.mkdtemp(prefix="wire_up-run-")
     try:
-        with contextlib.closing(open_hall(folder, is_among_fake_nodes(setting))) as hall:
+        with contextlib.closing(open_hall(folder, list_reached(task, setting))) as hall:
             run = start_process(task, setting, folder, hall)
             try:
                 yield run

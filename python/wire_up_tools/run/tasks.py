@@ -14,8 +14,8 @@ from wire_up_tools.plan import Plan, read_plan
 from wire_up_tools.run import answers, fake_nodes
 from wire_up_tools.run.expected import Expected, ask_witness, expect, expect_in_order
 from wire_up_tools.run.launchers import find_launcher, read_command
-from wire_up_tools.run.libraries.predicting import explain_differences
-from wire_up_tools.run.libraries.traits import LIBRARIES, find_library
+from wire_up_tools.run.libraries.predicting import Way, explain_differences
+from wire_up_tools.run.libraries.traits import find_library, take_library
 from wire_up_tools.run.libraries.writing import (
     Predictions,
     write_predictions,
@@ -254,14 +254,12 @@ def show_plan(asked: ShowRequest) -> int:
 
 def predict_plan(asked: PredictRequest, choices: Choices, folder: str) -> int:
     """Writes which calls a library is known to answer otherwise. Raises Refused, OSError."""
-    library = LIBRARIES.get(asked.library)
-    if library is None:
-        raise Refused(f"{asked.library} isn't known: {', '.join(LIBRARIES)} are")
+    library = take_library(asked.library)
     data = read_file(asked.plan)
     request = PlanRequest(asked.plan)
     expected = expect_plan(choose_checker(choices, folder), data, request)
     plan, report = read_plan(data), expected.report
-    found = explain_differences(plan, library.traits, report, expected.order or ())
+    found = explain_differences(plan, library.traits, report, Way(expected.order or ()))
     of = Predictions(library, found, len(report.lines))
     text = write_predictions_json(of) if choices.is_json else write_predictions(of)
     write_whole(STANDARD_OUTPUT, text)

@@ -77,13 +77,14 @@ class Prediction:
         owner.held.append(held)
         return SUCCESS
 
-    def run(self, order: Sequence[str]) -> None:
-        """Takes the steps of an order, as far as they can be taken, and then those of the lowest
+    def run(self, way: "Way") -> None:
+        """Takes the steps of an order, as far as they can be taken, and then those of the first
         rank that can go on."""
-        for name in order:
+        for name in way.order:
             self.step(self.world.ranks[name])
         ranks = self.world.plan.ranks
-        while any(self.step(it) for it in ranks):
+        in_turn = ranks[::-1] if way.is_backwards else ranks
+        while any(self.step(it) for it in in_turn):
             pass
 
     def report(self) -> Report:
@@ -99,13 +100,25 @@ class Prediction:
         return Report(lines)
 
 
+@dataclass(frozen=True)
+class Way:
+    """Which steps come first: those of an order, and then those of the lowest rank that can go on,
+    or of the highest."""
+
+    order: Sequence[str] = ()
+    is_backwards: bool = False
+
+
+LOWEST_FIRST = Way()
+
+
 def predict(
-    plan: Plan, traits: Traits, without: Optional[Rule] = None, order: Sequence[str] = ()
+    plan: Plan, traits: Traits, without: Optional[Rule] = None, way: Way = LOWEST_FIRST
 ) -> Report:
     """The report of a library by its rules, or by all of them but one."""
     rules = traits.rules if without is None else traits.rules - {without}
     prediction = Prediction(World(plan, traits, rules))
-    prediction.run(order)
+    prediction.run(way)
     return prediction.report()
 
 
@@ -119,14 +132,14 @@ class Predicted:
 
 
 def explain_differences(
-    plan: Plan, traits: Traits, rules: Report, order: Sequence[str] = ()
+    plan: Plan, traits: Traits, rules: Report, way: Way = LOWEST_FIRST
 ) -> list[Predicted]:
     """The calls that a library answers otherwise than the rules' report, each with why."""
-    found = compare(rules, predict(plan, traits, order=order))
+    found = compare(rules, predict(plan, traits, way=way))
     if not found:
         return []
     others = {
-        rule: {it.place: it.reply for it in predict(plan, traits, rule, order).lines}
+        rule: {it.place: it.reply for it in predict(plan, traits, rule, way).lines}
         for rule in sorted(traits.rules, key=lambda it: it.name)
     }
     return [

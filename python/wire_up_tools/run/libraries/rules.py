@@ -27,3 +27,7 @@ another key"
 
 
 EVERY_RULE = frozenset(Rule)
+# Those by which a reply can depend on which rank is fast, although nothing is found in the plan.
+TIMED = frozenset(
+    {Rule.KEPT_BY_CALLER, Rule.GET_BRINGS_ALL, Rule.OWNER_ANSWERS, Rule.FENCE_OF_NODE}
+)

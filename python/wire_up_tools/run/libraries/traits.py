@@ -1,10 +1,12 @@
 """Which rules each library has, and how: read off the tables of what it did."""
 import enum
 import os
+import re
 from collections.abc import Mapping
 from dataclasses import dataclass
 from typing import Optional
 
+from wire_up_tools.failures import Refused
 from wire_up_tools.run.launchers import Kind
 from wire_up_tools.run.libraries.rules import Rule
 
@@ -161,6 +163,29 @@ _ALL = (
     Library("slurm-24.11", "OpenPMIx 5.0.7", "Slurm 24.11.5", "OpenPMIx 5.", Kind.SLURM, SLURM),
 )
 LIBRARIES: Mapping[str, Library] = {it.name: it for it in _ALL}
+
+
+# How a namespace begins that a host gives to a job.
+NAMESPACES = {
+    Kind.OPEN_MPI_4: re.compile(r"\d+$"),
+    Kind.PRRTE: re.compile("prte"),
+    Kind.SLURM: re.compile(r"slurm\.pmix\."),
+}
+
+
+def take_library(name: str) -> Library:
+    """The library of this name. Raises Refused if nothing is known of one."""
+    if name not in LIBRARIES:
+        raise Refused(f"{name} isn't known: {', '.join(LIBRARIES)} are")
+    return LIBRARIES[name]
+
+
+def find_recorded(version: str, namespace: str) -> Optional[Library]:
+    """The library that served a job of this namespace, by what it said of its version; None where
+    nothing is known of it."""
+    kinds = (kind for kind, form in NAMESPACES.items() if form.match(namespace))
+    kind = next(kinds, None)
+    return find_library(version, kind) if kind else None
 
 
 def find_library(version: str, kind: Kind) -> Optional[Library]:

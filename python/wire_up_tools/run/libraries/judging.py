@@ -1,0 +1,60 @@
+"""What a library is known to make of a plan: which calls it answers otherwise than the rules, and
+which of these make a verdict say less, since they can depend on which rank is fast."""
+from collections.abc import Sequence
+from dataclasses import dataclass
+
+from wire_up_tools.failures import Refused
+from wire_up_tools.plan import Plan
+from wire_up_tools.run.expected import Expected
+from wire_up_tools.run.libraries.predicting import (
+    LOWEST_FIRST,
+    Predicted,
+    Way,
+    explain_differences,
+)
+from wire_up_tools.run.libraries.rules import TIMED
+from wire_up_tools.run.libraries.traits import Library
+from wire_up_tools.run.reports import Place
+
+# A plan of more calls isn't judged: it would take minutes.
+MOST_CALLS = 10_000
+
+
+@dataclass(frozen=True)
+class Judged:
+    """The calls that a library answers otherwise, and where those are whose reply can depend on
+    which rank is fast; and how many calls there are."""
+
+    library: Library
+    found: Sequence[Predicted]
+    timed: Sequence[Place]
+    calls: int
+
+
+def hold_small(plan: Plan) -> None:
+    """Raises Refused for a plan that has too many calls."""
+    if plan.call_count > MOST_CALLS:
+        raise Refused(f"what a library makes of more than {MOST_CALLS:,} calls isn't judged")
+
+
+def judge(plan: Plan, library: Library, expected: Expected) -> Judged:
+    """What a library makes of a plan. One without races is taken in two orders: with the lowest
+    rank first, and with the highest. Raises Refused for a large one."""
+    hold_small(plan)
+    ways = [LOWEST_FIRST, Way(is_backwards=True)]
+    if expected.order is not None:
+        ways = [Way(expected.order)]
+    found: dict[Place, Predicted] = {}
+    replies: list[dict[Place, str]] = []
+    for way in ways:
+        differing = explain_differences(plan, library.traits, expected.report, way)
+        replies.append({it.difference.place: it.difference.library for it in differing})
+        for it in differing:
+            found.setdefault(it.difference.place, it)
+    in_order = [it.place for it in expected.report.lines if it.place in found]
+    timed = [
+        it
+        for it in in_order
+        if TIMED.intersection(found[it].rules) or len({of.get(it) for of in replies}) > 1
+    ]
+    return Judged(library, [found[it] for it in in_order], timed, len(expected.report.lines))

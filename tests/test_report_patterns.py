@@ -1,0 +1,176 @@
+"""Tests what a report says of a pattern, by a stand-in for a checker that judges patterns."""
+import json
+import os
+import re
+import tempfile
+import unittest
+
+import report_support
+import support
+
+CLEAN = "findings 0 for every number of ranks on every placement"
+# All workers put their cards, and read those of the others after a fence.
+CARDS = """\
+# Every rank reads every card.
+pattern 1
+job app
+one root
+fence all
+many workers
+put global card v
+commit
+fence all collect
+for workers
+get-now each card
+end
+"""
+# The root reads before the worker has committed.
+EARLY = "pattern 1\njob app\none root\nput global k v\ncommit\nmany w\nget-now root k\n"
+PLAN = """\
+rehearsal 2
+node n0
+job app
+rank n0
+put global k v
+commit
+rank n0
+get-now app:0 k
+"""
+FOUND = f"# counterexample, 2 ranks\n{PLAN}# race app:0 2 app:1 1 key app:0 k\n# findings 1\n"
+SAID = "for every number of ranks: a counterexample with 2 ranks"
+# A checker that judges patterns: what it says of one stands in a file.
+CHECKER = """#!/bin/sh
+case "$*" in
+"check --help") "{program}" check --help; echo "  --pattern" ;;
+"check --pattern") cat > /dev/null; cat "{room}/said"; exit {status} ;;
+*) exec "{program}" "$@" ;;
+esac
+"""
+
+
+class PatternCase(unittest.TestCase):
+    """A test with a folder of its own, for a pattern and what a checker says of it."""
+
+    def setUp(self) -> None:
+        room = tempfile.TemporaryDirectory(prefix="wire-up-report-")
+        self.addCleanup(room.cleanup)
+        self.room = room.name
+
+    def write(self, name: str, text: str) -> str:
+        """Writes a file in the folder. Answers its path."""
+        return report_support.write(os.path.join(self.room, name), text.encode())
+
+    def write_checker(self, said: str, status: int) -> str:
+        """Writes the stand-in, which says this of every pattern."""
+        self.write("said", said)
+        text = CHECKER.format(program=support.program(), room=self.room, status=status)
+        path = self.write("checker", text)
+        os.chmod(path, 0o755)
+        return path
+
+    def report(self, checker: str, path: str, status: int) -> tuple[str, str]:
+        """The text and the page of a file, in which all white space is one space."""
+        page = os.path.join(self.room, "page.html")
+        sarif = ("--sarif", os.path.join(self.room, "made.sarif"))
+        ran = report_support.run_report("--text", path, checker=checker)
+        paged = report_support.run_report("-o", page, *sarif, path, checker=checker)
+        said = (ran.returncode, paged.returncode)
+        self.assertEqual(said, (status, status), ran.stderr + paged.stderr)
+        return " ".join(ran.stdout.split()), " ".join(report_support.read(page).split())
+
+
+class CleanTest(PatternCase):
+    """A pattern in which nothing is found."""
+
+    def test_nothing_waits(self) -> None:
+        checker = self.write_checker(f"{CLEAN}\n", 0)
+        text, page = self.report(checker, self.write("cards.pattern", CARDS), 0)
+        said = "cards.pattern: no race, for every number of ranks on every placement"
+        self.assertTrue(text.startswith(f"{said} However many ranks"), text)
+        self.assertIn('<header class="quiet">', page)
+        self.assertIn(f"<h1>{said}</h1>", page)
+        self.assertIn('<div id="line-11" class=""><b>11</b>get-now each card</div>', page)
+        made = json.loads(report_support.read(os.path.join(self.room, "made.sarif")))
+        self.assertEqual(made["runs"][0]["results"], [])
+
+    def test_calls_that_wait(self) -> None:
+        checker = self.write_checker(f"{CLEAN}\nwaits root 1 fence\nwaits workers 4 get-now\n", 0)
+        text, page = self.report(checker, self.write("cards.pattern", CARDS), 0)
+        said = "2 calls wait for ever in some of its plans: root 1 fence, workers 4 get-now"
+        self.assertIn(f"on every placement; {said} ", text)
+        self.assertIn("root 1 fence, cards.pattern:5: fence all ", text)
+        self.assertIn("workers 4 get-now, cards.pattern:11: get-now each card", text)
+        self.assertIn('<header class="waits">', page)
+        self.assertIn('root 1 fence, <a href="#line-5">cards.pattern:5</a>', page)
+        self.assertIn('<div id="line-5" class="named">', page)
+
+
+class CounterexampleTest(PatternCase):
+    """A pattern of which a plan has a race."""
+
+    def test_a_pattern(self) -> None:
+        checker = self.write_checker(FOUND, 1)
+        text, page = self.report(checker, self.write("early.pattern", EARLY), 1)
+        self.assertRegex(text, f"^early.pattern: 1 race; {SAID}(; | The replies)")
+        self.assertIn("app:1 1 get-now, counterexample.plan:9 ", text)
+        self.assertIn("wire_up check --pattern early.pattern > counterexample.plan", text)
+        self.assertIn("<h2>The counterexample</h2>", page)
+        self.assertIn(f"1 race; {SAID}", page)
+        self.assertIn('<figure id="diagram-1">', page)
+
+    def test_sarif_names_the_pattern(self) -> None:
+        checker, path = self.write_checker(FOUND, 1), self.write("early.pattern", EARLY)
+        self.report(checker, path, 1)
+        made = json.loads(report_support.read(os.path.join(self.room, "made.sarif")))
+        (result,) = made["runs"][0]["results"]
+        where = result["locations"][0]["physicalLocation"]
+        self.assertTrue(where["artifactLocation"]["uri"].endswith("/early.pattern"))
+        self.assertEqual(where["region"]["startLine"], 1)
+        said = result["relatedLocations"][0]["message"]["text"]
+        self.assertEqual(said, "app:0 2 commit in counterexample.plan")
+
+    def test_a_counterexample_in_a_file(self) -> None:
+        path = self.write("found.plan", FOUND)
+        text, page = self.report(support.program(), path, 1)
+        self.assertRegex(text, f"^found.plan: 1 race; {SAID}(; | The replies)")
+        self.assertIn("app:1 1 get-now, found.plan:9 ", text)
+        self.assertIn(SAID, page)
+        self.assertIn("<h2>The plan</h2>", page)
+
+    def test_plans_that_are_none(self) -> None:
+        for text in (FOUND.replace("# race", "#  race"), FOUND.replace("# count", "# a count")):
+            path = self.write("other.plan", text)
+            ran = report_support.run_report("--text", path)
+            self.assertNotIn("every number of ranks", ran.stdout)
+
+
+class RefusalsTest(PatternCase):
+    """Patterns that aren't told."""
+
+    def refuse(self, checker: str, line: str, text: str = EARLY) -> None:
+        """Tests that a pattern is refused with this line, as a pattern."""
+        ran = report_support.run_report(self.write("it.pattern", text), checker=checker)
+        self.assertEqual((ran.returncode, ran.stdout), (125, ""))
+        self.assertRegex(ran.stderr, f"^{line}\n$")
+
+    def test_an_older_checker(self) -> None:
+        older = self.write_checker("", 0)
+        text = report_support.read(older)
+        self.write("checker", re.sub(r"(?m)^\"check --.*\n", "", text))
+        self.refuse(older, r"wire_up-report: \S+: judges no patterns, and \S+it.pattern is one")
+
+    def test_a_pattern_with_a_fault(self) -> None:
+        checker = self.write_checker("", 2)
+        fault = 'echo "wire_up: fault 4 BadLine 6" >&2; exit'
+        text = report_support.read(checker).replace("exit 2", f"{fault} 2")
+        self.write("checker", text)
+        self.refuse(checker, "wire_up: fault 4 BadLine 6")
+
+    def test_an_answer_of_another_form(self) -> None:
+        for said in ("", "findings 0\n", f"{CLEAN}\nwaits root get\n"):
+            checker = self.write_checker(said, 0)
+            self.refuse(checker, "wire_up-report: .* is no verdict on a pattern")
+
+
+if __name__ == "__main__":
+    unittest.main()
