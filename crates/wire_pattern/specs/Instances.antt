@@ -32,7 +32,8 @@ pub record Cast : Type 0 where
 abbrev pub process_count : Cast → ℕ
 process_count cast = sum_by (λ (size : ℕ). size) cast.sizes
 
--- a cast of the pattern: each role has a size, that of a single role is 1, each process a node
+-- a cast of the pattern: each role has a size, that of a single role is 1, each process a node. The least number of a
+-- role isn't asked for
 pub record IsCast (p : Pattern) (cast : Cast) : Type 0 where
   pub sized : length cast.sizes ≡ length p.roles
   pub only : (role : ℕ) → single_in (slice_get p.roles role) ≡ true → slice_get cast.sizes role ≡ Some 1
@@ -162,8 +163,8 @@ instance_said p cast =
 abbrev pub instance_text : Pattern → Cast → List ℕ
 instance_text p cast = flat_map line_text (instance_said p cast)
 
--- the lines of the pattern's file that the lines of the text come from: of a node and a rank that of the role, where the
--- node of number n is that of process n; of the header 0
+-- for each line of the text the line of the pattern's file that it comes from: of a call its own, of a job and a rank
+-- that of the job and the role. The node of number n has the line of the role of process n, and the header has 0
 
 abbrev pub step_lines : Cast → ℕ → ℕ → Step → List ℕ
 step_lines cast v i (Once line) = line.number ∷ []

@@ -165,7 +165,7 @@ are_sound_steps jobs roles caller waits [] = true
 are_sound_steps jobs roles caller waits (step ∷ steps) =
     is_sound_step jobs roles caller waits step && are_sound_steps jobs roles caller (waits_after_step waits step) steps
 
--- a single role has one process at least, a group at most 9
+-- the least number of a single role is 1, that of a group at most 9
 abbrev pub HasLeast : Role → Type 0
 HasLeast role = (role.single ≡ true → role.least ≡ 1) × (role.least ≤ 9)
 
