@@ -16,9 +16,8 @@ from wire_up_tools.run.reports import Report, read_report
 from wire_up_tools.run.suite import Kind, SuitePlan, read_suite
 from wire_up_tools.run.tables import Recorded, read_table
 
-# Plans that differ, and that the rules of a library don't explain: a node on which some callers of
-# a fence collect and some don't.
-UNEXPLAINED = {"slurm-24.11": ["collect-mixed-one-node"]}
+# Plans that differ, and that the rules of a library don't explain, by the library's name.
+UNEXPLAINED: dict[str, list[str]] = {}
 PLANS = {it.name: it for it in read_suite()}
 
 

@@ -93,12 +93,20 @@ class End:
 
     def is_barred(self) -> bool:
         """Whether it never ends."""
-        words = self.call.target.split(",")
+        words = self.list_counted()
         repeats = len(set(words)) < len(words) and not self.world.traits.drops_repeats
         if repeats and self.world.has(Rule.LIST_AS_SPELT):
             return True
         is_list = self.meeting.sign[0] == LIST and len(self.nodes) > 1
         return is_list and self.call.collects and self.world.has(Rule.FENCE_OF_NODE)
+
+    def list_counted(self) -> list[str]:
+        """The items of the set of which it waits for each, as they are spelt."""
+        words = self.call.target.split(",")
+        if not self.world.has(Rule.FENCE_OF_NODE) or self.call.collects:
+            return words
+        here = self.call.rank.node
+        return [it for it in words if it not in self.world.ranks or self.node_of(it) == here]
 
     def is_complete(self) -> bool:
         """Whether all have arrived that it waits for."""

@@ -137,7 +137,13 @@ OPENPMIX_7 = Traits(
     kept=Kept.APART,
 )
 SLURM = Traits(
-    rules=COMMON | {Rule.KEPT_BY_CALLER, Rule.OWNER_ANSWERS, Rule.FENCE_OF_NODE},
+    rules=COMMON
+    | {
+        Rule.KEPT_BY_CALLER,
+        Rule.OWNER_ANSWERS,
+        Rule.ANSWERED_AT_COMMIT,
+        Rule.FENCE_OF_NODE,
+    },
     local_elsewhere="PMIX_ERROR",
     asks_owner_at_once=True,
     has_names=False,
