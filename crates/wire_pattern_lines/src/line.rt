@@ -1,6 +1,7 @@
 //! What one line says.
 
-ghost use Rattle.std.specs.Prelude.{[], ◌≡◌, ◌≢◌, ◌↔◌, ℕ, List, ◌∷◌, ◌≤◌, true, IsTrue, IfOk, IfSome, IfNone, codes, decimal};
+ghost use Rattle.std.specs.Prelude.{[], ◌≡◌, ◌≢◌, ◌↔◌, ℕ, List, ◌∷◌, ◌≤◌, true, IsTrue, IfOk, IfSome, IfNone, codes};
+ghost use Rattle.std.specs.Prelude.{decimal};
 ghost use Rattle.wire_types.specs.Verbs.{text_of_verb};
 ghost use Rattle.wire_types.specs.Texts.{texts_of};
 ghost use Rattle.wire_runs.specs.Patterns.{Turns as PlanTurns};

@@ -15,7 +15,8 @@ ghost use Rattle.wire_pattern_lines.specs.Shown.{said_by, call_by, item_by, set_
 ghost use Rattle.wire_pattern_lines.specs.Said as said;
 ghost use Rattle.wire_pattern_script.specs.FirstPass as spec;
 ghost use Rattle.wire_pattern_script.specs.FirstPass.{judged, after, nothing, Judges, JudgesAll, FirstPass};
-ghost use Rattle.wire_pattern_script.specs.FirstPass.{job_names, role_names, with_step, with_call, with_loop, with_role};
+ghost use Rattle.wire_pattern_script.specs.FirstPass.{job_names, role_names, with_step, with_call, with_loop};
+ghost use Rattle.wire_pattern_script.specs.FirstPass.{with_role};
 ghost use Rattle.wire_pattern_script.specs.Drafted.{declared_of, role_of, step_of, placed_of, loop_of};
 
 use crate::draft::{Draft, JobDraft, LoopDraft, Placed, RoleDraft, StepDraft};

@@ -2,7 +2,8 @@
 
 ghost use Rattle.std.specs.Prelude.{◌≡◌, ◌≤◌, ◌<◌, ◌^◌, ◌⊎◌, Ok, Err, length, map, IfOk, IfErr};
 ghost use Rattle.wire_pattern.specs.Shown.{job_by, role_by};
-ghost use Rattle.wire_pattern_script.specs.Reads.{ReadsPattern, ReadsShort, PatternReadsOnce, judged_pattern, most_bytes};
+ghost use Rattle.wire_pattern_script.specs.Reads.{ReadsPattern, ReadsShort, PatternReadsOnce, judged_pattern};
+ghost use Rattle.wire_pattern_script.specs.Reads.{most_bytes};
 ghost use Rattle.wire_pattern_script.specs.Numbers.{pattern_of as numbered_pattern};
 ghost use Rattle.wire_pattern_script.specs.Faults.{roles_fault};
 ghost use Rattle.wire_pattern_script.specs.Sound.{SoundIsLawful};

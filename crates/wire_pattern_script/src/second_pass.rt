@@ -49,7 +49,8 @@ impl Script<'_> {
 
     /// The fault of a line in a loop over this group.
     fn turn_fault(&self, group: u32, turns: Turns, line: &Line) -> Option<Fault>
-        ensures { result ≡ spec.turn_fault self.now.jobs (map role_by self.now.roles.now) self.now.caller group (turns_by turns) (line_by line.now) }
+        ensures { result
+            ≡ spec.turn_fault self.now.jobs (map role_by self.now.roles.now) self.now.caller group (turns_by turns) (line_by line.now) }
     {
         let fits = fits_loop(self.roles, group, turns, &line.call);
         self.line_fault(fits, line)
@@ -57,7 +58,8 @@ impl Script<'_> {
 
     /// The first fault of the lines of a loop.
     fn lines_fault(&self, group: u32, turns: Turns, lines: &[Line]) -> Option<Fault>
-        ensures { result ≡ spec.first_fault (spec.turn_fault self.now.jobs (map role_by self.now.roles.now) self.now.caller group (turns_by turns)) (map line_by lines.now) }
+        ensures { result ≡ spec.first_fault (spec.turn_fault self.now.jobs (map role_by self.now.roles.now) self.now.caller group (turns_by turns))
+            (map line_by lines.now) }
     {
         for line in lines {
             if let Some(fault) = self.turn_fault(group, turns, line) {
