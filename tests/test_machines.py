@@ -17,7 +17,7 @@ MACHINE_RANKS = 4096
 # A plan of more ranks is replayed without a board.
 MOST_SEATED = 1024
 # With a board, so many ranks would take 32 GiB; without one they take some 250 MiB.
-MANY_RANKS, MEMORY = 65_536, 1 << 30
+MANY_RANKS, MEMORY = 65_536, 1 << 31
 
 
 def machine(has_fence: bool, ranks: int = MACHINE_RANKS) -> Iterator[str]:

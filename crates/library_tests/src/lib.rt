@@ -11,8 +11,6 @@ mod fates;
 #[cfg(test)]
 mod gates;
 #[cfg(test)]
-mod large;
-#[cfg(test)]
 mod rounds;
 #[cfg(test)]
 mod workers;
