@@ -7,7 +7,7 @@ PREFIX ?= /usr/local
 export PYTHONDONTWRITEBYTECODE = 1
 
 .PHONY: run libraries parts try test quick lint lint-c edits soak bench figures
-.PHONY: record record-mpi ranks install deb picture
+.PHONY: record record-mpi record-suite newer-root ranks install deb picture
 
 MPICC ?= mpicc
 CFLAGS ?= -O2 -Wall -Wextra
@@ -115,6 +115,15 @@ record/record.so: $(RECORD_PMIX) record/record.h $(wildcard record/core/*.h reco
 record/record-mpi.so: $(RECORD_MPI) record/record.h $(wildcard record/mpi/*.h)
 	$(MPICC) $(SHARED) -Wl,--as-needed -o $@.new $(filter %.c,$^) -ldl
 	@mv $@.new $@
+
+# Records MPICH's test suite, or some parts of it: `make record-suite PARTS="pt2pt f77/coll"`.
+record-suite:
+	@PYTHONPATH=tests python3 -m build.record_suite "$(PROGRAM)" --parts $(PARTS) \
+		$(if $(ROOM),--room "$(ROOM)") $(if $(SECONDS),--seconds $(SECONDS)) $(if $(JOBS),--jobs $(JOBS))
+
+# A folder with a newer Debian, whose MPI the gate's live tests then run with too; needs debootstrap.
+newer-root:
+	@python3 -m build.newer_root $(if $(ROOT),"$(ROOT)")
 
 # The process that makes the calls of a rank of a plan, which ./wire_up-run starts.
 ranks: run/wire_up-rank

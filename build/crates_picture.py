@@ -23,7 +23,7 @@ BOX_WIDTH = 148
 BOX_HEIGHT = 28
 ROW_HEIGHT = 58
 LEGEND_HEIGHT = 34
-GAP = 14
+GAP = 11
 
 # The colours of the layers, in the order of crates.txt: that of the box and that of its border.
 COLOURS = (
@@ -31,6 +31,7 @@ COLOURS = (
     ("#dcebfa", "#2f6ca3"),
     ("#e3f2dc", "#4b8033"),
     ("#fde8d4", "#b06a1e"),
+    ("#d9f0ee", "#2b7f78"),
     ("#efe1f5", "#83509b"),
     ("#fadcdc", "#a83c3c"),
     ("#f6f1cf", "#8a7a1c"),

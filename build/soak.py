@@ -1,13 +1,16 @@
-"""Runs the program on random files, most of them damaged, and holds it to itself, to a second
-reader and to a model of plans: tests/soaking.py says what it holds for each file.
+"""Runs the program on random plans and patterns, most of them damaged, and holds it to itself, to
+second readers, and to a model of plans and a reference for patterns: tests/soaking.py says what it
+holds for each plan, and tests/pattern_soaking.py for each pattern.
 
 Usage: make soak [MINUTES=N] [SEED=N]
        PYTHONPATH=tests python3 -m build.soak [PROGRAM] [--minutes N | --seconds N] [--seed N]
-                                              [--keep FOLDER]
+                                              [--keep FOLDER] [--patterns]
        PYTHONPATH=tests python3 -m build.soak [PROGRAM] --again FILE     looks at one file once more
-Without PROGRAM it takes ./wire_up. It ends by itself after so many minutes (1 if not told), and at
-the first 20 differences. A file that shows one is made as small as it can be, by lines, and kept in
-FOLDER (out/soak). Prints what it tried each minute and at the end, and last 'N differences'.
+Without PROGRAM it takes ./wire_up. If it checks patterns, one file of five is a pattern, and with
+--patterns each is. FILE is looked at as a pattern if its name ends with `.pattern`. It ends by
+itself after so many minutes (1 if not told), and at the first 20 differences. A file that shows one
+is made as small as it can be, by lines, and kept in FOLDER (out/soak). Prints what it tried each
+minute and at the end, and last 'N differences'.
 """
 import argparse
 import os
@@ -18,10 +21,15 @@ import sys
 import tempfile
 import time
 from collections import Counter
+from collections.abc import Callable
+from typing import NamedTuple, Optional
 
-from soaking import Difference, Runner, difference_of
-
+import pattern_soaking
+import random_patterns
 import random_plans
+import soaking
+from soaking import Difference, Runner
+
 from build.places import LOGS, WIRE_UP
 
 MOST_DIFFERENCES = 20
@@ -31,13 +39,28 @@ REDUCE_SECONDS, TRIES = 60, 4
 # Further apart than any number of files, so that two seeds make no file alike.
 FILES_OF_SEED = 1_000_000_007
 KINDS = ("refused", "with findings", "without findings")
+# One file of so many is a pattern.
+PATTERNS_ONE_IN = 5
+
+
+class Files(NamedTuple):
+    """Random plans, or random patterns: the ending of their names, how one is made, and what shows
+    a difference."""
+
+    ending: str
+    random_file: Callable[[random.Random], tuple[bytes, int]]
+    difference_of: Callable[[Runner, bytes, int], tuple[Optional[Difference], str]]
+
+
+PLANS = Files(".plan", random_plans.random_file, soaking.difference_of)
+PATTERNS = Files(".pattern", random_patterns.random_file, pattern_soaking.difference_of)
 
 
 class Reducer:
     """Makes a file smaller that shows a difference."""
 
-    def __init__(self, runner: Runner, seed: int, name: str) -> None:
-        self.runner, self.seed, self.name = runner, seed, name
+    def __init__(self, runner: Runner, files: Files, seed: int, name: str) -> None:
+        self.runner, self.files, self.seed, self.name = runner, files, seed, name
         self.until = time.monotonic() + REDUCE_SECONDS
 
     def still_shows(self, lines: list[bytes]) -> bool:
@@ -45,7 +68,8 @@ class Reducer:
         for n in range(TRIES):
             if time.monotonic() >= self.until:
                 return False
-            found, _ = difference_of(self.runner, b"\n".join(lines), self.seed + n)
+            text = b"\n".join(lines)
+            found, _ = self.files.difference_of(self.runner, text, self.seed + n)
             if found and found.name == self.name:
                 return True
         return False
@@ -79,6 +103,8 @@ class Soak:
         self.seed: int = args.seed
         self.keep_in: str = args.keep
         self.runner = Runner(os.path.abspath(args.program), room)
+        takes_patterns = pattern_soaking.has_patterns(self.runner.program)
+        self.one_in = 1 if args.patterns else PATTERNS_ONE_IN if takes_patterns else 0
         self.kinds: Counter[str] = Counter()
         self.damaged, self.bytes = 0, 0
         self.differences: list[str] = []
@@ -97,15 +123,16 @@ class Soak:
 
     def try_file(self, seed: int) -> None:
         """Tries the file of a seed."""
-        text, damages = random_plans.random_file(random.Random(seed))
-        found, kind = difference_of(self.runner, text, seed)
+        files = PATTERNS if self.one_in and seed % self.one_in == 0 else PLANS
+        text, damages = files.random_file(random.Random(seed))
+        found, kind = files.difference_of(self.runner, text, seed)
         self.damaged += bool(damages)
         self.bytes += len(text)
         self.kinds[kind] += 1
         if found:
-            self.keep(found, text, seed)
+            self.keep(found, files, text, seed)
 
-    def keep(self, found: Difference, text: bytes, seed: int) -> None:
+    def keep(self, found: Difference, files: Files, text: bytes, seed: int) -> None:
         """Keeps a file that shows a difference, made small, unless there is one of that name."""
         print(f"{found.name}: {found.detail} (file {seed})", flush=True)
         if found.name in self.differences:
@@ -113,11 +140,11 @@ class Soak:
         self.differences.append(found.name)
         os.makedirs(self.keep_in, exist_ok=True)
         path = os.path.join(self.keep_in, re.sub(r"\W+", "-", found.name))
-        small = Reducer(self.runner, seed, found.name).reduced(text)
-        for ending, it in ((".whole", text), (".plan", small)):
+        small = Reducer(self.runner, files, seed, found.name).reduced(text)
+        for ending, it in ((".whole", text), (files.ending, small)):
             with open(path + ending, "wb") as to:
                 to.write(it)
-        print(f"kept in {path}.plan", flush=True)
+        print(f"kept in {path}{files.ending}", flush=True)
 
     def told(self) -> str:
         """How far it is, in a line."""
@@ -149,9 +176,10 @@ def look_again(args: argparse.Namespace, room: str) -> int:
     difference."""
     with open(args.again, "rb") as it:
         text = it.read()
+    files = PATTERNS if args.again.endswith(PATTERNS.ending) else PLANS
     runner, found = Runner(os.path.abspath(args.program), room), None
     for n in range(10):
-        found, kind = difference_of(runner, text, args.seed + n)
+        found, kind = files.difference_of(runner, text, args.seed + n)
         print(f"{found.name}: {found.detail}" if found else f"{kind}, no difference")
     return 1 if found else 0
 
@@ -167,6 +195,7 @@ def arguments() -> argparse.Namespace:
     parser.add_argument("--seed", type=int)
     parser.add_argument("--keep", default=os.path.join(LOGS, "soak"))
     parser.add_argument("--again")
+    parser.add_argument("--patterns", action="store_true")
     args = parser.parse_args()
     args.seconds = args.seconds if args.seconds is not None else 60 * args.minutes
     args.seed = args.seed if args.seed is not None else int(time.time())

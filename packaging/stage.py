@@ -88,8 +88,9 @@ def lay_out_documents(prefix: str, name: str) -> str:
         for path in sorted(glob.glob(os.path.join(TOP, "docs", f"*.{ending}"))):
             if os.path.basename(path) not in FOR_DEVELOPERS:
                 put(path, os.path.join(folder, "docs"))
-    for path in sorted(glob.glob(os.path.join(TOP, "examples", "*"))):
-        put(path, os.path.join(folder, "examples"))
+    for path in sorted(glob.glob(os.path.join(TOP, "examples", "**"), recursive=True)):
+        if os.path.isfile(path):
+            put(path, os.path.join(folder, os.path.dirname(os.path.relpath(path, TOP))))
     return folder
 
 

@@ -223,7 +223,7 @@ enter_call("$function", caller);
 """),
     "finalize": Shape(CALL + """\
 if (call.is_noted)
-    note_objects_past();
+    wire_up_note_past();
 """),
     "init-session": Shape(after=CALL + """\
 static void *known_taking;
@@ -236,7 +236,7 @@ if (call.is_noted && result == MPI_SUCCESS && take &&
 """),
     "finalize-session": Shape(CALL + """\
 if (call.is_noted) {
-    note_objects_past();
+    wire_up_note_past();
     leave_session();
 }
 """),

@@ -51,12 +51,13 @@ EXPORTED unsigned long wire_up_number(void);
 enum owner { OF_PROGRAM, OF_BINDINGS, OF_TOOL, OF_MPI, OF_PMIX, OF_SYSTEM, OF_RECORDER };
 
 /* A place in code: a return address, and the object that it is in; or a line of Python, and its
- * function. Its number is written once with what it stands for. */
+ * function. Its number is written once with what it stands for. `is_call` says that the code before
+ * it calls a function that it names. */
 struct place {
     const void *address;
     unsigned number;
     enum owner owner;
-    bool is_noted, is_mpi4py;
+    bool is_noted, is_mpi4py, is_call, is_past;
     const char *module, *function;
     size_t offset;
     struct place *next;
@@ -79,6 +80,17 @@ EXPORTED void wire_up_write(char sign, unsigned long number, struct place *place
 /* Finds the line in the program that this call comes from, through however many calls of libraries.
  * Null on a thread that isn't the program's. */
 EXPORTED struct place *wire_up_place_behind(void);
+
+/* Notes each object of the program that is bound to functions of MPI or PMIx for which the recorder
+ * has its own: it was opened so that it finds the library first. */
+EXPORTED void wire_up_note_past(void);
+
+/* Whether code of a library of MPI or PMIx calls by itself. A callback of the program that ends
+ * with a jump to a function seems to be called from there too. */
+static inline bool wire_up_is_own(const struct place *place, enum owner library)
+{
+    return place && place->owner == library && place->is_call;
+}
 
 /* Says that the object which has a function is a tool between the program and MPI. */
 EXPORTED void wire_up_add_tool(const void *function);

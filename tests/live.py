@@ -20,6 +20,7 @@ COMPILED = {
     "direct": ("mpicc", "-pthread", "direct.c"),
     "sessions": ("mpicc", "-pthread", "sessions.c"),
     "plugin.so": ("mpicc", "-shared", "-fPIC", "plugin.c"),
+    "pmix_plugin.so": ("cc", "-shared", "-fPIC", "pmix_plugin.c"),
     "libprofiler.so": ("mpicc", "-shared", "-fPIC", "profiler.c"),
     "profiled": ("mpicc", "told.c", "-L{folder}", "-Wl,-rpath,{folder}", "-lprofiler"),
     "mixed": ("mpifort", "-J{folder}", "mixed.c", "mixed_parts.f90"),
@@ -27,7 +28,7 @@ COMPILED = {
 }
 SOURCES = (".c", ".f90")
 # The programs that call PMIx themselves.
-WITH_PMIX = ("calls", "direct", "sessions")
+WITH_PMIX = ("calls", "direct", "sessions", "pmix_plugin.so")
 NEEDED = ("mpicc", "mpirun", "make", "cc", "pkg-config")
 # `mpirun` may mix the lines of two processes where one is long, in about one run of six.
 TRIES = 10

@@ -22,8 +22,15 @@ UNAWAITED = (
     "1 calls of the program that don't block and ended before others: in the plan it waited for "
     "them\n"
 )
+UNAWAITED_LAST = UNAWAITED.replace("1", "2", 1).rstrip("\n") + (
+    ", 1 processes that called from several threads: their calls stand in the order in which they "
+    "began\n"
+)
 PAST_RECORDER = (
     "2 processes in which plugin.so calls MPI past the recorder: its calls aren't seen\n"
+)
+PMIX_PAST_RECORDER = (
+    "2 processes in which pmix_plugin.so calls PMIx past the recorder: its calls aren't seen\n"
 )
 
 
@@ -87,6 +94,12 @@ OTHER_WAYS = {
     "plugin": Program(
         2, 0, 1, IN_PART, f"{IN_PART}{PAST_RECORDER}", ("unseen", "plugin", "plugin.so")
     ),
+    "closed": Program(
+        2, 0, 1, IN_PART, f"{IN_PART}{PAST_RECORDER}", ("unseen", "closed", "plugin.so")
+    ),
+    "past": Program(
+        2, 0, 1, IN_PART, f"{IN_PART}{PMIX_PAST_RECORDER}", ("direct", "past", "pmix_plugin.so")
+    ),
     "mixed": Program(2, 1, 1, words=("mixed", "message")),
     "mixed-barrier": Program(2, 1, 1, words=("mixed", "barrier")),
     "fortran": Program(2, 0, 3, words=("fortran",)),
@@ -98,6 +111,7 @@ OTHER_WAYS = {
 DIRECT = {
     "partial": Program(2, 0, 1),
     "unwaited": Program(2, 0, 1, IN_PART, f"{IN_PART}{UNAWAITED}"),
+    "last": Program(2, 1, 1, IN_PART, f"{IN_PART}{UNAWAITED_LAST}"),
 }
 SHIPPED = {**CASES, **DIRECT, **OTHERS, **OTHER_WAYS}
 

@@ -1,5 +1,6 @@
-"""Runs the built program on a plan of a large machine."""
+"""Runs the built program on plans of large machines."""
 from collections.abc import Iterator
+import resource
 import unittest
 
 from running import (
@@ -12,33 +13,35 @@ from running import (
 )
 
 
-MACHINE_RANKS, MACHINE_NODES = 4096, 2048
+MACHINE_RANKS = 4096
+# A plan of more ranks is replayed without a board.
+MOST_SEATED = 1024
+# With a board, so many ranks would take 32 GiB; without one they take some 250 MiB.
+MANY_RANKS, MEMORY = 65_536, 1 << 30
 
 
-def machine(has_fence: bool) -> Iterator[str]:
-    """A plan of 4,096 ranks on 2,048 nodes. Each rank gets the card of the other rank of its node
+def machine(has_fence: bool, ranks: int = MACHINE_RANKS) -> Iterator[str]:
+    """A plan of so many ranks, two on a node. Each rank gets the card of the other rank of its node
     and those of two ranks of other nodes."""
     yield "rehearsal 1"
-    yield from (f"node n{it}" for it in range(MACHINE_NODES))
+    yield from (f"node n{it}" for it in range(ranks // 2))
     yield "job app"
-    for rank in range(MACHINE_RANKS):
+    for rank in range(ranks):
         yield from (f"rank n{rank // 2}", f"put global card c{rank}", "commit")
         yield from ["fence all collect"] * has_fence
-        yield from (
-            f"get-now app:{it % MACHINE_RANKS} card" for it in (rank ^ 1, rank + 2, rank - 2)
-        )
+        yield from (f"get-now app:{it % ranks} card" for it in (rank ^ 1, rank + 2, rank - 2))
 
 
-def machine_report() -> Iterator[str]:
+def machine_report(ranks: int = MACHINE_RANKS) -> Iterator[str]:
     """What `replay` writes of that plan, where it has the fence."""
-    for rank in range(MACHINE_RANKS):
+    for rank in range(ranks):
         yield from (
             f"app:{rank} {n} {verb} PMIX_SUCCESS"
             for n, verb in enumerate(("put", "commit", "fence"), 1)
         )
         others = rank ^ 1, rank + 2, rank - 2
         yield from (
-            f"app:{rank} {n} get-now PMIX_SUCCESS c{it % MACHINE_RANKS}"
+            f"app:{rank} {n} get-now PMIX_SUCCESS c{it % ranks}"
             for n, it in enumerate(others, 4)
         )
     yield "waiting 0"
@@ -82,11 +85,59 @@ def machines(room: str) -> Runs:
         )
 
 
+def chain(ranks: int) -> Iterator[str]:
+    """A plan in which each rank waits for the card of the next, and the first for a name and the
+    last for a fence besides. One rank waits for ever."""
+    yield from ("rehearsal 1", "node n0", "node n1", "job app")
+    yield from ("rank n0", "lookup-wait port", "get app:1 card", "fence app:0,app:1")
+    for rank in range(1, ranks):
+        yield f"rank n{rank % 2}"
+        yield from [f"get app:{rank + 1} card"] * (rank < ranks - 1)
+        yield from (f"put global card c{rank}", "commit")
+        yield from ["fence app:0,app:1"] * (rank == 1)
+    yield from ("publish port here", "get app:0 card")
+
+
+def chain_report(ranks: int) -> Iterator[str]:
+    """What `replay` writes of that plan."""
+    yield "app:0 1 lookup-wait PMIX_SUCCESS here"
+    yield "app:0 2 get PMIX_SUCCESS c1"
+    yield "app:0 3 fence PMIX_SUCCESS"
+    for rank in range(1, ranks):
+        calls = [f"get PMIX_SUCCESS c{rank + 1}"] * (rank < ranks - 1)
+        calls += ["put PMIX_SUCCESS", "commit PMIX_SUCCESS"]
+        calls += ["fence PMIX_SUCCESS"] * (rank == 1)
+        calls += ["publish PMIX_SUCCESS", "get waiting"] * (rank == ranks - 1)
+        yield from (f"app:{rank} {n} {call}" for n, call in enumerate(calls, 1))
+    yield "waiting 1"
+
+
+def with_memory() -> None:
+    resource.setrlimit(resource.RLIMIT_AS, (MEMORY, MEMORY))
+
+
+def replays(room: str) -> Runs:
+    """The replays of plans that have as many ranks as a board may have, or more."""
+    for ranks in (MOST_SEATED, MOST_SEATED + 2, MANY_RANKS):
+        plans = {"machine": machine(True, ranks), "chain": chain(ranks)}
+        reports = {"machine": machine_report(ranks), "chain": chain_report(ranks)}
+        for name, plan in plans.items():
+            yield Run(
+                f"a {name} of {ranks} ranks",
+                ["replay", "--large", written(room, f"{name}-{ranks}.plan", as_lines(plan))],
+                wrote=as_lines(reports[name]),
+                set_up=with_memory,
+            )
+
+
 class Machines(ProgramCase):
-    """Runs of a plan of a large machine."""
+    """Runs of plans of large machines."""
 
     def test_machines(self) -> None:
         self.hold_all(machines(self.room))
+
+    def test_boards(self) -> None:
+        self.hold_all(replays(self.room))
 
 
 if __name__ == "__main__":

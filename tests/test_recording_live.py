@@ -261,7 +261,10 @@ class OtherWaysTest(LiveTest):
         self.hold("looked-up")
 
     def test_a_library_that_calls_past_the_recorder(self) -> None:
-        self.hold("plugin")
+        """MPI or PMIx, also where it is closed again."""
+        for name in ("plugin", "closed", "past"):
+            with self.subTest(name):
+                self.hold(name)
 
     def test_a_tool(self) -> None:
         """A tool that the program is linked with still counts what the program sends."""

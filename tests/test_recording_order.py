@@ -348,6 +348,9 @@ class UnseenTest(OrderTest):
         tapes = make_world(1)
         tapes[0].say("unseen call MPI_Send")
         self.assertNotIn(MORE_ORDERED, write_plan_of(tapes, Choices(with_mpi=False)))
+        tapes[0].say("unseen pmix /lib/a.so")
+        plan = write_plan_of(tapes, Choices(with_mpi=False))
+        self.assertIn(f"{MORE_ORDERED}\n#   1 processes in which a.so calls PMIx past the", plan)
 
     def test_messages_that_nothing_got(self) -> None:
         for tag in (3, 4):

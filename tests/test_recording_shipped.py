@@ -30,7 +30,7 @@ class ShippedTest(unittest.TestCase):
 
     def hold(self, name: str, with_mpi: bool, count: int) -> None:
         """Tests the plan of a recording, with or without MPI's order."""
-        is_without_doubt = name == "plugin" and not with_mpi
+        is_without_doubt = name in ("plugin", "closed") and not with_mpi
         said = "" if is_without_doubt else SHIPPED[name].says_in_part
         words = ["-o", self.plan, "--answers", self.answers]
         words += ["--checker", self.program or "/dev/null", *([] if with_mpi else ["--no-mpi"])]

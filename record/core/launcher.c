@@ -1,8 +1,11 @@
-/* What Open MPI's launcher hands on to other nodes. */
+/* What a launcher hands on to the processes that it starts, and what shows that it has no PMIx. */
 #define _GNU_SOURCE
 #include "core/text.h"
 
 #include <errno.h>
+#include <fcntl.h>
+#include <limits.h>
+#include <stdio.h>
 #include <stdlib.h>
 #include <string.h>
 #include <unistd.h>
@@ -16,6 +19,13 @@ static bool is_launcher(void)
     const char *name = program_invocation_short_name;
     return begins_with(name, "mpirun") || begins_with(name, "mpiexec") ||
            begins_with(name, "orterun");
+}
+
+/* Whether this is PRRTE's own launcher, which knows the option alone. */
+static bool is_launcher_of_prrte(void)
+{
+    const char *name = program_invocation_short_name;
+    return !strcmp(name, "prterun") || !strcmp(name, "prun");
 }
 
 static bool has_own_list(void)
@@ -34,11 +44,12 @@ static bool has_option(int count, char **words, const char *option)
 
 /* Open MPI's launcher hands variables on to other nodes by a variable or by its option -x, but
  * never by both. Where it has the option, and the variable is the recorder's own, it begins again
- * with options in its place. */
+ * with options in its place; so does a launcher that doesn't know the variable. */
 __attribute__((constructor)) static void hand_on_by_options(int count, char **words)
 {
     static char option[] = "-x", preload[] = "LD_PRELOAD", folder[] = "WIRE_UP_RECORD";
-    if (!is_launcher() || !has_own_list() || !has_option(count, words, option))
+    bool is_due = is_launcher_of_prrte() || (is_launcher() && has_option(count, words, option));
+    if (!is_due || !has_own_list())
         return;
     char **longer = calloc((size_t)count + 5, sizeof *longer);
     if (!longer)
@@ -51,4 +62,18 @@ __attribute__((constructor)) static void hand_on_by_options(int count, char **wo
     unsetenv(LIST);
     execve("/proc/self/exe", longer, environ);
     free(longer);
+}
+
+/* Where the process was started by PMI, which came before PMIx, a file in the folder says so. */
+__attribute__((constructor)) static void note_pmi(void)
+{
+    char path[PATH_MAX];
+    const char *folder = getenv("WIRE_UP_RECORD");
+    bool is_pmi = getenv("PMI_FD") || getenv("PMI_PORT");
+    if (!folder || !is_pmi || getenv("PMIX_NAMESPACE"))
+        return;
+    int length = snprintf(path, sizeof path, "%s/pmi", folder);
+    int file = length < (int)sizeof path ? open(path, O_WRONLY | O_CREAT | O_CLOEXEC, 0666) : -1;
+    if (file >= 0)
+        close(file);
 }

@@ -23,22 +23,30 @@ static const struct {
     const char *start;
     enum owner owner;
 } objects[] = {
-    {"libpmix", OF_PMIX},        {"pmix_mca_", OF_PMIX},          {"libmpi_", OF_BINDINGS},
-    {"libmpi.", OF_MPI},         {"libmpich", OF_MPI},            {"mca_", OF_MPI},
-    {"libopen-", OF_MPI},        {"libopen_", OF_MPI},            {"libompi", OF_MPI},
+    {"libpmix.", OF_PMIX},       {"pmix_mca_", OF_PMIX},          {"libmpi_", OF_BINDINGS},
+    {"libmpi.", OF_MPI},         {"libmpich.", OF_MPI},           {"libompi", OF_MPI},
+    {"libopen-rte.", OF_MPI},    {"libopen-pal.", OF_MPI},        {"libopen_mpi", OF_MPI},
     {"libc.", OF_SYSTEM},        {"libc-", OF_SYSTEM},            {"libpthread", OF_SYSTEM},
     {"libevent", OF_SYSTEM},     {"ld-linux", OF_SYSTEM},         {"record.so", OF_RECORDER},
     {"record-mpi.so", OF_RECORDER},
 };
+
+/* Whether a file is in a folder whose name begins so, or below one. */
+static bool is_below(const char *path, const char *slash, const char *start)
+{
+    const char *found = strstr(path, start);
+    return found && slash && found < slash;
+}
 
 /* Finds whose code an object has, by the path of its file. */
 static enum owner find_object_owner(const char *path)
 {
     const char *slash = strrchr(path, '/');
     const char *name = slash ? slash + 1 : path;
-    const char *in_pmix = strstr(path, "/pmix");
-    if (in_pmix && slash && in_pmix < slash && begins_with(name, "mca_"))
+    if (begins_with(name, "mca_") && is_below(path, slash, "/pmix"))
         return OF_PMIX;
+    if (begins_with(name, "mca_") && is_below(path, slash, "/openmpi"))
+        return OF_MPI;
     for (size_t n = 0; n < sizeof objects / sizeof *objects; n++)
         if (begins_with(name, objects[n].start))
             return objects[n].owner;
@@ -81,6 +89,24 @@ static void locate(struct place *it, const Dl_info *object)
         it->offset -= (uintptr_t)object->dli_fbase;
 }
 
+/* Whether the code before an address is a call by name: to where an offset leads within the object,
+ * or to where its table says. A pointer to a function is called in other words. Elsewhere than on
+ * x86-64 each call counts as one. */
+static bool is_call_by_name(const unsigned char *after, const void *base)
+{
+#ifdef __x86_64__
+    int32_t offset;
+    if (after[-6] == 0xff && after[-5] == 0x15)
+        return true;
+    memcpy(&offset, after - 4, sizeof offset);
+    return after[-5] == 0xe8 && wire_up_base(after + offset) == base;
+#else
+    (void)after;
+    (void)base;
+    return true;
+#endif
+}
+
 static struct place *make_place(const void *address)
 {
     Dl_info object;
@@ -90,8 +116,10 @@ static struct place *make_place(const void *address)
     made->address = address;
     made->number = number_place();
     made->offset = (uintptr_t)address - 1;
-    if (dladdr(address, &object) && object.dli_fname && object.dli_fbase)
+    if (dladdr(address, &object) && object.dli_fname && object.dli_fbase) {
         locate(made, &object);
+        made->is_call = is_call_by_name(address, object.dli_fbase);
+    }
     if (!made->module)
         made->module = "unknown";
     return made;

@@ -27,6 +27,7 @@
 static struct {
     int file;      /* where the records go; -1 before it is opened and after a failed write */
     pid_t process; /* that opened it: a fork of it isn't the same process of the job */
+    const volatile char *mark; /* set in that process, and zero in a fork of it; may be null */
     dev_t device;
     ino_t inode;
     char path[PATH_MAX];
@@ -214,11 +215,17 @@ static bool write_whole(int file, const char *bytes, size_t length)
 
 /* --- records --- */
 
+/* Whether this process opened the file. The mark says so without a call of the system. */
+static bool is_own_process(void)
+{
+    return recording.mark ? *recording.mark : getpid() == recording.process;
+}
+
 /* Answers the descriptor of the file in this process; -1 where nothing is to be written. */
 static int get_file(void)
 {
     int file = __atomic_load_n(&recording.file, __ATOMIC_ACQUIRE);
-    return file >= 0 && getpid() == recording.process ? file : -1;
+    return file >= 0 && is_own_process() ? file : -1;
 }
 
 bool wire_up_is_recording(void) { return get_file() >= 0; }
@@ -355,6 +362,22 @@ static bool write_head(int file, const struct identity *me, const char *host)
     return is_written;
 }
 
+/* Makes a mark that no fork of this process has; null where the system can't. */
+static const char *make_mark(void)
+{
+#ifdef MADV_WIPEONFORK
+    size_t page = (size_t)sysconf(_SC_PAGESIZE);
+    char *made = mmap(NULL, page, PROT_READ | PROT_WRITE, MAP_PRIVATE | MAP_ANONYMOUS, -1, 0);
+    if (made == MAP_FAILED)
+        return NULL;
+    *made = 1;
+    if (madvise(made, page, MADV_WIPEONFORK) == 0)
+        return made;
+    munmap(made, page);
+#endif
+    return NULL;
+}
+
 /* Begins the recording in a file that was just created. */
 static void begin_file(int file, const struct identity *me, const char *host)
 {
@@ -366,6 +389,7 @@ static void begin_file(int file, const struct identity *me, const char *host)
     recording.device = it.st_dev;
     recording.inode = it.st_ino;
     recording.process = getpid();
+    recording.mark = make_mark();
     clock_gettime(CLOCK_MONOTONIC, &recording.began);
     if (write_head(file, me, host)) {
         __atomic_store_n(&recording.file, file, __ATOMIC_RELEASE);

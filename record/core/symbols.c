@@ -1,6 +1,7 @@
 /* Functions that the program looks up by their names: where the recorder has a function of such a
  * name, the program gets that, as if it were linked to it. */
 #define _GNU_SOURCE
+#include "core/symbols.h"
 #include "core/places.h"
 #include "core/text.h"
 
@@ -18,8 +19,7 @@ wire_up_find_symbol *wire_up_dlsym(void)
     return found;
 }
 
-/* Whether the recorder may have a function of a name. */
-static bool is_recorded(const char *name)
+bool has_recorded_name(const char *name)
 {
     return begins_with(name, "MPI_") || begins_with(name, "PMPI_") || begins_with(name, "PMIx_");
 }
@@ -31,8 +31,7 @@ static bool is_of_program(const void *caller)
     return owner == OF_PROGRAM || owner == OF_BINDINGS;
 }
 
-/* Finds the recorder's own function of a name; null where it has none. */
-static void *find_own(wire_up_find_symbol *find, const char *name)
+void *find_own(wire_up_find_symbol *find, const char *name)
 {
     Dl_info here;
     void *found = find(RTLD_NEXT, name);
@@ -65,7 +64,7 @@ __attribute__((optimize("O2"))) EXPORTED void *dlsym(void *restrict object,
                                                       const char *restrict name)
 {
     wire_up_find_symbol *find = wire_up_dlsym();
-    if (object == RTLD_NEXT || object == RTLD_DEFAULT || !is_recorded(name) ||
+    if (object == RTLD_NEXT || object == RTLD_DEFAULT || !has_recorded_name(name) ||
         !is_of_program(__builtin_return_address(0)))
         return find(object, name);
     return find_before(find, find(object, name), name);

@@ -2,7 +2,6 @@
 #include "core/text.h"
 
 #include <stdarg.h>
-#include <stdio.h>
 #include <stdlib.h>
 #include <string.h>
 
@@ -41,28 +40,86 @@ static bool widen(struct text *to, size_t more)
     return true;
 }
 
-/* Prints behind the text as much as there is room for. Answers the length of all, as vsnprintf. */
-__attribute__((format(printf, 2, 0))) static int print(struct text *to, const char *format,
-                                                       va_list words)
+static void add_bytes(struct text *to, const char *bytes, size_t length)
 {
-    return vsnprintf(to->at + to->length, to->room - to->length, format, words);
+    if (!widen(to, length))
+        return;
+    memcpy(to->at + to->length, bytes, length);
+    to->length += length;
+    to->at[to->length] = 0;
 }
 
+/* Adds a number, with zeros before it up to a width. */
+static void add_number(struct text *to, unsigned long long number, unsigned base, int width)
+{
+    char digits[24];
+    size_t at = sizeof digits;
+    do {
+        digits[--at] = "0123456789abcdef"[number % base];
+        number /= base;
+        width--;
+    } while (at && (number || width > 0));
+    add_bytes(to, digits + at, sizeof digits - at);
+}
+
+static void add_signed(struct text *to, long long number, int width)
+{
+    if (number < 0)
+        add_bytes(to, "-", 1);
+    add_number(to, number < 0 ? 0ULL - (unsigned long long)number : (unsigned long long)number, 10,
+               width);
+}
+
+/* How a number is written: from `%06ld`, the zeros, the size, and the letter. */
+struct form {
+    int width, longs;
+    char letter;
+};
+
+/* Reads a form behind its percent sign. Answers where it ends. */
+static const char *read_form(const char *at, struct form *it)
+{
+    it->width = it->longs = 0;
+    for (; *at >= '0' && *at <= '9'; at++)
+        it->width = 10 * it->width + *at - '0';
+    for (; *at == 'l' || *at == 'z'; at++)
+        it->longs++;
+    it->letter = *at;
+    return *at ? at + 1 : at;
+}
+
+/* A number of the next word that was given. */
+#define TAKE(words, longs, type) \
+    ((longs) > 1 ? va_arg(words, type long long) : (longs) ? va_arg(words, type long) : va_arg(words, type int))
+
+/* A printf of what records need: it is called several times for each of them. */
 void wire_up_text_add(struct text *to, const char *format, ...)
 {
+    struct form form;
+    const char *word;
     va_list words;
-    if (to->is_lost)
-        return;
     va_start(words, format);
-    int length = print(to, format, words);
-    va_end(words);
-    if (length >= 0 && (size_t)length >= to->room - to->length && widen(to, (size_t)length)) {
-        va_start(words, format);
-        length = print(to, format, words);
-        va_end(words);
+    while (*format) {
+        size_t plain = strcspn(format, "%");
+        add_bytes(to, format, plain);
+        format += plain;
+        if (!*format)
+            break;
+        format = read_form(format + 1, &form);
+        if (form.letter == 'd') {
+            add_signed(to, TAKE(words, form.longs, ), form.width);
+        } else if (form.letter == 'u' || form.letter == 'x') {
+            unsigned base = form.letter == 'x' ? 16 : 10;
+            add_number(to, TAKE(words, form.longs, unsigned), base, form.width);
+        } else if (form.letter == 's') {
+            word = va_arg(words, const char *);
+            add_bytes(to, word, strlen(word));
+        } else {
+            char one = form.letter == 'c' ? (char)va_arg(words, int) : form.letter;
+            add_bytes(to, &one, 1);
+        }
     }
-    if (length > 0 && !to->is_lost)
-        to->length += (size_t)length;
+    va_end(words);
 }
 
 static bool stands_plainly(unsigned char byte)

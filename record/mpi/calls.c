@@ -10,16 +10,16 @@ __thread unsigned long calls_made;
 /* Whether calls of this code are noted. */
 static bool is_watched(const struct place *place)
 {
-    return !place || (place->owner != OF_MPI && place->owner != OF_PMIX);
+    return !wire_up_is_own(place, OF_MPI) && !wire_up_is_own(place, OF_PMIX);
 }
 
-/* Finds where in the program a call comes from that this place makes: a tool and the bindings of
- * another language stand between. */
+/* Finds where in the program a call comes from that this place makes: a tool, the bindings of
+ * another language, or a library that called back may stand between. */
 static struct place *find_origin(struct place *place)
 {
-    if (place && (place->owner == OF_BINDINGS || place->owner == OF_TOOL))
-        return wire_up_place_behind();
-    return place && place->owner == OF_PROGRAM ? wire_up_in_python(place) : NULL;
+    if (!place || place->owner == OF_SYSTEM || place->owner == OF_RECORDER)
+        return NULL;
+    return place->owner == OF_PROGRAM ? wire_up_in_python(place) : wire_up_place_behind();
 }
 
 struct call enter_call(const char *function, const void *caller)

@@ -8,7 +8,6 @@
 #ifndef WIRE_UP_MPI_WRAPPER_H
 #define WIRE_UP_MPI_WRAPPER_H
 
-#include "mpi/bindings.h"
 #include "mpi/collectives.h"
 #include "mpi/completions.h"
 #include "mpi/epochs.h"

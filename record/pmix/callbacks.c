@@ -5,6 +5,9 @@
 #include <errno.h>
 #include <stdlib.h>
 
+/* What the program's callback calls last comes from there only if no jump leads to the callback. */
+#define COMES_BACK __asm__ volatile("")
+
 struct pending {
     unsigned long number;
     void *data;
@@ -54,6 +57,7 @@ void end_operation(pmix_status_t status, void *data)
     note_end(it.number, status);
     errno = error;
     it.then_operation(status, it.data);
+    COMES_BACK;
 }
 
 void end_value(pmix_status_t status, pmix_value_t *value, void *data)
@@ -63,6 +67,7 @@ void end_value(pmix_status_t status, pmix_value_t *value, void *data)
     note_value(it.number, status, value);
     errno = error;
     it.then_value(status, value, it.data);
+    COMES_BACK;
 }
 
 void end_lookup(pmix_status_t status, pmix_pdata_t found[], size_t count, void *data)
@@ -72,6 +77,7 @@ void end_lookup(pmix_status_t status, pmix_pdata_t found[], size_t count, void *
     note_found(it.number, status, found, count);
     errno = error;
     it.then_lookup(status, found, count, it.data);
+    COMES_BACK;
 }
 
 void note_begun(unsigned long number, pmix_status_t status, struct pending *pending)

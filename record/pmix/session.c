@@ -37,6 +37,7 @@ void leave_session(void)
     pthread_mutex_unlock(&counting);
     if (is_last) {
         struct text what;
+        wire_up_note_past();
         wire_up_text_open(&what);
         wire_up_text_add(&what, "finalize");
         wire_up_write('=', 0, NULL, &what);

@@ -13,13 +13,13 @@
 /* Whether a call is to be noted: what PMIx' own code calls isn't, on any thread. */
 static inline bool is_noted(const void *caller)
 {
-    return wire_up_is_recording() && find_owner(caller) != OF_PMIX;
+    return wire_up_is_recording() && !wire_up_is_own(wire_up_place(caller), OF_PMIX);
 }
 
 /* How a caller learns that a call ended that doesn't block. */
 static inline const char *find_form(const void *caller)
 {
-    return find_owner(caller) == OF_PROGRAM ? CALLS_PROGRAM : CALLS_LIBRARY;
+    return wire_up_is_own(wire_up_place(caller), OF_MPI) ? CALLS_LIBRARY : CALLS_PROGRAM;
 }
 
 /* Finds PMIx' own function of a name, once: `known` keeps it. `wrapper` stands before it. */

@@ -6,6 +6,7 @@
  *   barrier     barriers in place of messages, one by its other name
  *   looked-up   functions that are looked up in the library, as bindings of other languages do
  *   plugin      functions of a library that is opened so that it finds MPI's own before the recorder's; the second word is its path
+ *   closed      the same, and the library is closed again
  */
 #define _GNU_SOURCE
 #include <dlfcn.h>
@@ -77,6 +78,13 @@ static void *open_mpi(void)
     return dladdr(found, &it) ? dlopen(it.dli_fname, RTLD_NOW | RTLD_NOLOAD) : NULL;
 }
 
+static void exchange_and_close(void *library)
+{
+    exchange_by(library, "plugin_send", "plugin_receive");
+    if (library)
+        dlclose(library);
+}
+
 int main(int count, char **words)
 {
     const char *which = count > 1 ? words[1] : "", *path = count > 2 ? words[2] : "";
@@ -90,6 +98,8 @@ int main(int count, char **words)
         exchange_by(open_mpi(), "MPI_Send", "MPI_Recv");
     else if (!strcmp(which, "plugin"))
         exchange_by(dlopen(path, RTLD_NOW | RTLD_DEEPBIND), "plugin_send", "plugin_receive");
+    else if (!strcmp(which, "closed"))
+        exchange_and_close(dlopen(path, RTLD_NOW | RTLD_DEEPBIND));
     if (rank == 0)
         printf("%s done\n", which);
     MPI_Finalize();

@@ -120,6 +120,11 @@ impl Counter {
         );
         assert_eq!(rt; counted, (passes, 0));
     }
+
+    /// Asserts that the collector passed all processes together so often.
+    pub(crate) fn assert_collected(&self, rt: &impl Abort, passes: u64) {
+        assert_eq!(rt; self.collector.load(Ordering::SeqCst), passes);
+    }
 }
 
 impl Gate for Counter {

@@ -11,6 +11,8 @@ mod fates;
 #[cfg(test)]
 mod gates;
 #[cfg(test)]
+mod large;
+#[cfg(test)]
 mod rounds;
 #[cfg(test)]
 mod workers;

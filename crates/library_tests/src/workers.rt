@@ -19,7 +19,7 @@ use wire_marks::Marks;
 use wire_plan::Plan;
 use wire_races::{Settled, findings};
 use wire_sched::{Gate, OpenGate, Round, work_locked};
-use wire_script::read;
+use wire_script::{Size, read_sized};
 use wire_types::{CallEnd, Fault, MemorySink, MemorySource, Outcome, Proc, Status};
 use wire_up::{Ended, Mode, rehearse};
 
@@ -145,7 +145,7 @@ lookup-wait x
 
 /// The plan of a file.
 pub(crate) fn plan_of_file(alloc: Global, file: &[u8]) -> Result<Plan, Fault> {
-    let scripts = read(alloc, file)?;
+    let scripts = read_sized(alloc, Size::Large, file)?;
     Plan::build(alloc, scripts)
 }
 
@@ -209,7 +209,7 @@ pub(crate) fn settle<R: Threads + Sync>(
 }
 
 /// Runs a file as a settled plan.
-fn run_settled<R: Threads + Wait + Sync, G: Gate + Sync>(
+pub(crate) fn run_settled<R: Threads + Wait + Sync, G: Gate + Sync>(
     rt: &R,
     alloc: Global,
     file: &[u8],

@@ -1,11 +1,12 @@
 -- A state that a run came to, told by its cut: where no process can take an event, it is the plain run's end.
-use Rattle.std.proofs.Common.{◌≡◌, ◌∙◌, sym, refl, subst, ℕ, ◌<◌, List, true, arith}
+use Rattle.std.proofs.Common.{◌≡◌, ◌∙◌, ap, sym, refl, subst, ℕ, ◌<◌, List, true, arith}
 use Rattle.std.proofs.lemmas.Bool.{false_from_ne_true}
 use Rattle.wire_content.specs.Scripts.{Scripts}
 use Rattle.wire_content.specs.Planned.{plan_of}
 use Rattle.wire_runs.specs.Plan.{Plan, process_count}
-use Rattle.wire_runs.specs.State.{State, next_event}
-use Rattle.wire_runs.specs.Step.{is_enabled, run, IsEnd, IsReachable}
+use Rattle.wire_runs.specs.State.{State, start, next_event}
+use Rattle.wire_runs.specs.Step.{is_enabled, run, IsInterleaving, IsEnd, IsReachable}
+use Rattle.wire_runs.specs.Ends.{outcome}
 use Rattle.wire_runs.specs.PlainRun.{plain_run}
 use Rattle.wire_runs.specs.Order.{Edge}
 use Rattle.wire_runs.specs.Fate.{Waits, HasFate}
@@ -13,6 +14,7 @@ use Rattle.wire_runs.specs.Races.{IsSettled}
 use Rattle.wire_runs.proofs.Due.{reachable_sound, room, enabled_is_due}
 use Rattle.wire_runs.proofs.Fates.{fates_tell}
 use Rattle.wire_runs.proofs.PlainRun.{enabled_within, plain_runs}
+use Rattle.wire_core.specs.EndsAfter.{plain_ends}
 use Rattle.wire_board.specs.Cuts.{IsReachedCut}
 use Rattle.wire_board.specs.Positions.{hold, next_in, ShowsNextIn}
 
@@ -38,3 +40,8 @@ end_if_none_shown scripts words c settled rests p =
 
 pub is_plain_end : (plan : Plan) (s : State) → IsSettled plan → IsReachable plan s → IsEnd plan s → s ≡ run plan (plain_run plan)
 is_plain_end plan s settled r end = sym r.2 ∙ (plain_runs plan).is_the_end settled r.0 r.1 (subst (IsEnd plan) (sym r.2) end)
+
+-- what became of every call where a run can't go on is what the plain run gives
+pub ends_plainly : (scripts : Scripts) (history : List ℕ) → IsSettled (plan_of scripts) → IsInterleaving (plan_of scripts) start history → IsEnd (plan_of scripts) (run (plan_of scripts) history) →
+    outcome (plan_of scripts) (run (plan_of scripts) history) ≡ plain_ends scripts
+ends_plainly scripts history settled legal end = ap (outcome (plan_of scripts)) (is_plain_end (plan_of scripts) (run (plan_of scripts) history) settled (history, legal, refl) end)

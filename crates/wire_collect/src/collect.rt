@@ -8,6 +8,7 @@ ghost use Rattle.wire_core.specs.Course.{plan_in, state_of};
 ghost use Rattle.wire_core.specs.EndsAfter.{plain_ends};
 ghost use Rattle.wire_collect.specs.Collect.{MayWork, IsCompleteRun};
 
+use crate::by_core::core_outcome;
 use crate::over_core::run_core;
 use crate::over_lanes::{Settings, board_outcome};
 use std::alloc::Global;
@@ -21,6 +22,10 @@ use wire_types::{Fault, Outcome, Proc};
 
 /// The highest number of workers of a run. The lowest is 1.
 pub const MOST_WORKERS: usize = 64;
+
+/// The most processes for which a board is made. Its seats keep a number of 64 bits for each two processes: 8 MiB here,
+/// and four times as much for twice as many.
+const MOST_SEATED: u32 = 1_024;
 
 /// Whether a run may have so many workers.
 fn may_work(workers: usize) -> bool
@@ -102,7 +107,9 @@ pub fn run_any<R: Threads + Wait + Sync, G: Gate + Sync>(
 ///
 /// The workers and the collector work by rounds as in `run_any`, but they serve the lanes of a board and not a core
 /// under a lock. Where the trails and the words at the end don't tell the outcome, the calling thread calls the gate
-/// with the number `workers` and process 0, and runs the plan alone. The faults are those of `run_any`.
+/// with the number `workers` and process 0, and runs the plan alone. A plan of more than 1,024 processes has no board:
+/// there the calling thread runs it by a core, and calls the gate with the number `workers` for each process that it
+/// serves. The faults are those of `run_any`.
 pub fn run_workers<R: Threads + Wait + Sync, G: Gate + Sync>(
     rt: &R,
     alloc: Global,
@@ -122,6 +129,9 @@ pub fn run_workers<R: Threads + Wait + Sync, G: Gate + Sync>(
         workers,
         gate,
     };
+    if settled.plan().process_count() > MOST_SEATED {
+        return core_outcome(alloc, &settings);
+    }
     match board_outcome(rt, alloc, &settings)? {
         Some(outcome) => Ok(outcome),
         None => {

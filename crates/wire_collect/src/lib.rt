@@ -3,11 +3,13 @@
 //! a board, the trails of the lanes and the words of the board tell that.
 #![tactic(auto)]
 
+mod by_core;
 mod collect;
 mod crew;
 mod outcome;
 mod over_core;
 mod over_lanes;
+mod queue;
 mod rest;
 mod rounds;
 mod rows;

@@ -1,6 +1,6 @@
 //! What fences have brought from a process to a node, looked for once.
 
-ghost use Rattle.std.specs.Prelude.{◌≡◌, ◌+◌, ◌*◌, ◌-◌, ◌<◌, ◌≤◌, ◌^◌, min, length, ℕ, Some, false, slice_get, IfOk};
+ghost use Rattle.std.specs.Prelude.{◌≡◌, ◌+◌, ◌*◌, ◌-◌, ◌<◌, ◌≤◌, ◌^◌, min, max, length, ℕ, Some, false, slice_get, IfOk};
 ghost use Rattle.std.specs.Prelude.{IfErr, IfSome, if◌then◌else◌};
 ghost use Rattle.wire_runs.specs.Plan.{Plan as ThePlan, event_count, process_count};
 ghost use Rattle.wire_runs.specs.Sight.{delivered};
@@ -74,7 +74,12 @@ impl Look {
     }
 }
 
-/// The looks that are kept, at a place for each process and node.
+/// For so many processes and nodes there is always a place for each process and node. Within the limits of versions 1
+/// and 2 there are no more: 512 processes on 512 nodes. So many looks take 5 MiB.
+const ALWAYS_KEPT: usize = 512 * 512;
+
+/// The looks that are kept. Where there are too many processes and nodes, several share a place, which has the look that
+/// was kept last; what it took the place of is looked for again.
 #[derive(Drop)]
 pub(crate) struct Looks {
     looks: Vec<Look>,
@@ -91,14 +96,16 @@ impl Model for Looks {
 }
 
 impl Looks {
-    /// No event was looked at.
-    pub fn new(alloc: Global, processes: u32, nodes: u32) -> Result<Looks, Fault>
+    /// No event was looked at. There is a place for each process and node, or as many as a plan has events, which aren't
+    /// fewer than the processes and nodes that its gets ask.
+    pub fn new(alloc: Global, processes: u32, nodes: u32, events: usize) -> Result<Looks, Fault>
         ensures ok { IfOk result (λ looks. (plan : ThePlan) → AreLooks plan looks) }
-        ensures room { IfOk result (λ looks. length looks ≡ min (nodes * processes) (2 ^ 64 - 1)) }
+        ensures room { IfOk result (λ looks. length looks ≡ min (min (nodes * processes) (2 ^ 64 - 1)) (max events 262144)) }
         ensures err { IfErr result (λ e. e ≡ Fault.Memory) }
     {
         let nodes = nodes as usize;
-        let places = nodes.saturating_mul(processes as usize);
+        let pairs = nodes.saturating_mul(processes as usize);
+        let places = pairs.min(events.max(ALWAYS_KEPT));
         let none = Look::none(Proc::new(0), 0);
         Ok(Looks {
             looks: vec![in alloc; none; places]?,
@@ -106,11 +113,16 @@ impl Looks {
         })
     }
 
-    /// The place for a process and a node.
+    /// The place for a process and a node, where there is any.
     fn place(&self, owner: Proc, node: u32) -> usize {
-        self.nodes
+        let number = self
+            .nodes
             .saturating_mul(owner.index())
-            .saturating_add(node as usize)
+            .saturating_add(node as usize);
+        match self.looks.len() {
+            0 => 0,
+            places => number % places,
+        }
     }
 
     /// The look that is kept for a process and a node.

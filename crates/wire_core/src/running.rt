@@ -103,9 +103,11 @@ impl<'a> Core<'a> {
         let arrivals = Arrivals::new(alloc, fences)?;
         let names = Names::new(alloc, plan.scripts().names().len())?;
         let waits = Waits::new(alloc, plan.process_count())?;
-        let looks = Looks::new(alloc, plan.process_count(), plan.scripts().nodes().len())?;
+        let events = plan.event_total();
+        let nodes = plan.scripts().nodes().len();
+        let looks = Looks::new(alloc, plan.process_count(), nodes, events)?;
         let keeping = Keeping::new(alloc, plan)?;
-        let history = Vec::with_capacity(alloc, plan.event_total())?;
+        let history = Vec::with_capacity(alloc, events)?;
         Ok(Core {
             plan,
             fences,
@@ -129,8 +131,8 @@ impl<'a> Core<'a> {
         }
     }
 
-    /// The next event of a process.
-    pub(crate) fn next_event(&self, proc: Proc) -> Event
+    /// The next event of a process: the event with the number of those that are done. The process may have no such event.
+    pub fn next_event(&self, proc: Proc) -> Event
         ensures { event_of result ≡ next_event (state_of self.now) proc.number }
     {
         let at = self.done(proc);

@@ -169,6 +169,8 @@ class Unpublish:
 class Send:
     """A message that is sent. `size` is in bytes, and ranks are those of the communicator."""
 
+    __slots__ = ("communicator", "target", "tag", "size")
+
     verb: ClassVar[str] = "send"
     communicator: int
     target: int
@@ -180,6 +182,8 @@ class Send:
 class Receive:
     """A receive of a message, from any source or with any tag where that is None."""
 
+    __slots__ = ("communicator", "source", "tag")
+
     verb: ClassVar[str] = "receive"
     communicator: int
     source: Optional[int]
@@ -190,6 +194,8 @@ class Receive:
 class Probe:
     """A probe for a message, from any source or with any tag where that is None."""
 
+    __slots__ = ("communicator", "source", "tag")
+
     verb: ClassVar[str] = "probe"
     communicator: int
     source: Optional[int]
@@ -199,6 +205,8 @@ class Probe:
 @dataclass(frozen=True)
 class Collective:
     """A collective of MPI, such as `barrier`."""
+
+    __slots__ = ("name", "communicator")
 
     verb: ClassVar[str] = "collective"
     name: str
@@ -227,6 +235,8 @@ LEFT_TO_LUCK = (FoundBy.POLL, FoundBy.SOME)
 class End:
     """How a call ended: the status that it answered. 0 is success."""
 
+    __slots__ = ("status",)
+
     status: int
 
 
@@ -248,6 +258,8 @@ class LookupEnd(End):
 class MessageEnd(End):
     """The end of a receive or a probe that got a message. `size` is -1 if it isn't known."""
 
+    __slots__ = ("source", "tag", "size", "found_by")
+
     source: int
     tag: int
     size: int
@@ -265,6 +277,8 @@ class Sources(enum.Enum):
 @dataclass(frozen=True)
 class CollectiveEnd(End):
     """The end of a collective, with those whose data the process waited for."""
+
+    __slots__ = ("sources", "found_by")
 
     sources: Union[Sources, tuple[int, ...]]
     found_by: Optional[FoundBy]

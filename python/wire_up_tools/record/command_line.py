@@ -63,6 +63,13 @@ OPTIONS = (
         "FILE",
         "writes also how the calls ended, in the form of the report that `wire_up replay` writes",
     ),
+    Option(
+        "--pattern",
+        "FILE",
+        "writes also a pattern: one script for all ranks, or one for rank 0 and one for the "
+        "others, if the plan\n"
+        "                   comes from such a one; else a line says which call breaks it",
+    ),
     Option("--no-mpi", "", "leaves out what orders the processes by MPI"),
     Option(
         "--strict",
@@ -113,6 +120,7 @@ def read_request(words: Sequence[str]) -> Request:
         plan=found.o,
         answers=found.answers,
         kept=found.keep,
+        pattern=found.pattern,
         checker=found.checker,
         with_mpi=not found.no_mpi,
         is_strict=found.strict,

@@ -28,7 +28,7 @@ WORD = r"[!-~]+"
 VALUE = r"(?:none|text:[!-~]*|long:\d+|bytes:\d+|number:\d+:-?\d+|other:\d+|type:\d+)"
 FOUND_BY = r"(wait|poll|some)"
 # Most records of a large recording are like others, but for their numbers and times.
-KEPT_RECORDS = 1 << 17
+KEPT_RECORDS = 1 << 13
 
 Groups = Sequence[str]
 

@@ -3,8 +3,9 @@
 A stream is the messages from one process with one tag to one process in one communicator. They
 don't overtake each other. Ranks are those of the communicator.
 """
+import functools
 from collections import Counter
-from collections.abc import Iterator, Mapping, Sequence
+from collections.abc import Iterable, Iterator, Mapping, Sequence
 from dataclasses import dataclass, field
 from typing import NamedTuple, Optional, Union
 
@@ -50,6 +51,11 @@ class Ask(NamedTuple):
         return Stream(self.source, self.tag)
 
 
+# Most messages of a large recording are of few streams: these share what names them.
+KEPT = 1 << 12
+share_stream, share_ask = functools.lru_cache(KEPT)(Stream), functools.lru_cache(KEPT)(Ask)
+
+
 @dataclass(eq=False)
 class Got:
     """A receive or a probe that got a message of a stream. `size` is negative if it isn't known."""
@@ -75,10 +81,32 @@ class Missed:
     call: Call
 
 
+class OneStream(Mapping[Stream, Sequence[Call]]):
+    """A stream alone with its messages: large recordings have as many as messages."""
+
+    __slots__ = ("stream", "sends")
+
+    def __init__(self, stream: Stream, sends: Sequence[Call]) -> None:
+        self.stream, self.sends = stream, sends
+
+    def __getitem__(self, stream: Stream) -> Sequence[Call]:
+        if stream != self.stream:
+            raise KeyError(stream)
+        return self.sends
+
+    def __iter__(self) -> Iterator[Stream]:
+        yield self.stream
+
+    def __len__(self) -> int:
+        return 1
+
+
 @dataclass(frozen=True, eq=False)
 class Group:
     """Streams, and the receives and probes that got their messages or could have, in the order
     in which they were posted. `lacks` says that there are others which got none."""
+
+    __slots__ = ("streams", "asked", "lacks")
 
     streams: Mapping[Stream, Sequence[Call]]
     asked: Sequence[Got]
@@ -143,23 +171,61 @@ def differs_in_size(sends: Sequence[Call], receives: Sequence[Got]) -> bool:
     )
 
 
-@dataclass
-class Joined:
-    """Which streams are in one group: for each stream another of its group, or itself."""
+# What stands for a group: a stream of it, or what was asked for, where no message fits that.
+Key = Union[Stream, Ask]
 
-    above: dict[Stream, Stream]
+
+@dataclass(frozen=True)
+class Parts:
+    """Which streams are in one group. `first` is one that fits what is asked for, and `above` says
+    of a stream another of its group, unless it stands for the group."""
+
+    first: dict[Ask, Stream] = field(default_factory=dict)
+    above: dict[Stream, Stream] = field(default_factory=dict)
 
     def find_first(self, stream: Stream) -> Stream:
         """The stream that stands for the group of one."""
         above = self.above
-        while above[stream] != stream:
-            above[stream] = stream = above[above[stream]]
+        while stream in above:
+            one = above[stream]
+            if one in above:
+                above[stream] = above[one]
+            stream = one
         return stream
 
-    def join(self, streams: Sequence[Stream]) -> None:
-        """Makes the groups of streams one."""
-        for one, other in zip(streams, streams[1:]):
-            self.above[self.find_first(other)] = self.find_first(one)
+    def join(self, one: Stream, other: Stream) -> None:
+        """Makes the groups of two streams one."""
+        if one is not other:
+            first, second = self.find_first(one), self.find_first(other)
+            if first != second:
+                self.above[second] = first
+
+    def find_key(self, ask: Ask) -> Key:
+        """What stands for the group of the streams that fit what is asked for."""
+        stream = self.first.get(ask)
+        return ask if stream is None else self.find_first(stream)
+
+    def find_joint(
+        self, streams: Mapping[Stream, Sequence[Call]]
+    ) -> Mapping[Key, Mapping[Stream, Sequence[Call]]]:
+        """The groups of several streams, by the streams that stand for them."""
+        firsts = {self.find_first(it) for it in self.above}
+        found: dict[Key, dict[Stream, Sequence[Call]]] = {it: {} for it in firsts}
+        for stream, sends in streams.items() if found else ():
+            first = self.find_first(stream)
+            if first in found:
+                found[first][stream] = sends
+        return found
+
+
+def part_streams(streams: Iterable[Stream], asks: set[Ask]) -> Parts:
+    """Parts streams into groups, by all that is asked for."""
+    parts = Parts()
+    for stream in streams:
+        for ask in stream.asks:
+            if ask in asks:
+                parts.join(parts.first.setdefault(ask, stream), stream)
+    return parts
 
 
 @dataclass
@@ -174,13 +240,13 @@ class Inbox:
 
     def take_send(self, source: int, send: Send, call: Call) -> None:
         """Takes a message that is sent to it."""
-        self.streams.setdefault(Stream(source, send.tag), []).append(call)
+        self.streams.setdefault(share_stream(source, send.tag), []).append(call)
 
     def take_ask(self, asked: Union[Receive, Probe], call: Call) -> None:
         """Takes a receive or a probe. A receive of just what a probe found is as free as the
         probe was."""
-        ask, end = Ask(asked.source, asked.tag), call.end
-        got = Stream(end.source, end.tag) if isinstance(end, MessageEnd) else None
+        ask, end = share_ask(asked.source, asked.tag), call.end
+        got = share_stream(end.source, end.tag) if isinstance(end, MessageEnd) else None
         if isinstance(asked, Receive):
             for found in [it for it in self.probed if ask.fits(it)] if self.probed else ():
                 ask = ask.widen(self.probed.pop(found))
@@ -191,33 +257,26 @@ class Inbox:
         else:
             self.asked.append(Missed(ask, call))
 
-    def find_fitting(self) -> Mapping[Ask, Sequence[Stream]]:
-        """For all that is asked for, the streams of which a message could be got."""
-        fitting: dict[Ask, list[Stream]] = {}
-        for stream in self.streams:
-            for ask in stream.asks:
-                fitting.setdefault(ask, []).append(stream)
-        return {it.ask: fitting.get(it.ask, []) for it in self.asked}
-
     def groups(self) -> list[Group]:
         """Parts the streams into groups: those for which one receive could get a message of
         either are in one. The groups stand in the order of the first that got a message."""
-        fitting, joined = self.find_fitting(), Joined({it: it for it in self.streams})
-        for streams in fitting.values():
-            joined.join(streams)
-        key_of: dict[Ask, Union[Stream, Ask]] = {
-            ask: joined.find_first(streams[0]) if streams else ask
-            for ask, streams in fitting.items()
-        }
-        asked: dict[Union[Stream, Ask], list[Got]] = {}
+        parts = part_streams(self.streams, {it.ask for it in self.asked})
+        asked: dict[Key, list[Got]] = {}
         for it in self.asked:
             if isinstance(it, Got):
-                asked.setdefault(key_of[it.ask], []).append(it)
-        lacking = {key_of[it.ask] for it in self.asked if isinstance(it, Missed)}
-        sent: dict[Union[Stream, Ask], dict[Stream, list[Call]]] = {}
-        for stream, sends in self.streams.items():
-            sent.setdefault(joined.find_first(stream), {})[stream] = sends
-        return [Group(sent.get(key, {}), them, key in lacking) for key, them in asked.items()]
+                asked.setdefault(parts.find_key(it.ask), []).append(it)
+        lacking = {parts.find_key(it.ask) for it in self.asked if isinstance(it, Missed)}
+        joint = parts.find_joint(self.streams)
+        return [
+            Group(joint.get(key) or self.find_alone(key), them, key in lacking)
+            for key, them in asked.items()
+        ]
+
+    def find_alone(self, key: Key) -> Mapping[Stream, Sequence[Call]]:
+        """The stream that stands for a group of no other; none where no message fits."""
+        if isinstance(key, Stream):
+            return OneStream(key, self.streams[key])
+        return {}
 
 
 @dataclass

@@ -46,6 +46,7 @@ def note_recording(recording: Recording, notes: Notes) -> None:
         notes.cut_off[
             "processes whose recordings end before PMIx_Finalize: how they went on isn't known"
         ] += 1
+    notes.more_ordered.update(recording.unseen_pmix)
     for name, count in recording.others.items():
         notes.left_out[f"calls of {name}"] += count
     if len({call.thread for call in recording.calls}) > 1:

@@ -34,6 +34,8 @@ class OpenGroup:
     """A group of messages to a process that could have come otherwise, and the processes that
     its ranks are."""
 
+    __slots__ = ("group", "target", "peers")
+
     group: Group
     target: Process
     peers: Side

@@ -25,6 +25,12 @@ from wire_up_tools.record.forms import (
 from wire_up_tools.words import make_printable
 
 ENDING = ".recording"
+# The file that stands in a folder where processes were started by PMI alone.
+STARTED_BY_PMI = "pmi"
+NOT_LOADED = "no process called PMIx_Init with the recorder in it"
+WITHOUT_PMIX = (
+    "the processes were started by PMI, as MPICH's mpiexec does: there is no PMIx to record"
+)
 LAST_DATE = 253402300799
 
 NUMBER = r"\d{1,18}"
@@ -80,8 +86,8 @@ class RecordedCommunicator:
 class Recording:
     """What one process did, from the file at `path`; `began` is in seconds since 1970.
 
-    `others` counts the calls that are only counted, by their names, and `unseen` what called MPI
-    past the recorder, by what is said of it. A process that
+    `others` counts the calls that are only counted, by their names; `unseen` what called MPI past
+    the recorder, and `unseen_pmix` what called PMIx so, by what is said of it. A process that
     `has_finalized` has called nothing after PMIx_Finalize; the last line of a recording that
     `is_cut` was dropped.
     """
@@ -95,6 +101,7 @@ class Recording:
     calls: Sequence[Call]
     others: Mapping[str, int]
     unseen: Mapping[str, int]
+    unseen_pmix: Mapping[str, int]
     world: Optional[World]
     communicators: Mapping[int, RecordedCommunicator]
     places: Mapping[str, Place]
@@ -112,7 +119,7 @@ class Recording:
 PLAIN = {
     "finalize": re.compile(r"finalize"),
     "other": re.compile(r"other (.+)"),
-    "unseen": re.compile(rf"unseen (call|object) ({WORD})"),
+    "unseen": re.compile(rf"unseen (call|object|pmix) ({WORD})"),
     "world": re.compile(r"world (\d{1,9}) (\d{1,9})"),
     "comm": re.compile(r"comm (\d{1,9}) (\d{1,9}) ([wcgvs]-?\d{1,18}) ([\d,-]+)"),
     "inter": re.compile(r"inter (\d{1,9}) (\d{1,9}) (c-?\d{1,18}) ([\d,-]+) ([\d,-]+)"),
@@ -133,10 +140,12 @@ def read_line(groups: Groups) -> Place:
     return f"{function} ({os.path.basename(file)}:{groups[2]})"
 
 
-# What is said of the process when something called MPI past the recorder, by its kind.
+# What is said of the process when something called MPI or PMIx past the recorder, by its kind.
+OF_PMIX = "pmix"
 UNSEEN = {
     "call": "calls of {} that a library took elsewhere: what it called of MPI isn't seen",
     "object": "processes in which {} calls MPI past the recorder: its calls aren't seen",
+    OF_PMIX: "processes in which {} calls PMIx past the recorder: its calls aren't seen",
 }
 
 
@@ -165,6 +174,7 @@ class Records:
     words: dict[str, str] = field(default_factory=dict)
     others: Counter[str] = field(default_factory=Counter)
     unseen: Counter[str] = field(default_factory=Counter)
+    unseen_pmix: Counter[str] = field(default_factory=Counter)
     world: Optional[World] = None
     communicators: dict[int, RecordedCommunicator] = field(default_factory=dict)
     places: dict[str, Place] = field(default_factory=dict)
@@ -213,7 +223,8 @@ class Records:
         if verb == "other":
             self.others[groups[0]] += 1
         elif verb == "unseen":
-            self.unseen[read_unseen(groups)] += 1
+            counts = self.unseen_pmix if groups[0] == OF_PMIX else self.unseen
+            counts[read_unseen(groups)] += 1
         elif verb == "world":
             self.world = World(int(groups[0]), int(groups[1]), number)
         elif verb in ("comm", "inter"):
@@ -283,12 +294,18 @@ def read_recording(path: str, data: bytes) -> Recording:
         calls=records.calls,
         others=records.others,
         unseen=records.unseen,
+        unseen_pmix=records.unseen_pmix,
         world=records.world,
         communicators=records.communicators,
         places=records.places,
         has_finalized=records.has_finalized,
         is_cut=end < len(data),
     )
+
+
+def has_recordings(folder: str) -> bool:
+    """Whether there is a recording in a folder. Raises OSError."""
+    return any(it.endswith(ENDING) for it in os.listdir(folder))
 
 
 def find_files(paths: Sequence[str]) -> list[str]:
@@ -318,7 +335,6 @@ def read_recordings(paths: Sequence[str], most: Limits) -> list[Recording]:
         with open(path, "rb") as it:
             found.append(read_recording(path, it.read()))
     if not found:
-        raise Refused(
-            "there is no recording: no process called PMIx_Init with the recorder in it"
-        )
+        is_pmi = any(os.path.exists(os.path.join(it, STARTED_BY_PMI)) for it in paths)
+        raise Refused(f"there is no recording: {WITHOUT_PMIX if is_pmi else NOT_LOADED}")
     return found

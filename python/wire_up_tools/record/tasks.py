@@ -15,9 +15,12 @@ from wire_up_tools.limits import LARGE, VERSION_1
 from wire_up_tools.record.merging import merge_plans
 from wire_up_tools.record.notes import Notes
 from wire_up_tools.record.partings import Run
+from wire_up_tools.record.patterns.finding import Broken
+from wire_up_tools.record.patterns.scripts import ANY_VALUE, Script
+from wire_up_tools.record.patterns.writing import make_pattern, say_broken
 from wire_up_tools.record.places import find_call_place, find_places, read_places, write_places
 from wire_up_tools.record.planning import Choices, Plan, make_plan, make_whole_plan
-from wire_up_tools.record.recordings import Recording, read_recordings
+from wire_up_tools.record.recordings import Recording, has_recordings, read_recordings
 from wire_up_tools.record.running import BY_SIGNAL, find_libraries, make_environment, run
 from wire_up_tools.record.verdicts import (
     compare_verdicts,
@@ -45,6 +48,7 @@ class Output:
     plan: str
     answers: Optional[str] = None
     kept: Optional[str] = None
+    pattern: Optional[str] = None
     checker: Optional[str] = None
     with_mpi: bool = True
     is_strict: bool = False
@@ -98,6 +102,21 @@ def say_part(notes: Notes) -> None:
             say(f"{before}{in_part}: {count_notes(noted)}")
 
 
+def write_pattern(plan: Plan, path: str) -> None:
+    """Writes the pattern of a plan, or says which call breaks it. Raises OSError."""
+    scripts = [
+        Script(process.name, process.name.rpartition(":")[0], [it.words.split(" ") for it in lines])
+        for process, lines in plan.draft.lines.items()
+    ]
+    found = make_pattern(scripts)
+    if isinstance(found, Broken):
+        say(f"there is no pattern: {say_broken(found, scripts)}")
+        return
+    write_whole(path, found.text)
+    if found.has_other_values:
+        say(f"{path}: values that differ between ranks are left out: `{ANY_VALUE}` stands for them")
+
+
 def write_output(plan: Plan, recordings: Sequence[Recording], output: Output) -> str:
     """Writes a plan, and what is asked for besides. Answers the text of the plan. Raises Refused,
     OSError."""
@@ -109,6 +128,8 @@ def write_output(plan: Plan, recordings: Sequence[Recording], output: Output) ->
     write_whole(output.plan, text)
     if output.answers:
         write_whole(output.answers, answers)
+    if output.pattern:
+        write_pattern(plan, output.pattern)
     say_part(plan.notes)
     return text
 
@@ -159,6 +180,8 @@ def merge(output: Output, runs: Sequence[Sequence[str]], folder: str) -> None:
     write_whole(output.plan, text)
     if output.answers:
         write_whole(output.answers, write_answers(plan))
+    if output.pattern:
+        write_pattern(plan, output.pattern)
     for parting in plan.partings:
         say(f"the runs part: {parting}")
     say_part(plan.notes)
@@ -216,9 +239,9 @@ def record(asked: CommandRequest, folder: str) -> int:
         is_made = True
         return status if status >= 0 else BY_SIGNAL - status
     finally:
-        if not output.kept and (is_made or not os.listdir(recordings)):
+        if not output.kept and (is_made or not has_recordings(recordings)):
             shutil.rmtree(recordings, ignore_errors=True)
-        elif not is_made and os.path.isdir(recordings) and os.listdir(recordings):
+        elif not is_made and os.path.isdir(recordings) and has_recordings(recordings):
             say(f"the recordings are in {recordings}")
 
 

@@ -15,7 +15,7 @@ invariant_of-result c =
     let none = c.in_ok-history.ensures.items in
     let count : c.len.result ≡ length scripts.names = c.len.ensures ∙ ap length (c.names.ensures ∙ ap (λ s. s.names) c.scripts.ensures.scripts) in record {
       course = search rules;
-      room = subst (λ n. n ≤ vec_capacity c.in_ok-history.history) c.event_total.ensures.total c.in_ok-history.ensures.capacity;
+      room = subst (λ n. n ≤ vec_capacity c.in_ok-history.history) c.event_total-events.ensures.total c.in_ok-history.ensures.capacity;
       shared = rw none
           record {
             sound = c.fences-fences.ensures.sound;

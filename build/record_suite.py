@@ -1,0 +1,173 @@
+"""Records MPICH's test suite with Open MPI, program by program, and says what came of it.
+
+Usage: make record-suite [PARTS="pt2pt f77/coll"] [ROOM=FOLDER] [SECONDS=N] [JOBS=N]
+       PYTHONPATH=tests python3 -m build.record_suite [PROGRAM] [--parts PART..] [--room FOLDER]
+                                                      [--seconds N] [--jobs N]
+It fetches the suite as Debian's source package (with lists of apt of its own), builds it for the
+MPI that is here, and runs each program without the recorder and with it, JOBS parts side by side. A
+program that takes more than N seconds by itself is left out. ROOM (/tmp/wire-up-suite) keeps the
+suite, and what came of each program in `outcomes`: who runs the command again, or was interrupted,
+goes on behind that. The last lines are a table; above it stands what went another way. PROGRAM is
+the checker, or else ./wire_up.
+"""
+import argparse
+import json
+import os
+import subprocess
+import sys
+from collections.abc import Iterable, Sequence
+from concurrent.futures import ThreadPoolExecutor
+from dataclasses import asdict
+
+from build.places import TOP, WIRE_UP
+from build.suite.source import (
+    NoSuite,
+    SuiteProgram,
+    build,
+    build_common,
+    configure,
+    fetch,
+    find_programs,
+)
+from build.suite.trying import Bench, Outcome
+
+COLUMNS = (
+    "part", "programs", "left out", "plans", "in part", "racy", "differ", "as answered", "not so"
+)
+
+
+def count_row(name: str, outcomes: Sequence[Outcome]) -> Sequence[str]:
+    """The row of a table about some programs."""
+    plans = [it for it in outcomes if not it.lacks and not it.no_plan]
+    counts = (
+        len(outcomes),
+        sum(bool(it.lacks) for it in outcomes),
+        len(plans),
+        sum(it.is_in_part for it in plans),
+        sum(bool(it.findings) for it in plans),
+        sum(bool(it.differs) for it in outcomes),
+        sum(it.is_replayed and not it.replay for it in plans),
+        sum(bool(it.replay) for it in plans),
+    )
+    return [name, *map(str, counts)]
+
+
+def make_table(outcomes: Sequence[Outcome]) -> Iterable[str]:
+    """A table of all programs by their parts."""
+    parts = dict.fromkeys(it.program.part for it in outcomes)
+    rows: list[Sequence[str]] = [COLUMNS]
+    rows += [count_row(it, [one for one in outcomes if one.program.part == it]) for it in parts]
+    rows.append(count_row("all", outcomes))
+    widths = [max(map(len, column)) for column in zip(*rows)]
+    for name, *counts in rows:
+        cells = (it.rjust(width) for it, width in zip(counts, widths[1:]))
+        yield f"{name:<{widths[0]}}  {'  '.join(cells)}"
+
+
+def tell(it: Outcome) -> Iterable[str]:
+    """What went another way with a program."""
+    found = (
+        ("left out", it.lacks),
+        ("no plan", it.no_plan),
+        ("differs", it.differs),
+        ("findings", str(it.findings or "")),
+        ("replay", it.replay),
+    )
+    return [f"{it.program.title}: {what}: {why}" for what, why in found if why]
+
+
+class Tried:
+    """What came of programs, kept in a file as it comes."""
+
+    def __init__(self, room: str) -> None:
+        self.path, self.log = os.path.join(room, "outcomes"), os.path.join(room, "build.log")
+        self.found: dict[str, Outcome] = {}
+        self.is_over = False
+        if os.path.exists(self.path):
+            with open(self.path, encoding="utf-8") as lines:
+                for it in map(json.loads, lines):
+                    program = SuiteProgram(**it.pop("program"))
+                    self.found[program.title] = Outcome(program, **it)
+
+    def keep(self, outcome: Outcome) -> None:
+        """Keeps what came of a program, and says it."""
+        title = outcome.program.title
+        self.found[title] = outcome
+        with open(self.path, "a", encoding="utf-8") as to:
+            to.write(json.dumps(asdict(outcome)) + "\n")
+        seconds = f"{outcome.seconds:.1f} s recorded"
+        print(f"{'; '.join(tell(outcome)) or f'{title}: as without'} ({seconds})", flush=True)
+
+    def try_part(self, bench: Bench, programs: Sequence[SuiteProgram]) -> None:
+        """Builds and tries the programs of one part, one after another: they share its folder."""
+        for it in programs:
+            if self.is_over or it.title in self.found:
+                continue
+            is_built = build(bench.built, it, self.log)
+            self.keep(bench.try_program(it) if is_built else Outcome(it, "isn't built"))
+
+
+def try_all(bench: Bench, programs: Sequence[SuiteProgram], tried: Tried, jobs: int) -> None:
+    """Tries all programs, so many parts side by side, the largest first. An interrupt ends it."""
+    parts: dict[str, list[SuiteProgram]] = {}
+    for it in programs:
+        parts.setdefault(it.part, []).append(it)
+    with ThreadPoolExecutor(jobs) as pool:
+        ran = [
+            pool.submit(tried.try_part, bench, parts[it])
+            for it in sorted(parts, key=lambda it: -len(parts[it]))
+        ]
+        try:
+            for of in ran:
+                of.result()
+        except KeyboardInterrupt:
+            tried.is_over = True
+            print("interrupted: what is tried is told", flush=True)
+
+
+def prepare(words: argparse.Namespace) -> tuple[str, list[SuiteProgram]]:
+    """The folder of the built suite, and the programs that are asked for. Raises NoSuite."""
+    os.makedirs(words.room, exist_ok=True)
+    print("fetching and configuring the suite ..", flush=True)
+    source = fetch(words.room)
+    built = configure(words.room, source)
+    programs = find_programs(built, source, words.parts)
+    build_common(built, words.room)
+    return built, programs
+
+
+def read_words() -> argparse.Namespace:
+    """What the command line asks for."""
+    parser = argparse.ArgumentParser(add_help=False, usage=__doc__)
+    parser.add_argument("program", nargs="?", default=WIRE_UP)
+    parser.add_argument("--parts", nargs="*", default=[])
+    parser.add_argument("--room", default=os.path.join("/tmp", "wire-up-suite"))
+    parser.add_argument("--seconds", type=float, default=60.0)
+    parser.add_argument("--jobs", type=int, default=1)
+    return parser.parse_args()
+
+
+def main() -> int:
+    """Runs the command, and answers its status: 1 where a program ended in another way."""
+    words = read_words()
+    if not os.access(words.program, os.X_OK):
+        print(f"{words.program}: there is no built wire_up", file=sys.stderr)
+        return 2
+    subprocess.run(["make", "-s", "record", "record-mpi"], cwd=TOP, check=True)
+    try:
+        built, programs = prepare(words)
+    except NoSuite as why:
+        print(f"there is no suite: {why}", file=sys.stderr)
+        return 2
+    bench = Bench(built, os.path.abspath(words.program), words.seconds)
+    tried = Tried(words.room)
+    try_all(bench, programs, tried, words.jobs)
+    outcomes = [tried.found[it.title] for it in programs if it.title in tried.found]
+    print(f"\n{len(outcomes)} programs of {len(programs)}; what went another way:")
+    print(*(line for it in outcomes for line in tell(it)), "", sep="\n")
+    print(*make_table(outcomes), sep="\n")
+    return 1 if any(it.differs or it.replay for it in outcomes) else 0
+
+
+if __name__ == "__main__":
+    sys.exit(main())

@@ -1,0 +1,1 @@
+"""MPICH's test suite, recorded program by program: what `make record-suite` calls."""

@@ -1,0 +1,15 @@
+pub mod Roles
+pub mod Made
+pub mod Digits
+pub mod Facts
+pub mod Lawful
+pub mod Folded
+pub mod Rows
+pub mod Declared
+pub mod Words
+pub mod Sets
+pub mod Calls
+pub mod Matched
+pub mod Apart
+pub mod Read
+pub mod Located

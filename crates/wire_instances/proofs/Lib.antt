@@ -1,0 +1,10 @@
+pub mod Ranges
+pub mod Groups
+pub mod Texts
+pub mod Members
+pub mod Loops
+pub mod Nodal
+pub mod Takes
+pub mod Found
+pub mod Ranked
+pub mod Casts

@@ -1,0 +1,7 @@
+use Rattle.std.proofs.Common.{◌≡◌, map}
+use Rattle.std.specs.List.{range_with_len}
+use Rattle.wire_instances.specs.Nodes.{paired_node}
+use Rattle.wire_instances.proofs.nodes.paired.Given as goal
+
+abbrev pub invariant-loop-process : goal.invariant-loop-process
+invariant-loop-process l = l.of.items ≡ map (λ p. paired_node l.a l.b p) (range_with_len 0 l.process)

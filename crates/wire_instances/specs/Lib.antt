@@ -1,0 +1,6 @@
+pub mod Shown
+pub mod Nodes
+pub mod Tables
+pub mod Written
+pub mod Faults
+pub mod Asked

@@ -1,0 +1,168 @@
+//! The words of an instance's lines.
+
+ghost use Rattle.std.specs.Prelude.{◌≡◌, ◌<◌, ◌++◌, ◌∷◌, [], ℕ, IfOk, OnOk, map, flat_map, length};
+ghost use Rattle.std.specs.Prelude.{decimal, codes};
+ghost use Rattle.wire_runs.specs.Patterns as plan;
+ghost use Rattle.wire_types.specs.Said as said;
+ghost use Rattle.wire_types.specs.Said.{spelled_set};
+ghost use Rattle.wire_pattern.specs.Instances as spec;
+ghost use Rattle.wire_pattern.specs.Instances.{process_count, cast_of, process_text, process_item, word_text};
+ghost use Rattle.wire_pattern.specs.Instances.{items_said, node_name};
+ghost use Rattle.wire_pattern.specs.Shown.{who_by, indexed_by, item_by};
+ghost use Rattle.wire_content.specs.Canonical.{items_text};
+ghost use Rattle.wire_instances.specs.Written.{ended_text};
+
+use crate::frame::{Calling, Frame};
+use itoa::Buffer;
+use std::alloc::AllocError;
+use wire_pattern::{Indexed, Item, Who};
+use wire_types::write_proc;
+
+/// The name of a job; nothing where there is no such job.
+fn job_name<'a>(frame: &Frame<'a>, job: u32) -> &'a [u8]
+    ensures { result.now ≡ spec.job_name frame.now.pattern job }
+{
+    let jobs = frame.pattern().jobs();
+    if (job as usize) < jobs.len() {
+        jobs[job as usize].name.as_slice()
+    } else {
+        b"".as_slice()
+    }
+}
+
+/// Writes a process: the name of its job, a colon and its rank.
+fn write_process_word(out: &mut Vec<u8>, frame: &Frame, process: u32) -> Result<(), AllocError>
+    requires { process < process_count frame.now.cast }
+    ensures { OnOk result (out.new.items ≡ out.old.items ++ process_text frame.now.pattern frame.now.cast process) }
+{
+    write_proc(
+        out,
+        job_name(frame, frame.job(process)),
+        frame.rank(process),
+    )
+}
+
+/// Writes the process that a line names.
+pub(crate) fn write_who(
+    out: &mut Vec<u8>,
+    frame: &Frame,
+    calling: Calling,
+    who: Who,
+) -> Result<(), AllocError>
+    requires caller { calling.caller < process_count frame.now.cast }
+    requires each { calling.each < process_count frame.now.cast }
+    ensures { OnOk result (out.new.items ≡ out.old.items ++ process_text frame.now.pattern frame.now.cast
+        (plan.who (cast_of frame.now.cast) calling.caller calling.each (who_by who))) }
+{
+    write_process_word(out, frame, frame.who(calling, who))
+}
+
+/// Writes what follows the first index of a word: the others, each behind a comma, and a bracket.
+fn write_others(
+    out: &mut Vec<u8>,
+    frame: &Frame,
+    calling: Calling,
+    others: &[Who],
+) -> Result<(), AllocError>
+    requires caller { calling.caller < process_count frame.now.cast }
+    requires each { calling.each < process_count frame.now.cast }
+    ensures { OnOk result (out.new.items ≡ out.old.items ++ ended_text 44 93 (map (λ w. process_text frame.now.pattern
+        frame.now.cast (plan.who (cast_of frame.now.cast) calling.caller calling.each w)) (map who_by others.now))) }
+{
+    for who in others {
+        out.push(b',')?;
+        write_who(out, frame, calling, *who)?;
+    }
+    out.push(b']')?;
+    Ok(())
+}
+
+/// Writes a key or a name.
+pub(crate) fn write_word(
+    out: &mut Vec<u8>,
+    frame: &Frame,
+    calling: Calling,
+    word: &Indexed,
+) -> Result<(), AllocError>
+    requires caller { calling.caller < process_count frame.now.cast }
+    requires each { calling.each < process_count frame.now.cast }
+    ensures { OnOk result (out.new.items ≡ out.old.items ++ word_text frame.now.pattern frame.now.cast
+        calling.caller calling.each (indexed_by word.now)) }
+{
+    out.extend_from_slice(word.base.as_slice())?;
+    match word.indices.split_first() {
+        None => Ok(()),
+        Some((first, others)) => {
+            out.push(b'[')?;
+            write_who(out, frame, calling, *first)?;
+            write_others(out, frame, calling, others)
+        }
+    }
+}
+
+/// Writes all processes of a role, with a comma after each.
+fn write_role(out: &mut Vec<u8>, frame: &Frame, role: u32) -> Result<(), AllocError>
+    ensures { OnOk result (out.new.items ≡ out.old.items ++ items_text (map (process_item frame.now.pattern frame.now.cast)
+        (plan.group role (cast_of frame.now.cast).roles))) }
+{
+    let (first, end) = frame.group(role);
+    for process in first..end {
+        write_process_word(out, frame, process)?;
+        out.push(b',')?;
+    }
+    Ok(())
+}
+
+/// Writes what an item of a set says, with a comma after each process or job.
+fn write_item(
+    out: &mut Vec<u8>,
+    frame: &Frame,
+    calling: Calling,
+    item: Item,
+) -> Result<(), AllocError>
+    requires caller { calling.caller < process_count frame.now.cast }
+    requires each { calling.each < process_count frame.now.cast }
+    ensures { OnOk result (out.new.items ≡ out.old.items ++ items_text (items_said frame.now.pattern frame.now.cast
+        calling.caller calling.each (item_by item))) }
+{
+    match item {
+        Item::One(who) => {
+            write_who(out, frame, calling, who)?;
+            out.push(b',')?;
+            Ok(())
+        }
+        Item::Group(role) => write_role(out, frame, role),
+        Item::Job(job) => {
+            out.extend_from_slice(job_name(frame, job))?;
+            out.extend_from_slice(b":*,".as_slice())
+        }
+    }
+}
+
+/// The word of a fence's set.
+pub(crate) fn set_word(
+    frame: &Frame,
+    calling: Calling,
+    items: &Vec<Item>,
+) -> Result<Vec<u8>, AllocError>
+    requires caller { calling.caller < process_count frame.now.cast }
+    requires each { calling.each < process_count frame.now.cast }
+    ensures { IfOk result (λ word. word.items ≡ spelled_set (said.Listed (flat_map (items_said frame.now.pattern
+        frame.now.cast calling.caller calling.each) (map item_by items.now.items)))) }
+{
+    let mut word = Vec::new(*items.allocator());
+    for item in items {
+        write_item(&mut word, frame, calling, *item)?;
+    }
+    word.pop();
+    Ok(word)
+}
+
+/// Writes the name of a node.
+pub(crate) fn write_node(out: &mut Vec<u8>, node: u32) -> Result<(), AllocError>
+    ensures { OnOk result (out.new.items ≡ out.old.items ++ node_name node) }
+{
+    out.push(b'n')?;
+    let mut digits = Buffer::new();
+    out.extend_from_slice(digits.format(node).as_bytes())
+}

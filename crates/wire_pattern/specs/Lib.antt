@@ -1,0 +1,5 @@
+pub mod Pattern
+pub mod Planned
+pub mod Instances
+pub mod Shown
+pub mod Lawful

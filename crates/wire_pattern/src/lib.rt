@@ -1,0 +1,10 @@
+//! What a pattern says: jobs, roles, and one script for each role. And which plans are its instances.
+#![tactic(auto)]
+
+mod call;
+mod pattern;
+mod step;
+
+pub use call::{Call, Indexed, Item, Who};
+pub use pattern::{Job, Pattern, Role};
+pub use step::{Line, Step, Turns};

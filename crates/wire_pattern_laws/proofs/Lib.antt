@@ -1,0 +1,17 @@
+pub mod SmallOrdered
+pub mod RoleBlocks
+pub mod NumbersBack
+pub mod SameCalls
+pub mod MoreTurns
+pub mod FindsByOrder
+pub mod FindsBack
+pub mod OneFewer
+pub mod KeptLines
+pub mod FindsOnPairs
+pub mod SmallFinds
+pub mod RenumberedEmbeds
+pub mod StatusesPlaced
+pub mod StatusesNumbered
+pub mod ReadsLive
+pub mod FindsInFuller
+pub mod LineRows

@@ -1,0 +1,4 @@
+pub mod Said
+pub mod Shown
+pub mod Kind
+pub mod Once

@@ -1,0 +1,8 @@
+pub mod Lists
+pub mod Mapped
+pub mod Named
+pub mod Judging
+pub mod Once
+pub mod Lawful
+pub mod Fit
+pub mod Sound

@@ -1,0 +1,7 @@
+pub mod FirstPass
+pub mod Drafted
+pub mod Numbers
+pub mod Faults
+pub mod Reads
+pub mod Sound
+pub mod Fit

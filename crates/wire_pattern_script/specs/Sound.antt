@@ -1,0 +1,8 @@
+-- A sound pattern keeps the restrictions that the laws of wire_runs want.
+use Rattle.wire_runs.specs.Patterns.{IsLawful}
+use Rattle.wire_pattern.specs.Pattern.{Pattern}
+use Rattle.wire_pattern.specs.Planned.{pattern_of}
+use Rattle.wire_pattern.specs.Lawful.{IsSound}
+
+abbrev pub SoundIsLawful : Type 0
+SoundIsLawful = (p : Pattern) → IsSound p → IsLawful (pattern_of p)

@@ -1,0 +1,161 @@
+"""Reads a pattern, and expands it: the calls of each rank, for some numbers of ranks."""
+import itertools
+import re
+from collections.abc import Iterator, Mapping, Sequence
+from dataclasses import dataclass, field
+from typing import Optional, Union
+
+from wire_up_tools.record.patterns.scripts import ALL, ASKING, EACH, INDEXED, SELF
+
+HEADER = "pattern 1"
+# The words of a call.
+Line = Sequence[str]
+# Whom a loop of some ranks is over, by the role, the number of its item, and the rank.
+Choices = Mapping[tuple[str, int, str], Sequence[str]]
+
+
+@dataclass(frozen=True)
+class ReadLoop:
+    """A loop: over which group, in which order, and its lines."""
+
+    group: str
+    is_cyclic: bool
+    is_some: bool
+    lines: list[Line] = field(default_factory=list)
+
+
+@dataclass(frozen=True)
+class ReadRole:
+    """A role of a job, with its items."""
+
+    job: str
+    name: str
+    is_group: bool
+    items: list[Union[Line, ReadLoop]] = field(default_factory=list)
+
+
+def read_loop(words: Sequence[str]) -> ReadLoop:
+    """A loop by its first line."""
+    is_some, is_cyclic = words[1] == "some", words[-1] == "cyclic" and len(words) > 2
+    return ReadLoop(words[2] if is_some else words[1], is_cyclic, is_some)
+
+
+def read_pattern(text: str) -> list[ReadRole]:
+    """The roles of a pattern. It must be one: nothing is judged."""
+    roles: list[ReadRole] = []
+    job, loop = "", None
+    for words in (it.split() for it in text.splitlines()):
+        if not words or words[0].startswith("#") or " ".join(words) in (HEADER, "keep"):
+            continue
+        if words[0] == "job":
+            job = words[1]
+        elif words[0] in ("one", "many"):
+            roles.append(ReadRole(job, words[1], words[0] == "many"))
+        elif words[0] == "for":
+            loop = read_loop(words)
+            roles[-1].items.append(loop)
+        elif words[0] == "end":
+            loop = None
+        elif loop is not None:
+            loop.lines.append(words)
+        else:
+            roles[-1].items.append(words)
+    return roles
+
+
+class Instance:
+    """The ranks of a pattern for some numbers of them in its groups."""
+
+    def __init__(self, roles: Sequence[ReadRole], sizes: Mapping[str, int]) -> None:
+        self.roles = roles
+        self.ranks: dict[str, list[str]] = {}
+        self.of_job: dict[str, list[str]] = {}
+        for it in roles:
+            job = self.of_job.setdefault(it.job, [])
+            count = sizes[it.name] if it.is_group else 1
+            self.ranks[it.name] = [f"{it.job}:{len(job) + n}" for n in range(count)]
+            job += self.ranks[it.name]
+
+    def expand_rank(self, word: str, rank: str, each: Optional[str]) -> str:
+        """The rank that a word stands for."""
+        if word == EACH and each is not None:
+            return each
+        return rank if word == SELF else self.ranks[word][0]
+
+    def expand_key(self, key: str, rank: str, each: Optional[str]) -> str:
+        """A key or a name, with ranks in its brackets."""
+        read = INDEXED.fullmatch(key)
+        if not read:
+            return key
+        indices = (self.expand_rank(it, rank, each) for it in read[2].split(","))
+        return f"{read[1]}[{','.join(indices)}]"
+
+    def find_members(self, word: str, rank: str, each: Optional[str]) -> set[str]:
+        """The ranks of a set."""
+        found = set[str]()
+        for it in word.split(","):
+            job = re.fullmatch(r"(.+):\*", it)
+            if it == ALL:
+                found.update(self.of_job[rank.rpartition(":")[0]])
+            elif job:
+                found.update(self.of_job[job[1]])
+            elif it in self.ranks:
+                found.update(self.ranks[it])
+            else:
+                found.add(self.expand_rank(it, rank, each))
+        return found
+
+    def expand_set(self, word: str, rank: str, each: Optional[str]) -> str:
+        """A set as the recorder says it."""
+        members = self.find_members(word, rank, each)
+        if members == set(self.of_job[rank.rpartition(":")[0]]):
+            return ALL
+        items: list[str] = []
+        for job, ranks in self.of_job.items():
+            here = [it for it in ranks if it in members]
+            items += [f"{job}:*"] if here and len(here) == len(ranks) else here
+        return ",".join(items)
+
+    def expand_line(self, line: Line, rank: str, each: Optional[str] = None) -> Line:
+        """The words of a call."""
+        verb, *rest = line
+        if verb == "fence":
+            return [verb, self.expand_set(rest[0], rank, each), *rest[1:]]
+        if verb in ASKING:
+            owner, key = rest
+            return [verb, self.expand_rank(owner, rank, each), self.expand_key(key, rank, each)]
+        at = 1 if verb == "put" else 0
+        words = [self.expand_key(it, rank, each) if n == at else it for n, it in enumerate(rest)]
+        return [verb, *words]
+
+    def find_turns(self, loop: ReadLoop, rank: str, chosen: Optional[Sequence[str]]) -> list[str]:
+        """Whom a loop of a rank is over: all others of the group, unless some are chosen."""
+        ranks = self.ranks[loop.group]
+        if rank in ranks:
+            place = ranks.index(rank)
+            before, after = ranks[:place], ranks[place + 1:]
+            ranks = after + before if loop.is_cyclic else before + after
+        is_chosen = loop.is_some and chosen is not None
+        return [it for it in ranks if not is_chosen or it in (chosen or ())]
+
+    def expand_role(self, role: ReadRole, rank: str, choices: Choices) -> Iterator[Line]:
+        """The calls of a rank."""
+        for number, item in enumerate(role.items):
+            if not isinstance(item, ReadLoop):
+                yield self.expand_line(item, rank)
+                continue
+            turns = self.find_turns(item, rank, choices.get((role.name, number, rank)))
+            for each, line in itertools.product(turns, item.lines):
+                yield self.expand_line(line, rank, each)
+
+
+def expand(
+    roles: Sequence[ReadRole], sizes: Mapping[str, int], choices: Choices
+) -> Mapping[str, Sequence[Line]]:
+    """The calls of each rank of a pattern, for some numbers of ranks in its groups."""
+    instance = Instance(roles, sizes)
+    return {
+        rank: list(instance.expand_role(role, rank, choices))
+        for role in roles
+        for rank in instance.ranks[role.name]
+    }

@@ -1,0 +1,166 @@
+"""Writes the pattern of a plan, if there is one: the first way to part its ranks into roles whose
+scripts expand to the plan."""
+from collections.abc import Mapping, Sequence
+from dataclasses import dataclass, field
+from typing import Union
+
+from wire_up_tools.record.patterns.expanding import Choices, Line, expand, read_pattern
+from wire_up_tools.record.patterns.finding import (
+    Broken,
+    Loop,
+    RoleScript,
+    Told,
+    find_scripts,
+    make_turn,
+    order_turns,
+)
+from wire_up_tools.record.patterns.scripts import ANY_VALUE, VALUES, Script, choose_roles
+
+
+@dataclass(frozen=True)
+class Pattern:
+    """The text of a pattern, and whether values are left out, since those of the ranks differ."""
+
+    text: str
+    has_other_values: bool
+
+
+@dataclass
+class Walk:
+    """What the ranks of a role do in its script: which values each line has, by its number, and
+    whom each loop of some ranks is over, by its number and the rank."""
+
+    values: dict[int, set[str]] = field(default_factory=dict)
+    choices: dict[tuple[int, str], Sequence[str]] = field(default_factory=dict)
+
+
+def find_value(words: Sequence[str]) -> str:
+    """The value of a call; nothing where it has none."""
+    at = VALUES.get(words[0])
+    return words[at] if at is not None else ""
+
+
+def find_turns(loop: Loop, told: Told, at: int) -> Sequence[str]:
+    """Whom a loop of a rank is over that begins at a call."""
+    others = order_turns(loop.group.ranks, told.rank, loop.is_cyclic)
+    if not loop.is_some:
+        return others
+    chosen = []
+    for other in others:
+        turn = make_turn(loop.lines, other)
+        if list(told.calls[at:at + len(turn)]) == turn:
+            at += len(turn)
+            chosen.append(other)
+    return chosen
+
+
+def walk(script: RoleScript, calls: Mapping[str, Sequence[Sequence[str]]]) -> Walk:
+    """What the ranks of a role do in its script."""
+    found = Walk()
+    for told in script.told:
+        at, line, own = 0, 0, calls[told.rank]
+        for number, item in enumerate(script.items):
+            lines = item.lines if isinstance(item, Loop) else [item]
+            turns: Sequence[str] = [""]
+            if isinstance(item, Loop):
+                turns = find_turns(item, told, at)
+                found.choices[number, told.rank] = turns
+            for n in range(len(turns) * len(lines)):
+                value = find_value(own[at + n])
+                found.values.setdefault(line + n % len(lines), set()).add(value)
+            at += len(turns) * len(lines)
+            line += len(lines)
+    return found
+
+
+def write_items(script: RoleScript, values: Mapping[int, set[str]]) -> list[str]:
+    """The lines of a script, with the values that all ranks have."""
+    written, line = list[str](), 0
+    for item in script.items:
+        lines = item.lines if isinstance(item, Loop) else [item]
+        own = values_of(values, line, len(lines))
+        said = [it.replace("\0", value) for it, value in zip(lines, own)]
+        written += [item.head, *said, "end"] if isinstance(item, Loop) else said
+        line += len(lines)
+    return written
+
+
+def values_of(values: Mapping[int, set[str]], first: int, count: int) -> list[str]:
+    """The value of each line: that of all ranks, or what stands for any."""
+    found = (values.get(it, set()) for it in range(first, first + count))
+    return [next(iter(it)) if len(it) == 1 else ANY_VALUE for it in found]
+
+
+def write_roles(scripts: Sequence[RoleScript], walks: Sequence[Walk]) -> str:
+    """The text of a pattern."""
+    sizes = ", ".join(
+        f"{len(it.role.ranks)} {it.role.name}" for it in scripts if it.role.is_group
+    )
+    written = [
+        f"# By wire_up-record, from one run{f' with {sizes}' if sizes else ''}. That other numbers "
+        "do the same is a guess.",
+        "pattern 1",
+    ]
+    job = None
+    for it, walked in zip(scripts, walks):
+        if it.role.job != job:
+            job = it.role.job
+            written.append(f"job {job}")
+        written.append(f"{'many' if it.role.is_group else 'one'} {it.role.name}")
+        written += write_items(it, walked.values)
+    return "".join(f"{it}\n" for it in written)
+
+
+def forget_value(words: Sequence[str]) -> Sequence[str]:
+    """A call without its value."""
+    at = VALUES.get(words[0])
+    return [ANY_VALUE if n == at else it for n, it in enumerate(words)]
+
+
+def why_other(
+    text: str, scripts: Sequence[RoleScript], choices: Choices, plan: Sequence[Script]
+) -> Union[Broken, bool]:
+    """Where a pattern doesn't expand to a plan, or whether it does so with other values alone."""
+    sizes = {it.role.name: len(it.role.ranks) for it in scripts}
+    expanded: Mapping[str, Sequence[Line]] = expand(read_pattern(text), sizes, choices)
+    has_other_values = False
+    for it in plan:
+        own = expanded.get(it.rank, ())
+        for number, (one, other) in enumerate(zip(it.calls, own), 1):
+            if forget_value(one) != forget_value(other):
+                return Broken(it.rank, number, f"the pattern has `{' '.join(other)}`")
+            has_other_values |= list(one) != list(other)
+        if len(own) != len(it.calls):
+            return Broken(it.rank, min(len(own), len(it.calls)) + 1)
+    return has_other_values
+
+
+def say_broken(broken: Broken, plan: Sequence[Script]) -> str:
+    """Which call breaks a pattern."""
+    calls = next(it.calls for it in plan if it.rank == broken.rank)
+    has_it = broken.number <= len(calls)
+    what = f"`{' '.join(calls[broken.number - 1])}`" if has_it else "it has no more calls"
+    return f"{broken.rank} {broken.number}: {what}{f': {broken.why}' if broken.why else ''}"
+
+
+def make_pattern(plan: Sequence[Script]) -> Union[Pattern, Broken]:
+    """The pattern of a plan; or where the way that goes furthest breaks."""
+    calls = {it.rank: it.calls for it in plan}
+    broken: list[Broken] = []
+    for roles in choose_roles(plan):
+        scripts = find_scripts(roles, plan)
+        if isinstance(scripts, Broken):
+            broken.append(scripts)
+            continue
+        walks = [walk(it, calls) for it in scripts]
+        choices = {
+            (script.role.name, *key): turns
+            for script, walked in zip(scripts, walks)
+            for key, turns in walked.choices.items()
+        }
+        text = write_roles(scripts, walks)
+        other = why_other(text, scripts, choices, plan)
+        if isinstance(other, bool):
+            return Pattern(text, other)
+        broken.append(other)
+    return max(broken, key=lambda it: it.number)

@@ -1,0 +1,13 @@
+/* Functions that the recorder has in place of those of MPI and PMIx. */
+#ifndef WIRE_UP_SYMBOLS_H
+#define WIRE_UP_SYMBOLS_H
+
+#include "record.h"
+
+/* Whether the recorder may have a function of a name. */
+bool has_recorded_name(const char *name);
+
+/* Finds the recorder's own function of a name; null where it has none. */
+void *find_own(wire_up_find_symbol *find, const char *name);
+
+#endif

@@ -1,0 +1,355 @@
+"""A reference for patterns, slow and unproved: says what `check --pattern` must write, byte for
+byte. It judges all casts to the cutoff, by the checker of tests/pattern_plan.py.
+
+Usage: python3 tests/pattern_reference.py [--answers] FILE
+"""
+import itertools
+import sys
+from collections import Counter, defaultdict
+from collections.abc import Iterator, Sequence
+from typing import NamedTuple, Optional
+
+import grammar
+import pattern_grammar
+from grammar import Refused
+from pattern_grammar import Line, Loop, Pattern
+from pattern_plan import NOT_FOUND, OUTSIDE, SUCCESS, Call, Finding, Plan, Script, Verdict, answered
+
+CLEAN = b"findings 0 for every number of ranks on every placement"
+# How many turns may be left out or taken in the largest instance that is judged.
+MOST_TURNS = 20
+STATUSES = (SUCCESS, NOT_FOUND, OUTSIDE)
+
+
+class Turn(NamedTuple):
+    """A turn of a loop for a caller: the step's number in the role's script, and for whom it is."""
+
+    step: int
+    each: int
+
+
+class Ranks:
+    """The ranks of a pattern whose roles have these sizes, and the calls that they may make."""
+
+    def __init__(self, pattern: Pattern, sizes: Sequence[int]) -> None:
+        self.pattern, self.count = pattern, sum(sizes)
+        self.role = [n for n, size in enumerate(sizes) for _ in range(size)]
+        self.job = [pattern.roles[it].job for it in self.role]
+        self.group = {
+            it.name: [rank for rank in range(self.count) if self.role[rank] == n]
+            for n, it in enumerate(pattern.roles)
+        }
+        numbers: Counter[int] = Counter()
+        self.spelt = []
+        for job in self.job:
+            self.spelt.append(b"%s:%d" % (pattern.jobs[job], numbers[job]))
+            numbers[job] += 1
+        self.known: dict[tuple[int, int, int], Call] = {}
+
+    def who(self, caller: int, each: int, word: bytes) -> int:
+        """The rank that a word names."""
+        if word in (b"self", b"each"):
+            return caller if word == b"self" else each
+        return self.group[word][0]
+
+    def members(self, caller: int, each: int, item: bytes) -> list[int]:
+        """The ranks of an item of a set."""
+        if item in (b"self", b"each"):
+            return [self.who(caller, each, item)]
+        if item in self.group:
+            return self.group[item]
+        job = self.pattern.jobs[self.job[caller]] if item == b"all" else item[:-2]
+        return [it for it in range(self.count) if self.pattern.jobs[self.job[it]] == job]
+
+    def item_texts(self, caller: int, each: int, item: bytes) -> list[bytes]:
+        """An item of a set as the plan spells it, which is nothing for an empty group."""
+        if item == b"all":
+            return [self.pattern.jobs[self.job[caller]] + b":*"]
+        if item.endswith(b":*"):
+            return [item]
+        return [self.spelt[it] for it in self.members(caller, each, item)]
+
+    def key_text(self, caller: int, each: int, line: Line) -> bytes:
+        """The key or the name of a line."""
+        if line.key is None:
+            return b"*" if line.verb == b"unpublish" else b""
+        indices = [self.spelt[self.who(caller, each, it)] for it in line.key.indices]
+        return line.key.base + (b"[%s]" % b",".join(indices) if indices else b"")
+
+    def call(self, caller: int, each: int, line: Line) -> Call:
+        """The call that a line is for a caller, in the turn for another rank."""
+        place = (line.at, caller, each)
+        if place not in self.known:
+            self.known[place] = self.new_call(caller, each, line)
+        return self.known[place]
+
+    def new_call(self, caller: int, each: int, line: Line) -> Call:
+        key, owner, words = self.key_text(caller, each, line), -1, [*line.words]
+        if line.who is not None:
+            owner = self.who(caller, each, line.who)
+            words[1] = self.spelt[owner]
+        if line.items:
+            words[1] = b",".join(
+                text for it in line.items for text in self.item_texts(caller, each, it)
+            )
+        if line.key is not None:
+            words[line.key_place] = key
+        members = frozenset(n for it in line.items for n in self.members(caller, each, it))
+        scope = words[1] if line.verb == b"put" else b""
+        collects = line.collects
+        text = b" ".join(words)
+        return Call(line.number, line.verb, key, scope, owner, members, collects, text)
+
+    # The turns of loops, and scripts.
+
+    def others(self, caller: int, loop: Loop) -> list[int]:
+        """The ranks for which a loop may take a turn, in the order of its turns."""
+        group = self.group[loop.group]
+        if loop.mode == b"cyclic" and caller in group:
+            return [it for it in group if it > caller] + [it for it in group if it < caller]
+        return [it for it in group if it != caller]
+
+    def optional(self, caller: int) -> list[Turn]:
+        """The turns that a caller may take or leave. Loops of reads alone take all of theirs: more
+        reads keep every finding."""
+        return [
+            Turn(n, each)
+            for n, step in enumerate(self.pattern.roles[self.role[caller]].steps)
+            if isinstance(step, Loop) and step.is_optional
+            for each in self.others(caller, step)
+        ]
+
+    def script(self, caller: int, left: frozenset[Turn]) -> Script:
+        """The script of a rank that leaves these turns out."""
+        calls = []
+        for n, step in enumerate(self.pattern.roles[self.role[caller]].steps):
+            turns = self.others(caller, step) if isinstance(step, Loop) else [caller]
+            for each in turns:
+                lines = step.lines if isinstance(step, Loop) else (step,)
+                if Turn(n, each) not in left:
+                    calls += [self.call(caller, each, it) for it in lines]
+        return Script(caller, calls)
+
+    def variants(self, caller: int) -> list[Script]:
+        """The scripts of a rank by the turns that it takes. These count up as a number does, and
+        the first turn of its script is the lowest bit."""
+        optional = self.optional(caller)
+        lefts = [
+            frozenset(turn for bit, turn in enumerate(optional) if not bits >> bit & 1)
+            for bits in range(1 << len(optional))
+        ]
+        return [self.script(caller, it) for it in lefts]
+
+    def plans(self) -> Iterator[Plan]:
+        """The plans by the turns that are taken. The first rank's count up fastest."""
+        variants = [self.variants(it) for it in range(self.count)]
+        for scripts in itertools.product(*reversed(variants)):
+            yield Plan(self.pattern.keeps, scripts[::-1])
+
+
+def sizes_of(pattern: Pattern) -> list[tuple[int, ...]]:
+    """The sizes of the roles that are judged: by their sum, and then from the first role on."""
+    ranges = [
+        range(1 if it.least is None else it.least, it.most + 1) for it in pattern.roles
+    ]
+    return sorted(itertools.product(*ranges), key=lambda it: (sum(it), it))
+
+
+def instance_count(pattern: Pattern) -> int:
+    """How many instances are judged, placements aside."""
+    count = 0
+    for sizes in sizes_of(pattern):
+        ranks = Ranks(pattern, sizes)
+        count += 1 << sum(len(ranks.optional(it)) for it in range(ranks.count))
+    return count
+
+
+def placements(count: int) -> Iterator[list[int]]:
+    """The node of each rank: first all apart, then each pair on one node. Nodes count up in rank
+    order."""
+    yield list(range(count))
+    for one, other in itertools.combinations(range(count), 2):
+        yield [one if it == other else it - (it > other) for it in range(count)]
+
+
+# What is written.
+
+
+def finding_text(ranks: Ranks, finding: Finding) -> bytes:
+    """A finding as `check` writes it."""
+    spelt = ranks.spelt
+    (one, n), (other, m) = finding.lower, finding.higher
+    kind, *about = finding.about.split(b" ")
+    if not about:
+        return b"rewrite %s %d %d %s" % (spelt[one], n + 1, m + 1, kind)
+    if kind == b"key":
+        about[0] = spelt[int(about[0])]
+    place = b"%s %d %s %d" % (spelt[one], n + 1, spelt[other], m + 1)
+    return b"race %s %s %s" % (place, kind, b" ".join(about))
+
+
+class Written(NamedTuple):
+    """A line of an instance, and the line of the pattern that it comes from: for a node that of the
+    role of the first rank there."""
+
+    text: bytes
+    at: int
+
+
+def written(ranks: Ranks, scripts: Sequence[Script], nodes: Sequence[int]) -> Iterator[Written]:
+    """The lines of one instance of a pattern: each call as its line spells it."""
+    pattern = ranks.pattern
+    at = [pattern.roles[it].at for it in ranks.role]
+    yield Written(b"rehearsal 2", 0)
+    if pattern.keeps:
+        yield Written(b"keep", 0)
+    for node in range(max(nodes, default=-1) + 1):
+        yield Written(b"node n%d" % node, at[[*nodes].index(node)])
+    for job, name in enumerate(pattern.jobs):
+        yield Written(b"job " + name, pattern.job_lines[job])
+        for script in (it for it in scripts if ranks.job[it.rank] == job):
+            lines = [it.at for it in pattern.roles[ranks.role[script.rank]].lines]
+            yield Written(b"rank n%d" % nodes[script.rank], at[script.rank])
+            for call in script.calls:
+                yield Written(call.text, lines[call.line - 1])
+
+
+def instance_text(ranks: Ranks, scripts: Sequence[Script], nodes: Sequence[int]) -> bytes:
+    """The text of one instance."""
+    return text_of([it.text for it in written(ranks, scripts, nodes)])
+
+
+def counterexample(ranks: Ranks, plan: Plan, nodes: Sequence[int], found: list[Finding]) -> bytes:
+    """What is written of an instance with findings."""
+    size = b"1 rank" if ranks.count == 1 else b"%d ranks" % ranks.count
+    lines = [b"# " + finding_text(ranks, it) for it in found]
+    ends = text_of([*lines, b"# findings %d" % len(found)])
+    return b"# counterexample, %s\n" % size + instance_text(ranks, plan.scripts, nodes) + ends
+
+
+def text_of(lines: Sequence[bytes]) -> bytes:
+    return b"".join(it + b"\n" for it in lines)
+
+
+# The largest instance.
+
+
+def judge_limits(pattern: Pattern) -> None:
+    """The fourth pass: raises what the largest instance that is judged is refused for. It has too
+    many turns that may be left out, or with all of them taken, and all ranks apart, it is no plan
+    within the limits."""
+    ranks = Ranks(pattern, [it.most for it in pattern.roles])
+    turns = [(rank, it) for rank in range(ranks.count) for it in ranks.optional(rank)]
+    for rank, turn in turns[MOST_TURNS:]:
+        raise Refused("TooMany", pattern.roles[ranks.role[rank]].steps[turn.step].at)
+    scripts = [ranks.script(it, frozenset()) for it in range(ranks.count)]
+    lines = [*written(ranks, scripts, range(ranks.count))]
+    try:
+        grammar.read(text_of([it.text for it in lines]))
+    except Refused as why:
+        raise Refused(why.name, lines[why.line - 1].at) from why
+
+
+def read_pattern(text: bytes) -> Pattern:
+    """The pattern of a file. Raises what it's refused for."""
+    pattern = pattern_grammar.read(text)
+    judge_limits(pattern)
+    return pattern
+
+
+# What is judged.
+
+
+class Judge:
+    """A pattern, the call lines that wait in an instance, and the statuses of each get-now line. A
+    call line is told by its role's number and its own."""
+
+    def __init__(self, pattern: Pattern) -> None:
+        self.pattern = pattern
+        self.waits: set[tuple[int, int, bytes]] = set()
+        self.statuses: dict[tuple[int, int], set[bytes]] = defaultdict(set)
+
+    def counterexample(self) -> Optional[bytes]:
+        """The first instance with findings, as it is written. If there is none, all that waits and
+        all statuses are noted."""
+        for sizes in sizes_of(self.pattern):
+            ranks = Ranks(self.pattern, sizes)
+            for plan in ranks.plans():
+                verdict = Verdict(plan)
+                shown = self.first_found(ranks, plan, verdict)
+                if shown:
+                    return shown
+                self.note(ranks, plan, verdict)
+        return None
+
+    def first_found(self, ranks: Ranks, plan: Plan, verdict: Verdict) -> Optional[bytes]:
+        """The first placement of a plan with findings, as it is written."""
+        if verdict.is_clean_everywhere():
+            return None
+        for nodes in placements(ranks.count):
+            found = verdict.findings(nodes)
+            if found:
+                return counterexample(ranks, plan, nodes, found)
+        return None
+
+    def note(self, ranks: Ranks, plan: Plan, verdict: Verdict) -> None:
+        """Notes what waits in a plan without findings, and the statuses of its get-nows."""
+        for script, count in zip(plan.scripts, answered(plan)):
+            role = ranks.role[script.rank]
+            for call in script.calls[count:count + 1]:
+                self.waits.add((role, call.line, call.verb))
+            for call, at in zip(script.calls[:count], script.firsts):
+                if call.verb == b"get-now":
+                    known = self.statuses[role, call.line]
+                    if len(known) < len(STATUSES):
+                        known |= all_statuses(verdict, (script.rank, at), call)
+
+    def lines(self) -> list[bytes]:
+        """What is written of a pattern without findings."""
+        names = [it.name for it in self.pattern.roles]
+        return [CLEAN, *(b"waits %s %d %s" % (names[it[0]], *it[1:]) for it in sorted(self.waits))]
+
+    def answers(self) -> Iterator[bytes]:
+        """What is written of each get-now line."""
+        for n, role in enumerate(self.pattern.roles):
+            for line in role.lines:
+                if line.verb == b"get-now":
+                    known = [it for it in STATUSES if it in self.statuses[n, line.number]]
+                    said = b" ".join(known or [b"none"])
+                    yield b"answers %s %d get-now %s" % (role.name, line.number, said)
+
+
+def all_statuses(verdict: Verdict, event: tuple[int, int], call: Call) -> set[bytes]:
+    """The statuses of a get-now on all placements. Only who shares its node matters."""
+    ranks = len(verdict.plan.scripts)
+    alone = [*range(ranks)]
+    shared = [[event[0] if it == other else it for it in alone] for other in alone]
+    return {verdict.status(event, call, it) for it in shared}
+
+
+def judge(text: bytes) -> tuple[int, bytes, bytes]:
+    """The exit status, what is written, and what `--answers` adds."""
+    judge = Judge(read_pattern(text))
+    shown = judge.counterexample()
+    if shown:
+        return 1, shown, b""
+    return 0, text_of(judge.lines()), text_of([*judge.answers()])
+
+
+def main(words: list[str]) -> int:
+    answers = words[:1] == ["--answers"]
+    if len(words) != 1 + answers:
+        sys.exit(__doc__)
+    with open(words[-1], "rb") as it:
+        given = it.read()
+    try:
+        status, said, more = judge(given)
+    except Refused as why:
+        sys.stderr.buffer.write(why.said())
+        return 2
+    sys.stdout.buffer.write(said + (more if answers else b""))
+    return status
+
+
+if __name__ == "__main__":
+    sys.exit(main(sys.argv[1:]))

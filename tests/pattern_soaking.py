@@ -1,0 +1,207 @@
+"""Holds the program, on one pattern, to the reference (pattern_reference.py) and to itself.
+
+- A file that the second reader (pattern_grammar.py) refuses is refused by every command with the
+  fault and the line that this reader names.
+- `check --pattern` writes what the reference writes, with `--answers` and without; the same about
+  the file, standard input, and the file with comments, blank lines, tabs and carriage returns
+  added.
+- A counterexample is a plan of which `check` finds what the counterexample says.
+- Of a pattern without findings, `check` finds nothing in instances that are larger than those that
+  are judged: 4 to 7 ranks of a group, any turns, and any placement.
+- `expand` writes the plan of an instance in which all turns are taken, as the reference has it.
+
+A pattern with too many instances for the reference is held to all of this but the second, and one
+with very many isn't looked at.
+"""
+import functools
+import random
+import subprocess
+from typing import NamedTuple, Optional
+
+import grammar
+import pattern_grammar
+import pattern_reference
+from pattern_plan import Script
+from pattern_reference import CLEAN, Ranks
+from random_plans import styled
+from soaking import Difference, Ran, Runner, same
+
+# Patterns of more instances aren't held to the reference, or not looked at.
+MOST_INSTANCES, MOST_LOOKED_AT = 200, 4_096
+# How many larger instances are looked at, how many ranks of each group they have, and how many
+# calls in all they may have.
+LARGER, LARGER_SIZES, MOST_CALLS = 4, (4, 7), 4_000
+CHECK, ANSWERS = ("check", "--pattern"), ("check", "--pattern", "--answers")
+
+
+class Instance(NamedTuple):
+    """One instance of a pattern: its ranks with their scripts, and the node of each."""
+
+    ranks: Ranks
+    scripts: list[Script]
+    nodes: list[int]
+
+    @property
+    def text(self) -> bytes:
+        return pattern_reference.instance_text(self.ranks, self.scripts, self.nodes)
+
+
+@functools.cache
+def has_patterns(program: str) -> bool:
+    """Whether a program checks patterns."""
+    ran = subprocess.run(
+        [program, *CHECK], input=b"pattern 1\n", capture_output=True, check=False
+    )
+    return not ran.returncode
+
+
+@functools.cache
+def has_expand(program: str) -> bool:
+    """Whether a program writes instances of patterns."""
+    ran = subprocess.run([program, "expand", "--help"], capture_output=True, check=False)
+    return not ran.returncode
+
+
+def canonical_nodes(nodes: list[int]) -> list[int]:
+    """The same placement, with nodes that count up in rank order."""
+    seen: dict[int, int] = {}
+    return [seen.setdefault(it, len(seen)) for it in nodes]
+
+
+def random_instance(
+    pattern: pattern_grammar.Pattern, dice: random.Random, few: int, many: int
+) -> Instance:
+    """A random instance on a random placement, with so many ranks of each group, or as many as need
+    be."""
+    sizes = [
+        1 if it.least is None else dice.randint(max(few, it.least), max(many, it.least))
+        for it in pattern.roles
+    ]
+    ranks = Ranks(pattern, sizes)
+    taken = dice.choice((0, 0.3, 0.7, 1))
+    scripts = [
+        ranks.script(it, frozenset(at for at in ranks.optional(it) if dice.random() >= taken))
+        for it in range(ranks.count)
+    ]
+    hosts = dice.choice((1, 2, 3, 64))
+    nodes = canonical_nodes([dice.randrange(hosts) for _ in scripts])
+    return Instance(ranks, scripts, nodes)
+
+
+def placed(count: int, size: int) -> list[tuple[list[str], list[int]]]:
+    """The options of `expand` that place so many ranks, each with the nodes: all apart, so many on
+    each node, and in turn on so many nodes."""
+    return [
+        ([], [*range(count)]),
+        (["--per-node", str(size)], [it // size for it in range(count)]),
+        (["--by", "node", "--nodes", str(size)], [it % size for it in range(count)]),
+    ]
+
+
+class Look:
+    """All looks at one pattern. The dice choose what is asked."""
+
+    def __init__(
+        self, runner: Runner, text: bytes, pattern: pattern_grammar.Pattern, seed: int
+    ) -> None:
+        self.runner, self.text, self.pattern = runner, text, pattern
+        self.dice = random.Random(seed)
+        self.path = runner.written("it.pattern", text)
+
+    def at_all(self) -> str:
+        """Looks at all of it. Answers whether it has findings."""
+        said = self.runner.run(*CHECK, self.path)
+        answers = self.runner.run(*ANSWERS, self.path)
+        if pattern_reference.instance_count(self.pattern) <= MOST_INSTANCES:
+            status, wrote, more = pattern_reference.judge(self.text)
+            name = "another answer of check --pattern than the reference's"
+            same(name, Ran(status, wrote, b""), said, "check --pattern")
+            same(name, Ran(status, wrote + more, b""), answers, "check --pattern --answers")
+            self.runner.held["check --pattern"] += 1
+        self.at_inputs(answers)
+        if has_expand(self.runner.program):
+            self.at_expanded()
+        if said.status:
+            self.at_counterexample(said)
+            return "with findings"
+        same("the first line of a pattern without findings", CLEAN, said.wrote.split(b"\n")[0])
+        self.at_larger()
+        return "without findings"
+
+    def at_inputs(self, answers: Ran) -> None:
+        """The same from standard input, and in another spelling."""
+        name, run = "another answer of check --pattern", self.runner.run
+        same(name, answers, run(*ANSWERS, given=self.text), "a file and standard input")
+        lines = [words for _, words in grammar.lines_of(self.text)[0]]
+        other = styled(self.dice, lines)
+        same(name, answers, run(*ANSWERS, given=other), "other spaces and comments")
+
+    def at_counterexample(self, said: Ran) -> None:
+        """A counterexample is a plan with the findings that it tells."""
+        lines = [it for it in said.wrote.splitlines(True) if it.startswith(b"# ")][1:]
+        found = b"".join(it.removeprefix(b"# ") for it in lines)
+        checked = self.runner.run("check", given=said.wrote)
+        same("a counterexample that has other findings", Ran(1, found, b""), checked)
+
+    def at_larger(self) -> None:
+        """Nothing is found in larger instances."""
+        for _ in range(LARGER):
+            it = random_instance(self.pattern, self.dice, *LARGER_SIZES)
+            is_plan = it.ranks.count <= grammar.LIMITS[b"2"].ranks
+            if is_plan and sum(len(script.calls) for script in it.scripts) <= MOST_CALLS:
+                text = it.text
+                checked = self.runner.run("check", given=text)
+                if checked.status != 2:
+                    found = "findings in a larger instance of a clean pattern"
+                    same(found, Ran(0, b"findings 0\n", b""), checked, text)
+                    self.runner.held["a larger instance"] += 1
+
+    def at_expanded(self) -> None:
+        """The plan of one instance."""
+        sizes = [
+            1 if it.least is None else self.dice.randint(it.least, max(5, it.least))
+            for it in self.pattern.roles
+        ]
+        ranks = Ranks(self.pattern, sizes)
+        scripts = [ranks.script(it, frozenset()) for it in range(ranks.count)]
+        counts = [
+            b"%s=%d" % (role.name, size)
+            for role, size in zip(self.pattern.roles, sizes)
+            if role.least is not None
+        ]
+        words, nodes = self.dice.choice(placed(ranks.count, self.dice.choice((1, 2, 3))))
+        told = ["--ranks", b",".join(counts).decode()] if counts else []
+        wanted = Instance(ranks, scripts, nodes).text
+        ran = self.runner.run("expand", *told, *words, self.path)
+        same("another text of expand", Ran(0, wanted, b""), ran, [*told, *words])
+        self.runner.held["expand"] += 1
+
+
+def at_refusal(runner: Runner, text: bytes, said: bytes) -> None:
+    """Each command refuses a pattern alike."""
+    refused, path = Ran(2, b"", said), runner.written("it.pattern", text)
+    for words in (CHECK, ANSWERS):
+        two = "the second reader's and the program's"
+        same("a refusal of check --pattern", refused, runner.run(*words, path), two)
+    same("a refusal of a pattern from standard input", refused, runner.run(*CHECK, given=text))
+
+
+def look(runner: Runner, text: bytes, seed: int) -> str:
+    """Looks at a pattern. Answers whether it was refused, or has findings, or has none, or is too
+    large to look at. Raises a difference."""
+    try:
+        pattern = pattern_reference.read_pattern(text)
+    except grammar.Refused as why:
+        at_refusal(runner, text, why.said())
+        return "refused"
+    if pattern_reference.instance_count(pattern) > MOST_LOOKED_AT:
+        return "too large"
+    return Look(runner, text, pattern, seed).at_all()
+
+
+def difference_of(runner: Runner, text: bytes, seed: int) -> tuple[Optional[Difference], str]:
+    """The difference that a pattern shows, or None, and what kind of file it is."""
+    try:
+        return None, look(runner, text, seed)
+    except Difference as it:
+        return it, "different"

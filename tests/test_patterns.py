@@ -1,0 +1,226 @@
+"""Patterns: the reference by the examples, by faults and by the model of plans, and `check
+--pattern` of the built program beside the reference."""
+import glob
+import os
+import random
+import tempfile
+import unittest
+from collections.abc import Iterator
+
+import grammar
+import model
+import pattern_faults
+import pattern_reference
+import pattern_soaking
+import random_patterns
+import support
+from pattern_plan import Plan, Verdict, answered
+from pattern_soaking import Instance
+from running import ProgramCase, Run, Runs, as_lines, start
+from soaking import Runner
+
+FOLDER = os.path.join(support.TOP, "examples", "patterns")
+# How many random patterns are tried, of at most so many instances.
+PATTERNS, MOST_INSTANCES = 200, 64
+# A key of the root, with its scope, which workers look for after a fence that collects.
+CARD = (
+    "pattern 1 / job app / one root / put {} card v / commit / fence all collect / many w"
+    " / fence all collect / get-now root card / get-now root other / get-now self card"
+    " / get-now root PMIX_RANK / get-now root PMIX_NONE / lookup-wait x / get-now root card"
+)
+SUCCESS, NOT_FOUND, OUTSIDE = (
+    "PMIX_SUCCESS",
+    "PMIX_ERR_NOT_FOUND",
+    "PMIX_ERR_EXISTS_OUTSIDE_SCOPE",
+)
+# What the workers are answered on all placements, by the scope, and for the other calls.
+OF_SCOPE = {
+    "global": SUCCESS,
+    "local": f"{SUCCESS} {NOT_FOUND}",
+    "remote": f"{SUCCESS} {OUTSIDE}",
+}
+OF_OTHERS = {3: NOT_FOUND, 4: NOT_FOUND, 5: SUCCESS, 6: NOT_FOUND, 8: "none"}
+
+
+def text_at(path: str) -> bytes:
+    with open(path, "rb") as it:
+        return it.read()
+
+
+def examples(ending: str) -> list[str]:
+    """The examples of patterns that have a file of this ending, without it."""
+    paths = glob.glob(os.path.join(FOLDER, f"*{ending}"))
+    return sorted(it.removesuffix(ending) for it in paths)
+
+
+def small_patterns(count: int) -> list[bytes]:
+    """Random patterns that the reference soon judges."""
+    found: list[bytes] = []
+    seed = 0
+    while len(found) < count:
+        seed += 1
+        lines = random_patterns.pattern_lines(random.Random(seed))
+        text = pattern_reference.text_of([b" ".join(it) for it in lines])
+        try:
+            pattern = pattern_reference.read_pattern(text)
+        except grammar.Refused:
+            continue
+        if pattern_reference.instance_count(pattern) <= MOST_INSTANCES:
+            found.append(text)
+    return found
+
+
+class Reference(unittest.TestCase):
+    """What the reference says, without the program."""
+
+    def test_examples(self) -> None:
+        """Each example has the verdict, or the fault, that stands beside it."""
+        for it in examples(".verdict"):
+            with self.subTest(it):
+                _, wrote, more = pattern_reference.judge(text_at(f"{it}.pattern"))
+                self.assertEqual(text_at(f"{it}.verdict"), wrote + more)
+        for it in examples(".fault"):
+            with self.subTest(it):
+                with self.assertRaises(grammar.Refused) as refused:
+                    pattern_reference.read_pattern(text_at(f"{it}.pattern"))
+                self.assertEqual(text_at(f"{it}.fault"), refused.exception.said())
+
+    def test_all_examples_have_one(self) -> None:
+        both = examples(".verdict") + examples(".fault")
+        self.assertEqual(examples(".pattern"), sorted(both))
+
+    def test_faults(self) -> None:
+        for it in pattern_faults.refusals():
+            with self.subTest(it.lines[:200]):
+                with self.assertRaises(grammar.Refused) as refused:
+                    pattern_reference.read_pattern(it.text)
+                found = refused.exception
+                self.assertEqual((it.fault, it.line), (found.name, found.line))
+
+    def test_taken(self) -> None:
+        for it in pattern_faults.taken():
+            with self.subTest(it[:200]):
+                pattern_reference.read_pattern(pattern_faults.text_of(it))
+
+    def test_statuses(self) -> None:
+        """A status is named if some placement brings it, in the order of the statuses."""
+        for scope, of_card in OF_SCOPE.items():
+            with self.subTest(scope):
+                said = pattern_reference.judge(pattern_faults.text_of(CARD.format(scope)))
+                told = {2: of_card, **OF_OTHERS}
+                answers = as_lines(f"answers w {it} get-now {of}" for it, of in told.items())
+                waits = pattern_reference.CLEAN + b"\nwaits w 7 lookup-wait\n"
+                self.assertEqual((0, waits, answers), said)
+
+
+class Checker(unittest.TestCase):
+    """The checker of tests/pattern_plan.py beside the model of plans."""
+
+    def hold(self, instance: Instance) -> None:
+        """Fails where they find something else, or nothing and another end."""
+        text = instance.text
+        plan = Plan(instance.ranks.pattern.keeps, instance.scripts)
+        verdict, modelled = Verdict(plan), model.Plan(grammar.read(text))
+        found = verdict.findings(instance.nodes)
+        lines = [pattern_reference.finding_text(instance.ranks, it) for it in found]
+        lines.append(b"findings %d" % len(found))
+        self.assertEqual(modelled.findings(), pattern_reference.text_of(lines), text)
+        if not found:
+            report = model.Run(modelled).go().report().splitlines()[:-1]
+            wanted = [it.split(b" ")[2:4] for it in report]
+            self.assertEqual(wanted, [*ends(instance, verdict, wanted)], text)
+
+    def test_beside_the_model(self) -> None:
+        for number, text in enumerate(small_patterns(PATTERNS)):
+            dice, pattern = random.Random(number), pattern_reference.read_pattern(text)
+            with self.subTest(number=number):
+                self.hold(pattern_soaking.random_instance(pattern, dice, 0, 3))
+
+
+def ends(instance: Instance, verdict: Verdict, wanted: list[list[bytes]]) -> Iterator[list[bytes]]:
+    """The verb of each call, and what became of it. What another call than a get-now is answered is
+    as wanted, unless it is no status."""
+    rest = iter(wanted)
+    for script, count in zip(instance.scripts, answered(verdict.plan)):
+        for number, (call, at) in enumerate(zip(script.calls, script.firsts)):
+            said = next(rest)[1]
+            if number >= count:
+                said = b"waiting" if number == count else b"unreached"
+            elif call.verb == b"get-now":
+                said = verdict.status((script.rank, at), call, instance.nodes)
+            elif not said.startswith(b"PMIX_"):
+                said = b"a status"
+            yield [call.verb, said]
+
+
+class Program(ProgramCase):
+    """`check --pattern` of the built program."""
+
+    @classmethod
+    def setUpClass(cls) -> None:
+        super().setUpClass()
+        if not pattern_soaking.has_patterns(cls.program):
+            raise unittest.SkipTest("this wire_up has no check --pattern")
+
+    def runs_of_examples(self) -> Runs:
+        for it in examples(".verdict"):
+            verdict = text_at(f"{it}.verdict")
+            status = int(verdict.startswith(b"#"))
+            lines = verdict.splitlines(True)
+            short = b"".join(line for line in lines if not line.startswith(b"answers "))
+            words = ["check", "--pattern"]
+            yield Run(f"{it} in short", [*words, f"{it}.pattern"], status=status, wrote=short)
+            words.append("--answers")
+            yield Run(it, [*words, f"{it}.pattern"], status=status, wrote=verdict)
+        for it in examples(".fault"):
+            said = text_at(f"{it}.fault")
+            yield Run(it, ["check", "--pattern", f"{it}.pattern"], status=2, said=said)
+
+    def test_examples(self) -> None:
+        self.hold_all(self.runs_of_examples())
+
+    def test_faults(self) -> None:
+        for it in pattern_faults.refusals():
+            said = grammar.Refused(it.fault, it.line).said()
+            words = ["check", "--pattern"]
+            with self.subTest(it.lines[:200]):
+                self.hold(Run(it.lines, words, given=it.text, status=2, said=said))
+
+    def test_taken(self) -> None:
+        """The largest patterns that are read are judged too."""
+        for it in pattern_faults.taken():
+            with self.subTest(it[:200]):
+                given = pattern_faults.text_of(it)
+                count = pattern_reference.instance_count(pattern_reference.read_pattern(given))
+                if count <= MOST_INSTANCES:
+                    status, wrote, _ = pattern_reference.judge(given)
+                    self.hold(Run(it, ["check", "--pattern"], given, status=status, wrote=wrote))
+                else:
+                    ran = start(self.program, Run(it, ["check", "--pattern"], given))
+                    self.assertIn(ran.returncode, (0, 1), ran.stderr)
+
+    def test_random_patterns(self) -> None:
+        """What is written of random patterns is what the reference says, and holds of larger
+        instances."""
+        with tempfile.TemporaryDirectory(prefix="wire-up-") as room:
+            runner = Runner(self.program, room)
+            for number, text in enumerate(small_patterns(PATTERNS)):
+                with self.subTest(number=number):
+                    pattern_soaking.look(runner, text, number)
+            self.assertEqual(PATTERNS, runner.held["check --pattern"])
+            self.assertGreater(runner.held["a larger instance"], PATTERNS)
+
+    def test_damaged_patterns(self) -> None:
+        """Random patterns that are damaged are refused, or read, as the second reader does."""
+        kinds = set()
+        with tempfile.TemporaryDirectory(prefix="wire-up-") as room:
+            runner = Runner(self.program, room)
+            for number in range(PATTERNS):
+                text, _ = random_patterns.random_file(random.Random(-number))
+                with self.subTest(number=number):
+                    kinds.add(pattern_soaking.look(runner, text, number))
+        self.assertIn("refused", kinds)
+
+
+if __name__ == "__main__":
+    unittest.main()
