@@ -57,8 +57,7 @@ note_value(number, result, result == PMIX_SUCCESS && value ? *value : NULL);
     "publish": shape_blocking("note_publish(&call, info, infos)"),
     "publish-nb": shape_calling_back("note_publish(&call, info, infos)", "operation"),
     "lookup": shape_blocking("note_lookup(&call, found, count, info, infos)", """\
-bool is_found = result == PMIX_SUCCESS || result == PMIX_ERR_PARTIAL_SUCCESS;
-note_found(number, result, found, is_found ? count : 0);
+note_found(number, result, found, has_found(result) ? count : 0);
 """),
     "lookup-nb": shape_calling_back("note_lookup_of_keys(&call, keys, info, infos)", "lookup"),
     "unpublish": shape_blocking("note_unpublish(&call, keys, info, infos)"),

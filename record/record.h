@@ -51,13 +51,13 @@ EXPORTED unsigned long wire_up_number(void);
 enum owner { OF_PROGRAM, OF_BINDINGS, OF_TOOL, OF_MPI, OF_PMIX, OF_SYSTEM, OF_RECORDER };
 
 /* A place in code: a return address, and the object that it is in; or a line of Python, and its
- * function. Its number is written once with what it stands for. `is_call` says that the code before
- * it calls a function that it names. */
+ * function. Its number is written once with what it stands for. */
 struct place {
     const void *address;
     unsigned number;
     enum owner owner;
-    bool is_noted, is_mpi4py, is_call, is_past;
+    bool is_noted, is_mpi4py, is_past;
+    enum { UNREAD, NAMED, POINTED } call; /* how the code before a return address calls */
     const char *module, *function;
     size_t offset;
     struct place *next;
@@ -85,11 +85,15 @@ EXPORTED struct place *wire_up_place_behind(void);
  * has its own: it was opened so that it finds the library first. */
 EXPORTED void wire_up_note_past(void);
 
+/* Whether the code before a return address calls a function that it names, and not one to which it
+ * has a pointer. */
+EXPORTED bool wire_up_is_call_by_name(struct place *place);
+
 /* Whether code of a library of MPI or PMIx calls by itself. A callback of the program that ends
  * with a jump to a function seems to be called from there too. */
-static inline bool wire_up_is_own(const struct place *place, enum owner library)
+static inline bool wire_up_is_own(struct place *place, enum owner library)
 {
-    return place && place->owner == library && place->is_call;
+    return place && place->owner == library && wire_up_is_call_by_name(place);
 }
 
 /* Says that the object which has a function is a tool between the program and MPI. */

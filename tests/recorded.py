@@ -118,7 +118,8 @@ SHIPPED = {**CASES, **DIRECT, **OTHERS, **OTHER_WAYS}
 
 def why_other_findings(program: str, plan: str, count: int) -> Optional[str]:
     """What is wrong with the findings of a plan, which must be so many races on names."""
-    ran = ask_program(program, "check", plan)
+    is_large = any(it.startswith("# Larger than") for it in read_file(plan).splitlines())
+    ran = ask_program(program, "check", *["--large"] * is_large, plan)
     is_well = ran.returncode == int(count > 0) and ran.stdout.count("\n") == count + 1
     if is_well and RACE.sub("", ran.stdout) == f"findings {count}\n":
         return None

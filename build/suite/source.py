@@ -129,7 +129,8 @@ def configure(room: str, source: str) -> str:
     os.makedirs(folder, exist_ok=True)
     script = os.path.join(source, SUITE, "configure")
     settings = [f"{name}={value}" for name, value in COMPILERS.items()]
-    call([script, "--with-mpi=/usr", *settings], folder, os.path.join(room, "configure.log"))
+    options = ("--with-mpi=/usr", "--enable-fortran=all")
+    call([script, *options, *settings], folder, os.path.join(room, "configure.log"))
     with open(os.path.join(folder, "ready"), "w", encoding="utf-8"):
         pass
     return folder

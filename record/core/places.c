@@ -89,24 +89,6 @@ static void locate(struct place *it, const Dl_info *object)
         it->offset -= (uintptr_t)object->dli_fbase;
 }
 
-/* Whether the code before an address is a call by name: to where an offset leads within the object,
- * or to where its table says. A pointer to a function is called in other words. Elsewhere than on
- * x86-64 each call counts as one. */
-static bool is_call_by_name(const unsigned char *after, const void *base)
-{
-#ifdef __x86_64__
-    int32_t offset;
-    if (after[-6] == 0xff && after[-5] == 0x15)
-        return true;
-    memcpy(&offset, after - 4, sizeof offset);
-    return after[-5] == 0xe8 && wire_up_base(after + offset) == base;
-#else
-    (void)after;
-    (void)base;
-    return true;
-#endif
-}
-
 static struct place *make_place(const void *address)
 {
     Dl_info object;
@@ -116,10 +98,8 @@ static struct place *make_place(const void *address)
     made->address = address;
     made->number = number_place();
     made->offset = (uintptr_t)address - 1;
-    if (dladdr(address, &object) && object.dli_fname && object.dli_fbase) {
+    if (dladdr(address, &object) && object.dli_fname && object.dli_fbase)
         locate(made, &object);
-        made->is_call = is_call_by_name(address, object.dli_fbase);
-    }
     if (!made->module)
         made->module = "unknown";
     return made;
@@ -171,3 +151,28 @@ _Unwind_Reason_Code keep_frame(struct _Unwind_Context *frame, void *found)
 }
 
 struct place *wire_up_place_behind(void) { return find_place_in_program(); }
+
+/* Whether a call leads to where an offset says within the object, or to where its table says. A
+ * pointer to a function is called in other words. Elsewhere than on x86-64 each call counts as one
+ * by name. */
+static bool is_by_name(const unsigned char *after)
+{
+#ifdef __x86_64__
+    int32_t offset;
+    if (after[-6] == 0xff && after[-5] == 0x15)
+        return true;
+    memcpy(&offset, after - 4, sizeof offset);
+    return after[-5] == 0xe8 && wire_up_base(after + offset) == wire_up_base(after);
+#else
+    (void)after;
+    return true;
+#endif
+}
+
+bool wire_up_is_call_by_name(struct place *place)
+{
+    if (__atomic_load_n(&place->call, __ATOMIC_RELAXED) == UNREAD)
+        __atomic_store_n(&place->call, is_by_name(place->address) ? NAMED : POINTED,
+                         __ATOMIC_RELAXED);
+    return __atomic_load_n(&place->call, __ATOMIC_RELAXED) == NAMED;
+}

@@ -8,7 +8,7 @@
 __thread unsigned long calls_made;
 
 /* Whether calls of this code are noted. */
-static bool is_watched(const struct place *place)
+static bool is_watched(struct place *place)
 {
     return !wire_up_is_own(place, OF_MPI) && !wire_up_is_own(place, OF_PMIX);
 }

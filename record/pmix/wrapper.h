@@ -16,6 +16,14 @@ static inline bool is_noted(const void *caller)
     return wire_up_is_recording() && !wire_up_is_own(wire_up_place(caller), OF_PMIX);
 }
 
+/* Whether a lookup found a name at least. Where it found some of several, OpenPMIx 5 answers with a
+ * status of queries, which older headers don't have. */
+static inline bool has_found(pmix_status_t status)
+{
+    const pmix_status_t partial_query = -104;
+    return status == PMIX_SUCCESS || status == PMIX_ERR_PARTIAL_SUCCESS || status == partial_query;
+}
+
 /* How a caller learns that a call ended that doesn't block. */
 static inline const char *find_form(const void *caller)
 {

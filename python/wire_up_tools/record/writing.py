@@ -46,11 +46,12 @@ STATUSES = {
     -60: "PMIX_ERR_EMPTY",
     -61: "PMIX_ERR_LOST_CONNECTION",
     -62: "PMIX_ERR_EXISTS_OUTSIDE_SCOPE",
+    -104: "PMIX_QUERY_PARTIAL_SUCCESS",
 }
 # The comments for which there may be no room.
 LEFT_AWAY = (PLACE_COMMENT, f"{MPI_COMMENT}send", f"{MPI_COMMENT}receive")
 # The statuses of lookups that found a name at least.
-SUCCEEDED, NOT_FOUND = (0, -52), -46
+SUCCEEDED, NOT_FOUND = (0, -52, -104), -46
 SUCCESS, WAITING, UNREACHED = STATUSES[0], "waiting", "unreached"
 
 
