@@ -12,6 +12,7 @@ use wire_commands::{
     Ended, Manner, Mode, PairAsked, Replaying, answer_question, check_placements, check_plan,
     check_replies, follow_plan, migrate_plan, place_plan, replay_plan, witness_pair, witness_races,
 };
+use wire_pattern_commands::check_pattern;
 use wire_sched::OpenGate;
 use wire_types::{Fault, FromRead, Sink, Source};
 
@@ -131,7 +132,7 @@ pub fn run_command<R: Read, W: Sink>(
     }
 }
 
-/// Checks a plan on the placements that are asked for.
+/// Checks a plan on the placements that are asked for, or a pattern.
 fn check<S: Source, W: Sink>(
     rt: &(impl AllocGlobal + Threads + Sync),
     manner: Manner<'_>,
@@ -143,6 +144,7 @@ fn check<S: Source, W: Sink>(
         Judged::Written => check_plan(rt, rt.alloc(), manner, reader, writer),
         Judged::Anywhere => check_placements(rt, rt.alloc(), manner, reader, writer),
         Judged::Same => check_replies(rt, rt.alloc(), manner, reader, writer),
+        Judged::Pattern => check_pattern(rt, rt.alloc(), reader, writer),
     }
 }
 

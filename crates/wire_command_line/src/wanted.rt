@@ -11,6 +11,7 @@ pub struct Asked<'a> {
     pub most: &'a str,
     pub anywhere: bool,
     pub same: bool,
+    pub pattern: bool,
     pub lines: bool,
     pub json: bool,
     pub anyway: bool,

@@ -1,0 +1,9 @@
+mod Numbers
+mod Callers
+mod Judgement
+mod Listed
+mod FewCasts
+mod Ways
+mod Totals
+mod ManyTurns
+mod FoundIn
