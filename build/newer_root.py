@@ -26,7 +26,7 @@ SETTINGS = (
     "DEBIAN_FRONTEND=noninteractive",
     "OMPI_ALLOW_RUN_AS_ROOT=1",
     "OMPI_ALLOW_RUN_AS_ROOT_CONFIRM=1",
-    "OMPI_MCA_btl=^tcp",
+    "OMPI_MCA_btl_tcp_disable_family=6",
     "PRTE_ALLOW_RUN_AS_ROOT=1",
     "PRTE_ALLOW_RUN_AS_ROOT_CONFIRM=1",
 )

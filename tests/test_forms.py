@@ -336,30 +336,6 @@ def placings_that_fail(room: str) -> Runs:
         )
 
 
-def misused_patterns(file: str) -> Runs:
-    """What doesn't go with `--pattern`."""
-    usage = b"wire_up: usage --pattern\n"
-    for option in ("--anywhere", "--same", "--lines", "--json", "--large", "--explain"):
-        words = ["check", option, "--pattern", file]
-        yield Run(f"check with --pattern and {option}", words, status=5, said=usage)
-    words = ["check", "--pattern", "--anywhere", "--same", "--json"]
-    yield Run("check with --pattern and three options", words, status=5, said=usage)
-    words = ["check", "--pattern", file, file]
-    yield Run("check with --pattern and two files", words, status=5, said=(b"Usage: wire_up",))
-    for command in ("replay", "migrate"):
-        yield Run(
-            f"{command} with --pattern",
-            [command, "--pattern", file],
-            status=5,
-            said=(b"Usage: wire_up",),
-        )
-    yield Run(
-        "--pattern in the help on check",
-        ["check", "--help"],
-        wrote=(b"--pattern", b"Judges a pattern: every number of ranks on every placement"),
-    )
-
-
 def misused_placings() -> Runs:
     """Where lines don't go."""
     racy = "examples/early-get.plan"
@@ -385,7 +361,6 @@ def misused_placings() -> Runs:
         status=5,
         said=b"wire_up: usage --same\n",
     )
-    yield from misused_patterns(racy)
     for words in (["replay"], ["follow", racy], ["migrate"]):
         yield Run(f"{words[0]} with lines", [*words, "--lines", racy], status=5, said=usage)
     for command in ("check", "why", "witness"):

@@ -61,7 +61,6 @@ LINES = {
     "wire_up replay --w": ["--workers"],
     "wire_up check --l": ["--large", "--lines"],
     "wire_up check --e": ["--explain"],
-    "wire_up check --p": ["--pattern"],
     "wire_up why --j": ["--json"],
     "wire_up why --l": ["--large", "--lines"],
     "wire_up witness --l": ["--lines"],

@@ -201,7 +201,15 @@ class CasesTest(LiveTest):
     def test_direct(self) -> None:
         for name, of in DIRECT.items():
             with self.subTest(name):
+                if name == "partial" and self.gives_nothing_in_part():
+                    self.skipTest("this PMIx gives no value where one of two names isn't there")
                 self.hold(name, of, "direct")
+
+    def gives_nothing_in_part(self) -> bool:
+        """Whether a lookup of two names gives neither value where one isn't there: so does
+        OpenPMIx 5."""
+        self.record("--answers", self.answers, *mpirun(2, self.compile("direct"), "partial"))
+        return "PMIX_QUERY_PARTIAL_SUCCESS" in read_file(self.answers)
 
     def test_where(self) -> None:
         """The calls of a race lead to their lines."""

@@ -12,7 +12,6 @@ use wire_commands::{
     Ended, Manner, Mode, PairAsked, Replaying, answer_question, check_placements, check_plan,
     check_replies, follow_plan, migrate_plan, place_plan, replay_plan, witness_pair, witness_races,
 };
-use wire_pattern_commands::check_pattern;
 use wire_sched::OpenGate;
 use wire_types::{Fault, FromRead, Sink, Source};
 
@@ -132,7 +131,7 @@ pub fn run_command<R: Read, W: Sink>(
     }
 }
 
-/// Checks a plan on the placements that are asked for, or a pattern.
+/// Checks a plan on the placements that are asked for.
 fn check<S: Source, W: Sink>(
     rt: &(impl AllocGlobal + Threads + Sync),
     manner: Manner<'_>,
@@ -144,7 +143,6 @@ fn check<S: Source, W: Sink>(
         Judged::Written => check_plan(rt, rt.alloc(), manner, reader, writer),
         Judged::Anywhere => check_placements(rt, rt.alloc(), manner, reader, writer),
         Judged::Same => check_replies(rt, rt.alloc(), manner, reader, writer),
-        Judged::Pattern => check_pattern(rt, rt.alloc(), reader, writer),
     }
 }
 

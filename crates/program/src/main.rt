@@ -105,10 +105,6 @@ fn refuse(rt: &(impl Print + Eprint + AllocGlobal), refusal: Refusal) -> Result<
             let _ = rt.eprintln("wire_up: usage --same");
             Err(Failure::Usage)
         }
-        Refusal::Pattern => {
-            let _ = rt.eprintln("wire_up: usage --pattern");
-            Err(Failure::Usage)
-        }
         Refusal::Witness => {
             let _ = rt.eprintln("wire_up: usage witness");
             Err(Failure::Usage)

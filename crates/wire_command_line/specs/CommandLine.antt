@@ -46,9 +46,7 @@ with_large line = with_plan (with_rule line (flag (codes "large")))
 
 -- the commands
 abbrev pub check_line : App
-check_line =
-    with_large (with_forms (with_rule (with_rule (with_rule (new_app (codes "check"))
-    (flag (codes "anywhere"))) (flag (codes "same"))) (flag (codes "pattern"))))
+check_line = with_large (with_forms (with_rule (with_rule (new_app (codes "check")) (flag (codes "anywhere"))) (flag (codes "same"))))
 
 abbrev pub replay_line : App
 replay_line =
@@ -122,7 +120,6 @@ pub record SaidBy (name : Text) (rows : List Row) (asked : Asked) : Type 0 where
   pub most : asked.most.now ≡ most_word rows
   pub anywhere : asked.anywhere ≡ is_set (codes "anywhere") rows
   pub same : asked.same ≡ is_set (codes "same") rows
-  pub pattern : asked.pattern ≡ is_set (codes "pattern") rows
   pub lines : asked.lines ≡ is_set (codes "lines") rows
   pub json : asked.json ≡ is_set (codes "json") rows
   pub anyway : asked.anyway ≡ is_set (codes "anyway") rows

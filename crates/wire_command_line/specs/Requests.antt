@@ -21,11 +21,11 @@ use Rattle.wire_command_line.specs.declared.request.Command.{Command}
 use Rattle.wire_command_line.specs.declared.request.Command.TheVariants.{Check, Replay, Follow, Why, Migrate, Place, Witness}
 use Rattle.wire_command_line.specs.declared.request.Command.TheVariants.{Witnesses}
 use Rattle.wire_command_line.specs.declared.request.Judged.{Judged}
-use Rattle.wire_command_line.specs.declared.request.Judged.TheVariants.{Written, Anywhere, Same, Pattern}
+use Rattle.wire_command_line.specs.declared.request.Judged.TheVariants.{Written, Anywhere, Same}
 use Rattle.wire_command_line.specs.declared.request.Request.{Request}
 use Rattle.wire_command_line.specs.declared.request.Refusal.{Refusal}
 use Rattle.wire_command_line.specs.declared.request.Refusal.TheVariants.{Usage, Workers, Same as SameAlone}
-use Rattle.wire_command_line.specs.declared.request.Refusal.TheVariants.{Pattern as PatternBeside, Witness as Misfit}
+use Rattle.wire_command_line.specs.declared.request.Refusal.TheVariants.{Witness as Misfit}
 
 -- the text of a word that may be left out
 abbrev pub text_of : Option (Bor Text) → Option Text
@@ -57,25 +57,16 @@ judged_of true false = Some Anywhere
 judged_of true true = Some Same
 judged_of false true = None
 
--- whether one of these flags is given: then an order is not written alone
-abbrev pub has_form : List Row → Bool
-has_form rows = is_set (codes "lines") rows || is_set (codes "json") rows
-
--- whether a flag is given that doesn't go with `--pattern`: every other one of `check`
-abbrev pub has_other : List Row → Bool
-has_other rows =
-    is_set (codes "anywhere") rows || is_set (codes "same") rows || has_form rows || is_set (codes "large") rows || is_set (codes "explain") rows
-
--- what `check` is to judge: a pattern, nothing where `--pattern` has another flag beside it, or a plan on the
--- placements that two flags ask for
 abbrev pub judged_said : List Row → Option Judged
-judged_said rows =
-    if is_set (codes "pattern") rows then (if has_other rows then None else Some Pattern)
-    else judged_of (is_set (codes "anywhere") rows) (is_set (codes "same") rows)
+judged_said rows = judged_of (is_set (codes "anywhere") rows) (is_set (codes "same") rows)
 
 -- the limits that a flag asks for
 abbrev pub size_of : Bool → Size
 size_of large = if large then Large else OfVersion
+
+-- whether one of these flags is given: then an order is not written alone
+abbrev pub has_form : List Row → Bool
+has_form rows = is_set (codes "lines") rows || is_set (codes "json") rows
 
 -- which orders two flags ask for, nothing where both are given, or where one is given and the answer is to have a form
 abbrev pub orders_of : Bool → Bool → Bool → Option Orders
@@ -162,26 +153,11 @@ pub record LacksWorkers (command : Option (Text × List Row)) : Type 0 where
   pub named : command ≡ Some (codes "replay", rows)
   pub none : workers_said (workers_word rows) ≡ None
 
--- `--same` is given, and neither `--anywhere` nor `--pattern`
-abbrev pub SameIsAlone : List Row → Type 0
-SameIsAlone rows =
-    (is_set (codes "same") rows ≡ true) × (is_set (codes "anywhere") rows ≡ false) × (is_set (codes "pattern") rows ≡ false)
-
--- `--pattern` is given, and another flag
-abbrev pub PatternHasOther : List Row → Type 0
-PatternHasOther rows = (is_set (codes "pattern") rows ≡ true) × (has_other rows ≡ true)
-
 -- it is `check`, with `--same` and without `--anywhere`
 pub record LacksAnywhere (command : Option (Text × List Row)) : Type 0 where
   pub rows : List Row
   pub named : command ≡ Some (codes "check", rows)
-  pub none : SameIsAlone rows
-
--- it is `check`, with `--pattern` and another flag
-pub record LacksAlone (command : Option (Text × List Row)) : Type 0 where
-  pub rows : List Row
-  pub named : command ≡ Some (codes "check", rows)
-  pub none : PatternHasOther rows
+  pub none : judged_said rows ≡ None
 
 -- it is `witness`, and its words and options don't go together
 pub record LacksFit (command : Option (Text × List Row)) : Type 0 where
@@ -194,12 +170,11 @@ abbrev pub IsRequestOf : List Text → Request → Type 0
 IsRequestOf words request = (fault_of program_line words ≡ []) × IsRequestBy (subcommand_of program_line words) request
 
 -- why they request nothing: for a fault that `clap` finds, for want of memory or of a word, for the word of
--- `--workers`, for `--same` alone, for `--pattern` beside another flag, or for what doesn't go together
+-- `--workers`, for `--same` alone, or for what doesn't go together
 abbrev pub IsRefusalOf : List Text → Refusal → Type 0
 IsRefusalOf words (Usage e) =
     HasKind (fault_of program_line words) e
     ⊎ ((fault_of program_line words ≡ []) × (kind_of e ≡ MissingRequiredArgument) × (is_command (subcommand_of program_line words) ≡ false))
 IsRefusalOf words Workers = (fault_of program_line words ≡ []) × LacksWorkers (subcommand_of program_line words)
 IsRefusalOf words SameAlone = (fault_of program_line words ≡ []) × LacksAnywhere (subcommand_of program_line words)
-IsRefusalOf words PatternBeside = (fault_of program_line words ≡ []) × LacksAlone (subcommand_of program_line words)
 IsRefusalOf words Misfit = (fault_of program_line words ≡ []) × LacksFit (subcommand_of program_line words)

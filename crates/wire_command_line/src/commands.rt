@@ -94,11 +94,6 @@ fn check_command<'a>() -> Subcommand<'a>
                 help: "With --anywhere: where nothing is found, names each call that replies differently elsewhere",
             },
             Argument {
-                name: "pattern",
-                kind: Kind::Flag,
-                help: "Judges a pattern: every number of ranks on every placement",
-            },
-            Argument {
                 name: "lines",
                 kind: Kind::Flag,
                 help: "Groups findings that are alike, and tells where the calls of each group's first finding stand",

@@ -133,7 +133,6 @@ fn parse_command<'a>(
         most: most_given(found),
         anywhere: is_set(found, "anywhere"),
         same: is_set(found, "same"),
-        pattern: is_set(found, "pattern"),
         lines: is_set(found, "lines"),
         json: is_set(found, "json"),
         anyway: is_set(found, "anyway"),

@@ -1,8 +1,7 @@
 //! The request that the words of a command line make.
 
-ghost use Rattle.std.specs.Prelude.{◌≡◌, map, codes, true, false, None, IfOk, IfErr, IfSome, IfNone};
+ghost use Rattle.std.specs.Prelude.{◌≡◌, map, codes, false, None, IfOk, IfErr, IfSome, IfNone};
 ghost use Rattle.clap.specs.Words.{first_of, found_of, rows_of, subcommand_rows_of};
-ghost use Rattle.wire_command_line.specs.CommandLine as line;
 ghost use Rattle.wire_command_line.specs.Reading.{IsReadAs, IsReadBy, IsReadIn};
 ghost use Rattle.wire_command_line.specs.Requests as spec;
 ghost use Rattle.wire_command_line.specs.Requests.{NamesCall, NamesCalls, IsCommand, IsRequestOf, IsRefusalOf, text_of};
@@ -28,8 +27,6 @@ enum Lack {
     Workers,
     /// `--anywhere`, beside `--same`.
     Anywhere,
-    /// `--pattern` without another option.
-    Alone,
     /// Words and options of `witness` that go together.
     Fit,
 }
@@ -100,35 +97,10 @@ fn judged_of(anywhere: bool, same: bool) -> Option<Judged>
     }
 }
 
-/// Whether an option is given that doesn't go with `--pattern`.
-fn has_other(found: &ArgMatches<'_>) -> bool
-    ensures { result ≡ spec.has_other (rows_of (found_of found.now)) }
-{
-    is_set(found, "anywhere")
-        || is_set(found, "same")
-        || has_form(found)
-        || is_set(found, "large")
-        || is_set(found, "explain")
-}
-
-/// To judge a pattern, where `--pattern` is given without another option.
-fn read_pattern<'a>(found: &ArgMatches<'a>) -> Result<Command<'a>, Lack>
-    requires { line.is_set (codes "pattern") (rows_of (found_of found.now)) ≡ true }
-    ensures { IsReadAs (codes "check") (rows_of (found_of found.now)) result }
-{
-    if has_other(found) {
-        return Err(Lack::Alone);
-    }
-    Ok(Command::Check(Judged::Pattern))
-}
-
-/// What `check` is to judge, where `--same` isn't given alone, nor `--pattern` with another option.
+/// Which placements `check` is to judge, where `--same` isn't given alone.
 fn read_check<'a>(found: &ArgMatches<'a>) -> Result<Command<'a>, Lack>
     ensures { IsReadAs (codes "check") (rows_of (found_of found.now)) result }
 {
-    if is_set(found, "pattern") {
-        return read_pattern(found);
-    }
     match judged_of(is_set(found, "anywhere"), is_set(found, "same")) {
         Some(judged) => Ok(Command::Check(judged)),
         None => Err(Lack::Anywhere),
@@ -293,8 +265,8 @@ fn read_matches<'a>(matches: &ArgMatches<'a>) -> Result<Request<'a>, Lack>
 ///
 /// Where it is `Ok`, `clap` finds no fault in the words, and each word of the request is the one that its matches have
 /// by that name. `Workers` comes only for a `replay` whose word of `--workers` isn't one or more digits, `Same` only
-/// for a `check` with `--same` and neither `--anywhere` nor `--pattern`, `Pattern` only for a `check` with `--pattern`
-/// and another option, `Witness` only for a `witness` whose words and options don't go together. Any other error is one of those that `clap` has for the
+/// for a `check` with `--same` and without `--anywhere`, `Witness` only for a `witness` whose words and options don't
+/// go together. Any other error is one of those that `clap` has for the
 /// words, want of memory among them, or `MissingRequiredArgument` where `clap` finds no fault and a word is missing all
 /// the same (no words are known for which that is so).
 pub fn read_request<'a>(alloc: Global, words: &'a [&'a str]) -> Result<Request<'a>, Refusal>
@@ -308,7 +280,6 @@ pub fn read_request<'a>(alloc: Global, words: &'a [&'a str]) -> Result<Request<'
         Ok(request) => Ok(request),
         Err(Lack::Workers) => Err(Refusal::Workers),
         Err(Lack::Anywhere) => Err(Refusal::Same),
-        Err(Lack::Alone) => Err(Refusal::Pattern),
         Err(Lack::Fit) => Err(Refusal::Witness),
         Err(Lack::Word) => Err(Refusal::Usage(tell_missing(alloc)?)),
     }

@@ -31,7 +31,7 @@ pub struct ReplayOptions {
     pub complete: bool,
 }
 
-/// What `check` is to judge: a plan, on which placements, or a pattern.
+/// Which placements of a plan `check` is to judge.
 #[derive(Clone, Copy, Debug, PartialEq, Eq)]
 pub enum Judged {
     /// The one that the plan has.
@@ -40,8 +40,6 @@ pub enum Judged {
     Anywhere,
     /// Every one, and if nothing is found whether each call replies the same on all of them.
     Same,
-    /// Every number of ranks on every placement, of a pattern.
-    Pattern,
 }
 
 /// Whose race `witness` is to show by two runs, and what it is to write of them.
@@ -55,7 +53,7 @@ pub struct PairOptions<'a> {
 /// A command, with all that it alone needs.
 #[derive(Clone, Copy)]
 pub enum Command<'a> {
-    /// To find the races of a plan, on these placements, or of a pattern.
+    /// To find the races of a plan, on these placements.
     Check(Judged),
     /// To run a plan.
     Replay(ReplayOptions),
@@ -95,8 +93,6 @@ pub enum Refusal {
     Workers,
     /// `--same` is given without `--anywhere`.
     Same,
-    /// `--pattern` is given with another option.
-    Pattern,
     /// The words of `witness` aren't those of a file, or of two calls and a file; an option doesn't go with them; or
     /// the word of `--most` isn't one or more digits.
     Witness,

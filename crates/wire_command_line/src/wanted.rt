@@ -11,7 +11,6 @@ pub struct Asked<'a> {
     pub most: &'a str,
     pub anywhere: bool,
     pub same: bool,
-    pub pattern: bool,
     pub lines: bool,
     pub json: bool,
     pub anyway: bool,

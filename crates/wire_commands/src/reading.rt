@@ -14,7 +14,7 @@ use wire_types::{Fault, Form, Source};
 
 /// The bytes of a reader, which is asked until it ends or so many have come. Fails where memory runs
 /// out or a call of the reader fails.
-pub fn read_up_to<R: Source>(
+pub(crate) fn read_up_to<R: Source>(
     alloc: Global,
     reader: &mut R,
     limit: usize,

@@ -51,7 +51,7 @@ STATUSES = {
 # The comments for which there may be no room.
 LEFT_AWAY = (PLACE_COMMENT, f"{MPI_COMMENT}send", f"{MPI_COMMENT}receive")
 # The statuses of lookups that found a name at least.
-SUCCEEDED, NOT_FOUND = (0, -52, -104), -46
+SUCCEEDED, NOT_FOUND = (0, -52), -46
 SUCCESS, WAITING, UNREACHED = STATUSES[0], "waiting", "unreached"
 
 

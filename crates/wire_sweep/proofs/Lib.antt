@@ -1,9 +1,0 @@
-mod Numbers
-mod Callers
-mod Judgement
-mod Listed
-mod FewCasts
-mod Ways
-mod Totals
-mod ManyTurns
-mod FoundIn
