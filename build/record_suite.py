@@ -5,8 +5,8 @@ Usage: make record-suite [PARTS="pt2pt f77/coll"] [ROOM=FOLDER] [SECONDS=N] [JOB
                                                       [--seconds N] [--jobs N]
 It fetches the suite as Debian's source package (with lists of apt of its own), builds it for the
 MPI that is here, and runs each program without the recorder and with it, JOBS parts side by side. A
-program that takes more than N seconds by itself is left out. ROOM (/tmp/wire-up-suite) keeps the
-suite, and what came of each program in `outcomes`: who runs the command again, or was interrupted,
+program that takes more than N seconds by itself is left out. ROOM (`wire-up-suite` where
+temporary files go) keeps the suite, and what came of each program in `outcomes`: who runs the command again, or was interrupted,
 goes on behind that. The last lines are a table; above it stands what went another way. PROGRAM is
 the checker, or else ./wire_up.
 """
@@ -15,6 +15,7 @@ import json
 import os
 import subprocess
 import sys
+import tempfile
 from collections.abc import Iterable, Sequence
 from concurrent.futures import ThreadPoolExecutor
 from dataclasses import asdict
@@ -141,7 +142,7 @@ def read_words() -> argparse.Namespace:
     parser = argparse.ArgumentParser(add_help=False, usage=__doc__)
     parser.add_argument("program", nargs="?", default=WIRE_UP)
     parser.add_argument("--parts", nargs="*", default=[])
-    parser.add_argument("--room", default=os.path.join("/tmp", "wire-up-suite"))
+    parser.add_argument("--room", default=os.path.join(tempfile.gettempdir(), "wire-up-suite"))
     parser.add_argument("--seconds", type=float, default=60.0)
     parser.add_argument("--jobs", type=int, default=1)
     return parser.parse_args()
