@@ -5,10 +5,10 @@ Usage: make record-suite [PARTS="pt2pt f77/coll"] [ROOM=FOLDER] [SECONDS=N] [JOB
                                                       [--seconds N] [--jobs N]
 It fetches the suite as Debian's source package (with lists of apt of its own), builds it for the
 MPI that is here, and runs each program without the recorder and with it, JOBS parts side by side. A
-program that takes more than N seconds by itself is left out. ROOM (`wire-up-suite` where
-temporary files go) keeps the suite, and what came of each program in `outcomes`: who runs the command again, or was interrupted,
-goes on behind that. The last lines are a table; above it stands what went another way. PROGRAM is
-the checker, or else ./wire_up.
+program that takes more than N seconds by itself is left out. ROOM (`wire-up-suite` where temporary
+files go) keeps the suite, and what came of each program in `outcomes`: who runs the command again,
+or was interrupted, goes on behind that. The last lines are a table; above it stands what went
+another way. PROGRAM is the checker, or else ./wire_up.
 """
 import argparse
 import json
