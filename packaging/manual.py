@@ -144,15 +144,19 @@ def usage_line(usage: str) -> str:
 
 
 def section(part: str) -> Lines:
-    """A part of what stands below the options: a title with a colon, and rows."""
+    """A part of what stands below the options: a title with a colon, and rows. A line
+    without a number goes on with the row above it."""
     first, *rows = part.split("\n")
     name = first.partition(",")[0].rstrip(":")
     made = [f".SH {escaped(name).upper()}", *[escaped(first)] * ("," in first)]
     for line in rows:
         row = ROW.fullmatch(line)
-        if row is None:
+        if row is not None:
+            made += [".TP", bold(row[1]), escaped(row[2])]
+        elif line.startswith(" ") and ".TP" in made:
+            made.append(escaped(line.strip()))
+        else:
             raise ValueError(f"no row of {name}: {line}")
-        made += [".TP", bold(row[1]), escaped(row[2])]
     return made
 
 

@@ -88,10 +88,9 @@ def lay_out_documents(prefix: str, name: str) -> str:
         for path in sorted(glob.glob(os.path.join(TOP, "docs", f"*.{ending}"))):
             if os.path.basename(path) not in FOR_DEVELOPERS:
                 put(path, os.path.join(folder, "docs"))
-    # Plans and the programs that write them; no command reads what stands in folders there.
-    for path in sorted(glob.glob(os.path.join(TOP, "examples", "*"))):
+    for path in sorted(glob.glob(os.path.join(TOP, "examples", "**"), recursive=True)):
         if os.path.isfile(path):
-            put(path, os.path.join(folder, "examples"))
+            put(path, os.path.join(folder, os.path.dirname(os.path.relpath(path, TOP))))
     return folder
 
 

@@ -47,12 +47,22 @@ class Instance(NamedTuple):
 
 
 @functools.cache
-def has_patterns(program: str) -> bool:
-    """Whether a program checks patterns."""
+def takes(program: str, words: tuple[str, ...]) -> bool:
+    """Whether a program takes these words with a pattern."""
     ran = subprocess.run(
-        [program, *CHECK], input=b"pattern 1\n", capture_output=True, check=False
+        [program, *words], input=b"pattern 1\n", capture_output=True, check=False
     )
     return not ran.returncode
+
+
+def has_patterns(program: str) -> bool:
+    """Whether a program checks patterns."""
+    return takes(program, CHECK)
+
+
+def has_answers(program: str) -> bool:
+    """Whether a program says with which statuses a get-now of a pattern is answered."""
+    return takes(program, ANSWERS)
 
 
 @functools.cache
@@ -111,14 +121,16 @@ class Look:
     def at_all(self) -> str:
         """Looks at all of it. Answers whether it has findings."""
         said = self.runner.run(*CHECK, self.path)
-        answers = self.runner.run(*ANSWERS, self.path)
+        words = ANSWERS if has_answers(self.runner.program) else CHECK
+        longest = self.runner.run(*words, self.path)
         if pattern_reference.instance_count(self.pattern) <= MOST_INSTANCES:
             status, wrote, more = pattern_reference.judge(self.text)
             name = "another answer of check --pattern than the reference's"
             same(name, Ran(status, wrote, b""), said, "check --pattern")
-            same(name, Ran(status, wrote + more, b""), answers, "check --pattern --answers")
+            if words == ANSWERS:
+                same(name, Ran(status, wrote + more, b""), longest, "check --pattern --answers")
             self.runner.held["check --pattern"] += 1
-        self.at_inputs(answers)
+        self.at_inputs(words, longest)
         if has_expand(self.runner.program):
             self.at_expanded()
         if said.status:
@@ -128,13 +140,13 @@ class Look:
         self.at_larger()
         return "without findings"
 
-    def at_inputs(self, answers: Ran) -> None:
+    def at_inputs(self, words: tuple[str, ...], said: Ran) -> None:
         """The same from standard input, and in another spelling."""
         name, run = "another answer of check --pattern", self.runner.run
-        same(name, answers, run(*ANSWERS, given=self.text), "a file and standard input")
-        lines = [words for _, words in grammar.lines_of(self.text)[0]]
+        same(name, said, run(*words, given=self.text), "a file and standard input")
+        lines = [line for _, line in grammar.lines_of(self.text)[0]]
         other = styled(self.dice, lines)
-        same(name, answers, run(*ANSWERS, given=other), "other spaces and comments")
+        same(name, said, run(*words, given=other), "other spaces and comments")
 
     def at_counterexample(self, said: Ran) -> None:
         """A counterexample is a plan with the findings that it tells."""
@@ -180,7 +192,8 @@ class Look:
 def at_refusal(runner: Runner, text: bytes, said: bytes) -> None:
     """Each command refuses a pattern alike."""
     refused, path = Ran(2, b"", said), runner.written("it.pattern", text)
-    for words in (CHECK, ANSWERS):
+    longest = ANSWERS if has_answers(runner.program) else CHECK
+    for words in (CHECK, longest):
         two = "the second reader's and the program's"
         same("a refusal of check --pattern", refused, runner.run(*words, path), two)
     same("a refusal of a pattern from standard input", refused, runner.run(*CHECK, given=text))

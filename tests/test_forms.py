@@ -336,6 +336,95 @@ def placings_that_fail(room: str) -> Runs:
         )
 
 
+def misused_patterns(file: str) -> Runs:
+    """What doesn't go with `--pattern`."""
+    usage = b"wire_up: usage --pattern\n"
+    for option in ("--anywhere", "--same", "--lines", "--json", "--large", "--explain"):
+        words = ["check", option, "--pattern", file]
+        yield Run(f"check with --pattern and {option}", words, status=5, said=usage)
+        words = ["check", "--pattern", "--answers", option, file]
+        yield Run(f"check with --answers and {option}", words, status=5, said=usage)
+    for option in ("--answers", "--complete"):
+        words = ["check", option, "--anywhere", file]
+        yield Run(f"check with {option} and without --pattern", words, status=5, said=usage)
+    words = ["check", "--answers", "--same", file]
+    yield Run("check with --answers and --same", words, status=5, said=usage)
+    words = ["check", "--pattern", "--anywhere", "--same", "--json"]
+    yield Run("check with --pattern and three options", words, status=5, said=usage)
+    words = ["check", "--pattern", file, file]
+    yield Run("check with --pattern and two files", words, status=5, said=(b"Usage: wire_up",))
+    for command in ("replay", "migrate"):
+        yield Run(
+            f"{command} with --pattern",
+            [command, "--pattern", file],
+            status=5,
+            said=(b"Usage: wire_up",),
+        )
+    yield Run(
+        "--pattern in the help on check",
+        ["check", "--help"],
+        wrote=(
+            b"--pattern",
+            b"Judges a pattern: every number of ranks on every placement",
+            b"--answers",
+            b"--complete",
+        ),
+    )
+
+
+def misused_spreads(file: str) -> Runs:
+    """Options of `expand` that don't say on which nodes ranks are."""
+    usage = b"wire_up: usage expand\n"
+    wrong = {
+        "no ranks on a node": "--per-node 0",
+        "ranks on a node that are no number": "--per-node x",
+        "no nodes": "--by node --nodes 0",
+        "nodes that are no number": "--by node --nodes 2x",
+        "another way": "--by slot --nodes 2",
+        "a way without nodes": "--by node",
+        "nodes without a way": "--nodes 2",
+        "two ways": "--per-node 2 --by node --nodes 2",
+        "ranks on a node, and nodes": "--per-node 2 --nodes 2",
+    }
+    for name, options in wrong.items():
+        words = ["expand", "--ranks", "workers=2", *options.split(), file]
+        yield Run(f"expand with {name}", words, status=5, said=usage)
+    for option in ("--json", "--lines", "--explain"):
+        yield Run(
+            f"expand with {option}",
+            ["expand", option, file],
+            status=5,
+            said=(b"Usage: wire_up",),
+        )
+    yield Run(
+        "the options in the help on expand",
+        ["expand", "--help"],
+        wrote=(b"--ranks <GROUPS>", b"--per-node <COUNT>", b"--by <WAY>", b"--nodes <COUNT>"),
+    )
+
+
+def misused_ranks(file: str) -> Runs:
+    """Parts of `--ranks` that say nothing, or what the pattern can't have. Its one group is
+    `workers`."""
+    wrong = {
+        "": 1,
+        "workers": 1,
+        "workers=": 1,
+        "workers=x": 1,
+        "workers=-1": 1,
+        "worker=2": 1,
+        "workers=2,": 2,
+        "workers=2,workers=3": 2,
+    }
+    for word, part in wrong.items():
+        yield Run(
+            f"expand --ranks {word}",
+            ["expand", "--ranks", word, file],
+            status=2,
+            said=b"wire_up: fault 13 BadOrder %d\n" % part,
+        )
+
+
 def misused_placings() -> Runs:
     """Where lines don't go."""
     racy = "examples/early-get.plan"
@@ -361,6 +450,10 @@ def misused_placings() -> Runs:
         status=5,
         said=b"wire_up: usage --same\n",
     )
+    yield from misused_patterns(racy)
+    pattern = "examples/patterns/business-cards.pattern"
+    yield from misused_spreads(pattern)
+    yield from misused_ranks(pattern)
     for words in (["replay"], ["follow", racy], ["migrate"]):
         yield Run(f"{words[0]} with lines", [*words, "--lines", racy], status=5, said=usage)
     for command in ("check", "why", "witness"):

@@ -170,6 +170,8 @@ class Program(ProgramCase):
             short = b"".join(line for line in lines if not line.startswith(b"answers "))
             words = ["check", "--pattern"]
             yield Run(f"{it} in short", [*words, f"{it}.pattern"], status=status, wrote=short)
+            if not pattern_soaking.has_answers(self.program):
+                continue
             words.append("--answers")
             yield Run(it, [*words, f"{it}.pattern"], status=status, wrote=verdict)
         for it in examples(".fault"):

@@ -247,7 +247,12 @@ def completions_that_fail(room: str) -> Runs:
     yield Run(
         "complete told twice", ["replay", "--complete", "--complete", racy], status=5, said=usage
     )
-    yield Run("a check that is complete", ["check", "--complete", racy], status=5, said=usage)
+    yield Run(
+        "a check that is complete",
+        ["check", "--complete", racy],
+        status=5,
+        said=b"wire_up: usage --pattern\n",
+    )
 
 
 KEEPING = (

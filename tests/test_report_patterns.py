@@ -167,7 +167,8 @@ class RefusalsTest(PatternCase):
     def test_an_older_checker(self) -> None:
         older = self.write_checker("", 0)
         text = report_support.read(older)
-        self.write("checker", re.sub(r"(?m)^\"check --.*\n", "", text))
+        helped = text.replace('; echo "  --pattern"', " | sed s/--pattern//g")
+        self.write("checker", re.sub(r"(?m)^\"check --pattern.*\n", "", helped))
         self.refuse(older, r"wire_up-report: \S+: judges no patterns, and \S+it.pattern is one")
 
     def test_a_pattern_with_a_fault(self) -> None:

@@ -7,12 +7,17 @@ use std::io::Read;
 use std::rt::Files;
 use std::sync::Wait;
 use std::thread::Threads;
-use wire_command_line::{CallPair, Command, Judged, PairOptions, ReplayOptions, Request};
+use wire_command_line::{
+    CallPair, Command, ExpandOptions, Judged, PairOptions, PatternOptions, ReplayOptions, Request,
+    Spread as SpreadAsked,
+};
 use wire_commands::{
     Ended, Manner, Mode, PairAsked, Replaying, answer_question, check_placements, check_plan,
     check_replies, follow_plan, migrate_plan, place_plan, replay_plan, witness_pair, witness_races,
 };
+use wire_pattern_commands::{Expansion, Spread, Told, check_pattern, expand_pattern};
 use wire_sched::OpenGate;
+use wire_script::Size;
 use wire_types::{Fault, FromRead, Sink, Source};
 
 /// The exit status of what was done, where nothing is to be told by it.
@@ -52,6 +57,7 @@ pub fn work_of(command: Command<'_>) -> Work {
         Command::Why(_) | Command::Witness(_) | Command::Witnesses(_) => Work::Searching,
         Command::Migrate => Work::Migrating,
         Command::Place(_) => Work::Placing,
+        Command::Expand(_) => Work::Expanding,
     }
 }
 
@@ -121,6 +127,11 @@ pub fn run_command<R: Read, W: Sink>(
             place_plan(rt.alloc(), request.size, reader, writer, ranks)?;
             Ok(DONE)
         }
+        Command::Expand(options) => {
+            let asked = expansion_of(options, request.size);
+            expand_pattern(rt.alloc(), asked, reader, writer)?;
+            Ok(DONE)
+        }
         Command::Witness(options) => {
             let asked = asked_of(options);
             status_of(witness_pair(rt.alloc(), manner, reader, writer, asked))
@@ -131,7 +142,7 @@ pub fn run_command<R: Read, W: Sink>(
     }
 }
 
-/// Checks a plan on the placements that are asked for.
+/// Checks a plan on the placements that are asked for, or a pattern.
 fn check<S: Source, W: Sink>(
     rt: &(impl AllocGlobal + Threads + Sync),
     manner: Manner<'_>,
@@ -143,6 +154,9 @@ fn check<S: Source, W: Sink>(
         Judged::Written => check_plan(rt, rt.alloc(), manner, reader, writer),
         Judged::Anywhere => check_placements(rt, rt.alloc(), manner, reader, writer),
         Judged::Same => check_replies(rt, rt.alloc(), manner, reader, writer),
+        Judged::Pattern(options) => {
+            check_pattern(rt, rt.alloc(), told_of(options), reader, writer)
+        }
     }
 }
 
@@ -159,6 +173,32 @@ fn probe<R: Read>(reader: &mut FromRead<R>) -> Result<(), Fault> {
     match reader.inner.read(&mut [0; 0]) {
         Ok(_) => Ok(()),
         Err(_) => Err(Fault::Read),
+    }
+}
+
+/// What `check` is to tell of a pattern besides its verdict.
+fn told_of(options: PatternOptions) -> Told {
+    Told {
+        answers: options.answers,
+        complete: options.complete,
+    }
+}
+
+/// On which nodes `expand` is to put ranks.
+fn spread_of(spread: SpreadAsked) -> Spread {
+    match spread {
+        SpreadAsked::Apart => Spread::Apart,
+        SpreadAsked::PerNode(each) => Spread::PerNode(each),
+        SpreadAsked::ByNode(nodes) => Spread::ByNode(nodes),
+    }
+}
+
+/// Which instance `expand` is to write.
+fn expansion_of<'a>(options: ExpandOptions<'a>, size: Size) -> Expansion<'a> {
+    Expansion {
+        ranks: options.ranks,
+        spread: spread_of(options.spread),
+        size,
     }
 }
 

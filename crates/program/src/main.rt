@@ -97,20 +97,19 @@ fn obey<'a>(
 /// Tells why the words request nothing.
 fn refuse(rt: &(impl Print + Eprint + AllocGlobal), refusal: Refusal) -> Result<u8, Failure> {
     match refusal {
-        Refusal::Workers => {
-            let _ = rt.eprintln("wire_up: usage --workers");
-            Err(Failure::Usage)
-        }
-        Refusal::Same => {
-            let _ = rt.eprintln("wire_up: usage --same");
-            Err(Failure::Usage)
-        }
-        Refusal::Witness => {
-            let _ = rt.eprintln("wire_up: usage witness");
-            Err(Failure::Usage)
-        }
+        Refusal::Workers => tell_misused(rt, "wire_up: usage --workers"),
+        Refusal::Same => tell_misused(rt, "wire_up: usage --same"),
+        Refusal::Pattern => tell_misused(rt, "wire_up: usage --pattern"),
+        Refusal::Spread => tell_misused(rt, "wire_up: usage expand"),
+        Refusal::Witness => tell_misused(rt, "wire_up: usage witness"),
         Refusal::Usage(error) => tell(rt, &error),
     }
+}
+
+/// Tells by this line which words are misused.
+fn tell_misused(rt: &impl Eprint, line: &str) -> Result<u8, Failure> {
+    let _ = rt.eprintln(line);
+    Err(Failure::Usage)
 }
 
 /// What a command notes while it works: how far it is, and what it was given and has read.

@@ -71,6 +71,7 @@ pub enum Work {
     Searching,
     Migrating,
     Placing,
+    Expanding,
 }
 
 impl Work {
@@ -83,6 +84,7 @@ impl Work {
             Work::Searching => "searching",
             Work::Migrating => "migrating",
             Work::Placing => "placing",
+            Work::Expanding => "expanding",
         }
     }
 }

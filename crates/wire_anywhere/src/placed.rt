@@ -108,8 +108,10 @@ impl PlacedList {
 
     /// The findings of a plan with these names, each once, in their order.
     pub(crate) fn in_order(self, names: &Texts) -> PlacedList
-        ensures those { (plan : runs.Plan) → AreNamesOf plan names.now → AreSomewhere plan self → (f : Placed) → Tells plan result f ↔ Tells plan self f }
-        ensures sorted { (plan : runs.Plan) → AreNamesOf plan names.now → AreSomewhere plan self → IsPlacedSorted (lower_name names.now) (all_placed plan result) }
+        ensures those { (plan : runs.Plan) → AreNamesOf plan names.now → AreSomewhere plan self
+            → (f : Placed) → Tells plan result f ↔ Tells plan self f }
+        ensures sorted { (plan : runs.Plan) → AreNamesOf plan names.now → AreSomewhere plan self
+            → IsPlacedSorted (lower_name names.now) (all_placed plan result) }
     {
         let PlacedList { mut entries } = self;
         entries.sort_unstable_by(|x, y| compare(names, x, y));

@@ -1,6 +1,7 @@
 -- The command line of `wire_up` as `clap` reads it, and what the words of one ask for.
 use Rattle.std.specs.Prelude.{◌≡◌, ◌⊎◌, Bool, true, false, List, [], ◌∷◌, map, flat_map, option_to_list, unwrap_or}
-use Rattle.std.specs.Prelude.{Option, Some, is_some, codes, if◌then◌else◌}
+use Rattle.std.specs.Prelude.{Option, Some, is_some, option_map, codes, if◌then◌else◌}
+use Rattle.std.specs.Borrow.{Bor}
 use Rattle.std.specs.List.{list_all}
 use Rattle.std.specs.Option.{option_map_or}
 use Rattle.std.specs.Str.{bytes_eq}
@@ -12,6 +13,10 @@ use Rattle.clap.specs.declared.builder.action.ArgAction.TheVariants.{SetTrue}
 use Rattle.clap.specs.declared.error.Error.{Error}
 use Rattle.clap.specs.declared.error.kind.ErrorKind.TheVariants.{MissingRequiredArgument}
 use Rattle.wire_command_line.specs.declared.wanted.Asked.{Asked}
+
+-- the text of a word that may be left out
+abbrev pub text_of : Option (Bor Text) → Option Text
+text_of word = option_map (λ w. w.now) word
 
 -- a word of a command's own, which may be left out or not
 abbrev pub optional_word : Text → Rule
@@ -46,7 +51,9 @@ with_large line = with_plan (with_rule line (flag (codes "large")))
 
 -- the commands
 abbrev pub check_line : App
-check_line = with_large (with_forms (with_rule (with_rule (new_app (codes "check")) (flag (codes "anywhere"))) (flag (codes "same"))))
+check_line =
+    with_large (with_forms (with_rule (with_rule (with_rule (with_rule (with_rule (new_app (codes "check"))
+    (flag (codes "anywhere"))) (flag (codes "same"))) (flag (codes "pattern"))) (flag (codes "answers"))) (flag (codes "complete"))))
 
 abbrev pub replay_line : App
 replay_line =
@@ -73,7 +80,14 @@ witness_line =
     (flag (codes "first"))) (flag (codes "second"))) (option_with_word (codes "most"))))
     (optional_word (codes "P"))) (optional_word (codes "N"))) (optional_word (codes "Q"))) (optional_word (codes "M")))
 
--- the program: it needs one of the seven, and has a version
+-- it reads a pattern, whose faults aren't explained
+abbrev pub expand_line : App
+expand_line =
+    with_rule (with_rule (with_rule (with_rule (with_rule (with_rule (new_app (codes "expand"))
+    (option_with_word (codes "ranks"))) (option_with_word (codes "per-node"))) (option_with_word (codes "by")))
+    (option_with_word (codes "nodes"))) (flag (codes "large"))) (optional_word (codes "FILE"))
+
+-- the program: it needs one of the eight, and has a version
 abbrev pub program_alone : App
 program_alone = record (new_app (codes "wire_up")) {
   top = record (new_app (codes "wire_up")).top { has_version = true; subcommand_required = true };
@@ -81,8 +95,9 @@ program_alone = record (new_app (codes "wire_up")) {
 
 abbrev pub program_line : App
 program_line =
-    with_subcommand (with_subcommand (with_subcommand (with_subcommand (with_subcommand (with_subcommand (with_subcommand program_alone
-    check_line.top) replay_line.top) follow_line.top) why_line.top) migrate_line.top) place_line.top) witness_line.top
+    with_subcommand (with_subcommand (with_subcommand (with_subcommand (with_subcommand (with_subcommand (with_subcommand
+    (with_subcommand program_alone check_line.top) replay_line.top) follow_line.top) why_line.top) migrate_line.top) place_line.top)
+    witness_line.top) expand_line.top
 
 -- the words of a command's own that were given, in the order in which they stand
 abbrev pub words_given : List Row → List Text
@@ -118,8 +133,14 @@ pub record SaidBy (name : Text) (rows : List Row) (asked : Asked) : Type 0 where
   pub words : map (λ w. w.now) asked.words.items ≡ words_given rows
   pub workers : asked.workers.now ≡ workers_word rows
   pub most : asked.most.now ≡ most_word rows
+  pub ranks : text_of asked.ranks ≡ first_of (codes "ranks") rows
+  pub per_node : text_of asked.per_node ≡ first_of (codes "per-node") rows
+  pub by : text_of asked.by ≡ first_of (codes "by") rows
+  pub nodes : text_of asked.nodes ≡ first_of (codes "nodes") rows
   pub anywhere : asked.anywhere ≡ is_set (codes "anywhere") rows
   pub same : asked.same ≡ is_set (codes "same") rows
+  pub pattern : asked.pattern ≡ is_set (codes "pattern") rows
+  pub answers : asked.answers ≡ is_set (codes "answers") rows
   pub lines : asked.lines ≡ is_set (codes "lines") rows
   pub json : asked.json ≡ is_set (codes "json") rows
   pub anyway : asked.anyway ≡ is_set (codes "anyway") rows

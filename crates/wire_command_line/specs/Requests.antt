@@ -1,10 +1,9 @@
 -- What a command line requests: a command with all that it needs.
 use Rattle.std.specs.Prelude.{◌≡◌, ◌⊎◌, ◌&&◌, ◌||◌, Bool, true, false, not, if◌then◌else◌, List, [], ◌∷◌, Option, Some}
-use Rattle.std.specs.Prelude.{None, is_some, option_map, codes}
+use Rattle.std.specs.Prelude.{None, is_some, codes}
 use Rattle.std.specs.Option.{option_map_or}
 use Rattle.std.specs.List.{list_any}
 use Rattle.std.specs.Str.{bytes_eq}
-use Rattle.std.specs.Borrow.{Bor}
 use Rattle.clap.specs.Words.{Row, Text, HasKind, kind_of, fault_of, first_of, subcommand_of}
 use Rattle.wire_types.specs.declared.Form.{Form}
 use Rattle.wire_types.specs.declared.Form.TheVariants.{Lines, Places, Json, PlacedJson}
@@ -13,23 +12,22 @@ use Rattle.wire_types.specs.declared.Orders.TheVariants.{Both, OfFirst, OfSecond
 use Rattle.wire_script.specs.declared.Size.{Size}
 use Rattle.wire_script.specs.declared.Size.TheVariants.{Large, OfVersion}
 use Rattle.clap.specs.declared.error.kind.ErrorKind.TheVariants.{MissingRequiredArgument}
-use Rattle.wire_command_line.specs.CommandLine.{program_line, has_needed, is_set, most_word, workers_word}
+use Rattle.wire_command_line.specs.CommandLine.{program_line, has_needed, is_set, most_word, text_of, workers_word}
+use Rattle.wire_command_line.specs.Spreads.{spread_by, spread_said}
 use Rattle.wire_command_line.specs.Workers.{most_said, workers_said}
 use Rattle.wire_command_line.specs.declared.request.CallPair.{CallPair}
 use Rattle.wire_command_line.specs.declared.request.CallWords.{CallWords}
 use Rattle.wire_command_line.specs.declared.request.Command.{Command}
-use Rattle.wire_command_line.specs.declared.request.Command.TheVariants.{Check, Replay, Follow, Why, Migrate, Place, Witness}
-use Rattle.wire_command_line.specs.declared.request.Command.TheVariants.{Witnesses}
+use Rattle.wire_command_line.specs.declared.request.Command.TheVariants.{Check, Replay, Follow, Why, Migrate, Place, Expand}
+use Rattle.wire_command_line.specs.declared.request.Command.TheVariants.{Witness, Witnesses}
 use Rattle.wire_command_line.specs.declared.request.Judged.{Judged}
-use Rattle.wire_command_line.specs.declared.request.Judged.TheVariants.{Written, Anywhere, Same}
+use Rattle.wire_command_line.specs.declared.request.Judged.TheVariants.{Written, Anywhere, Same, Pattern}
+use Rattle.wire_command_line.specs.declared.request.PatternOptions.{PatternOptions}
 use Rattle.wire_command_line.specs.declared.request.Request.{Request}
 use Rattle.wire_command_line.specs.declared.request.Refusal.{Refusal}
 use Rattle.wire_command_line.specs.declared.request.Refusal.TheVariants.{Usage, Workers, Same as SameAlone}
+use Rattle.wire_command_line.specs.declared.request.Refusal.TheVariants.{Pattern as PatternMisfit, Spread as NoSpread}
 use Rattle.wire_command_line.specs.declared.request.Refusal.TheVariants.{Witness as Misfit}
-
--- the text of a word that may be left out
-abbrev pub text_of : Option (Bor Text) → Option Text
-text_of word = option_map (λ w. w.now) word
 
 -- the words of these two names, which are those of a call
 pub record NamesCall (proc number : Text) (rows : List Row) (call : CallWords) : Type 0 where
@@ -57,16 +55,38 @@ judged_of true false = Some Anywhere
 judged_of true true = Some Same
 judged_of false true = None
 
+-- whether one of these flags is given: then an order is not written alone
+abbrev pub has_form : List Row → Bool
+has_form rows = is_set (codes "lines") rows || is_set (codes "json") rows
+
+-- whether a flag is given that doesn't go with `--pattern`
+abbrev pub has_other : List Row → Bool
+has_other rows =
+    is_set (codes "anywhere") rows || is_set (codes "same") rows || has_form rows || is_set (codes "large") rows || is_set (codes "explain") rows
+
+-- whether a flag is given that needs `--pattern`
+abbrev pub needs_pattern : List Row → Bool
+needs_pattern rows = is_set (codes "answers") rows || is_set (codes "complete") rows
+
+-- whether the flags go with `--pattern`, or without it
+abbrev pub fits_pattern : List Row → Bool
+fits_pattern rows = if is_set (codes "pattern") rows then not (has_other rows) else not (needs_pattern rows)
+
+-- what `check` is to tell of a pattern besides its verdict
+abbrev pub told_said : List Row → PatternOptions
+told_said rows = record { answers = is_set (codes "answers") rows; complete = is_set (codes "complete") rows }
+
+-- what `check` is to judge: a pattern, or a plan on the placements that two flags ask for; nothing where flags don't go
+-- together
 abbrev pub judged_said : List Row → Option Judged
-judged_said rows = judged_of (is_set (codes "anywhere") rows) (is_set (codes "same") rows)
+judged_said rows =
+    if not (fits_pattern rows) then None
+    else (if is_set (codes "pattern") rows then Some (Pattern (told_said rows))
+    else judged_of (is_set (codes "anywhere") rows) (is_set (codes "same") rows))
 
 -- the limits that a flag asks for
 abbrev pub size_of : Bool → Size
 size_of large = if large then Large else OfVersion
-
--- whether one of these flags is given: then an order is not written alone
-abbrev pub has_form : List Row → Bool
-has_form rows = is_set (codes "lines") rows || is_set (codes "json") rows
 
 -- which orders two flags ask for, nothing where both are given, or where one is given and the answer is to have a form
 abbrev pub orders_of : Bool → Bool → Bool → Option Orders
@@ -98,6 +118,8 @@ IsCommand name rows (Follow order) = (name ≡ codes "follow") × (Some order.no
 IsCommand name rows (Why calls) = (name ≡ codes "why") × NamesCalls rows calls
 IsCommand name rows Migrate = name ≡ codes "migrate"
 IsCommand name rows (Place ranks) = (name ≡ codes "place") × (Some ranks.now ≡ first_of (codes "RANKS") rows)
+IsCommand name rows (Expand asked) =
+    (name ≡ codes "expand") × (text_of asked.ranks ≡ first_of (codes "ranks") rows) × (Some (spread_by asked.spread) ≡ spread_said rows)
 IsCommand name rows (Witness asked) =
     (name ≡ codes "witness") × NamesCalls rows asked.calls × (Some asked.orders ≡ orders_said rows) × (first_of (codes "most") rows ≡ None)
 IsCommand name rows (Witnesses most) =
@@ -127,7 +149,7 @@ pub record IsRequestBy (command : Option (Text × List Row)) (request : Request)
 abbrev pub is_full : Text → List Row → Bool
 is_full name rows =
     list_any (bytes_eq name)
-    (codes "check" ∷ codes "replay" ∷ codes "follow" ∷ codes "why" ∷ codes "migrate" ∷ codes "place" ∷ codes "witness" ∷ [])
+    (codes "check" ∷ codes "replay" ∷ codes "follow" ∷ codes "why" ∷ codes "migrate" ∷ codes "place" ∷ codes "witness" ∷ codes "expand" ∷ [])
     && has_needed name rows
 
 -- the words of `witness` are those of two calls; one order alone has no form, and no `--most` goes with them
@@ -153,11 +175,29 @@ pub record LacksWorkers (command : Option (Text × List Row)) : Type 0 where
   pub named : command ≡ Some (codes "replay", rows)
   pub none : workers_said (workers_word rows) ≡ None
 
+-- `--same` is given, and neither `--anywhere` nor `--pattern`, nor a flag that needs the latter
+abbrev pub SameIsAlone : List Row → Type 0
+SameIsAlone rows =
+    (is_set (codes "same") rows ≡ true) × (is_set (codes "anywhere") rows ≡ false) × (is_set (codes "pattern") rows ≡ false)
+    × (needs_pattern rows ≡ false)
+
 -- it is `check`, with `--same` and without `--anywhere`
 pub record LacksAnywhere (command : Option (Text × List Row)) : Type 0 where
   pub rows : List Row
   pub named : command ≡ Some (codes "check", rows)
-  pub none : judged_said rows ≡ None
+  pub none : SameIsAlone rows
+
+-- it is `check`, and its flags don't go with `--pattern`, or not without it
+pub record LacksPattern (command : Option (Text × List Row)) : Type 0 where
+  pub rows : List Row
+  pub named : command ≡ Some (codes "check", rows)
+  pub none : fits_pattern rows ≡ false
+
+-- it is `expand`, and its options don't say how ranks are put on nodes
+pub record LacksSpread (command : Option (Text × List Row)) : Type 0 where
+  pub rows : List Row
+  pub named : command ≡ Some (codes "expand", rows)
+  pub none : spread_said rows ≡ None
 
 -- it is `witness`, and its words and options don't go together
 pub record LacksFit (command : Option (Text × List Row)) : Type 0 where
@@ -170,11 +210,14 @@ abbrev pub IsRequestOf : List Text → Request → Type 0
 IsRequestOf words request = (fault_of program_line words ≡ []) × IsRequestBy (subcommand_of program_line words) request
 
 -- why they request nothing: for a fault that `clap` finds, for want of memory or of a word, for the word of
--- `--workers`, for `--same` alone, or for what doesn't go together
+-- `--workers`, for `--same` alone, for flags that don't go with `--pattern` or need it, for options that don't say how
+-- ranks are put on nodes, or for what doesn't go together
 abbrev pub IsRefusalOf : List Text → Refusal → Type 0
 IsRefusalOf words (Usage e) =
     HasKind (fault_of program_line words) e
     ⊎ ((fault_of program_line words ≡ []) × (kind_of e ≡ MissingRequiredArgument) × (is_command (subcommand_of program_line words) ≡ false))
 IsRefusalOf words Workers = (fault_of program_line words ≡ []) × LacksWorkers (subcommand_of program_line words)
 IsRefusalOf words SameAlone = (fault_of program_line words ≡ []) × LacksAnywhere (subcommand_of program_line words)
+IsRefusalOf words PatternMisfit = (fault_of program_line words ≡ []) × LacksPattern (subcommand_of program_line words)
+IsRefusalOf words NoSpread = (fault_of program_line words ≡ []) × LacksSpread (subcommand_of program_line words)
 IsRefusalOf words Misfit = (fault_of program_line words ≡ []) × LacksFit (subcommand_of program_line words)

@@ -4,7 +4,7 @@ use Rattle.clap.specs.Words.{App, Rule, Text, new_app, with_rule, with_subcomman
 use Rattle.wire_command_line.specs.CommandLine.{flag, needed_word, option_with_word, optional_word}
 use Rattle.wire_command_line.specs.declared.arguments.Argument.{Argument}
 use Rattle.wire_command_line.specs.declared.arguments.Kind.{Kind}
-use Rattle.wire_command_line.specs.declared.arguments.Kind.TheVariants.{Word, NeededWord, Flag, Number}
+use Rattle.wire_command_line.specs.declared.arguments.Kind.TheVariants.{Word, NeededWord, Flag, Number, Groups, Way}
 use Rattle.wire_command_line.specs.declared.arguments.Subcommand.{Subcommand}
 
 -- what an argument of each kind is
@@ -13,6 +13,8 @@ rule_of_kind Word name = optional_word name
 rule_of_kind NeededWord name = needed_word name
 rule_of_kind Flag name = flag name
 rule_of_kind Number name = option_with_word name
+rule_of_kind Groups name = option_with_word name
+rule_of_kind Way name = option_with_word name
 
 abbrev pub rule_said : Argument → Rule
 rule_said argument = rule_of_kind argument.kind argument.name.now

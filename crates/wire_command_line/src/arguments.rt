@@ -19,6 +19,10 @@ pub(crate) enum Kind {
     Flag,
     /// As an option with a number for its word.
     Number,
+    /// As an option with a list of groups, each with a number, for its word.
+    Groups,
+    /// As an option with the name of a way for its word.
+    Way,
 }
 
 /// An argument of a command.
@@ -49,6 +53,8 @@ fn make_argument<'a>(alloc: Global, argument: Argument<'a>) -> Arg<'a>
         Kind::NeededWord => made.required(true),
         Kind::Flag => made.long(argument.name).action(ArgAction::SetTrue),
         Kind::Number => made.long(argument.name).value_name("COUNT"),
+        Kind::Groups => made.long(argument.name).value_name("GROUPS"),
+        Kind::Way => made.long(argument.name).value_name("WAY"),
     }
 }
 

@@ -42,6 +42,20 @@ const LINES: Argument<'static> = Argument {
     help: "Tells the file and the line of each call, in the form that editors and terminals open",
 };
 
+/// What each `get-now` of a pattern is answered with.
+const ANSWERS: Argument<'static> = Argument {
+    name: "answers",
+    kind: Kind::Flag,
+    help: "With --pattern: tells all statuses with which each get-now is answered",
+};
+
+/// Whether each `get-now` of a pattern always succeeds.
+const ALL_SUCCEED: Argument<'static> = Argument {
+    name: "complete",
+    kind: Kind::Flag,
+    help: "With --pattern: ends with status 1 if one of these statuses isn't PMIX_SUCCESS",
+};
+
 /// The limits are lifted.
 const LARGE: Argument<'static> = Argument {
     name: "large",
@@ -61,6 +75,20 @@ const PLAN: Argument<'static> = Argument {
     name: "FILE",
     kind: Kind::Word,
     help: "The plan, standard input if not given",
+};
+
+/// What `check` judges, which may be left out.
+const PLAN_OR_PATTERN: Argument<'static> = Argument {
+    name: "FILE",
+    kind: Kind::Word,
+    help: "The plan, or with --pattern the pattern; standard input if not given",
+};
+
+/// The pattern, which may be left out.
+const PATTERN: Argument<'static> = Argument {
+    name: "FILE",
+    kind: Kind::Word,
+    help: "The pattern, standard input if not given",
 };
 
 /// The order, which has to be given.
@@ -94,6 +122,13 @@ fn check_command<'a>() -> Subcommand<'a>
                 help: "With --anywhere: where nothing is found, names each call that replies differently elsewhere",
             },
             Argument {
+                name: "pattern",
+                kind: Kind::Flag,
+                help: "Judges a pattern: every number of ranks on every placement",
+            },
+            ANSWERS,
+            ALL_SUCCEED,
+            Argument {
                 name: "lines",
                 kind: Kind::Flag,
                 help: "Groups findings that are alike, and tells where the calls of each group's first finding stand",
@@ -101,7 +136,7 @@ fn check_command<'a>() -> Subcommand<'a>
             JSON,
             LARGE,
             EXPLAIN,
-            PLAN,
+            PLAN_OR_PATTERN,
         ],
     }
 }
@@ -253,6 +288,39 @@ fn witness_command<'a>() -> Subcommand<'a>
     }
 }
 
+fn expand_command<'a>() -> Subcommand<'a>
+    ensures { line_said result ≡ spec.expand_line }
+{
+    Subcommand {
+        name: "expand",
+        about: "Writes the plan of one instance of a pattern",
+        arguments: &[
+            Argument {
+                name: "ranks",
+                kind: Kind::Groups,
+                help: "How many ranks each group has, as workers=4,servers=2 (its least number if it isn't named)",
+            },
+            Argument {
+                name: "per-node",
+                kind: Kind::Number,
+                help: "Puts so many ranks on each node, in rank order",
+            },
+            Argument {
+                name: "by",
+                kind: Kind::Way,
+                help: "With 'node': deals the ranks in turn to the nodes of --nodes",
+            },
+            Argument {
+                name: "nodes",
+                kind: Kind::Number,
+                help: "With --by node: how many nodes there are",
+            },
+            LARGE,
+            PATTERN,
+        ],
+    }
+}
+
 /// The program without its commands.
 pub(crate) fn program<'a>(alloc: Global) -> Command<'a>
     ensures { IsLine spec.program_alone result }
@@ -282,7 +350,7 @@ fn with_command<'a>(
 }
 
 /// The commands, in the order in which help lists them.
-fn commands<'a>() -> [Subcommand<'a>; 7]
+fn commands<'a>() -> [Subcommand<'a>; 8]
     ensures { with_commands spec.program_alone result ≡ spec.program_line }
 {
     [
@@ -293,6 +361,7 @@ fn commands<'a>() -> [Subcommand<'a>; 7]
         migrate_command(),
         place_command(),
         witness_command(),
+        expand_command(),
     ]
 }
 

@@ -8,12 +8,14 @@ mod matching;
 mod number;
 mod reading;
 pub mod request;
+mod spreading;
 pub mod wanted;
 
 pub use matching::asked;
 pub use number::workers_of;
 pub use reading::read_request;
 pub use request::{
-    CallPair, CallWords, Command, Judged, PairOptions, Refusal, ReplayOptions, Request,
+    CallPair, CallWords, Command, ExpandOptions, Judged, PairOptions, PatternOptions, Refusal,
+    ReplayOptions, Request, Spread,
 };
 pub use wanted::Asked;

@@ -6,8 +6,7 @@ ghost use Rattle.std.specs.Str.{bytes_eq};
 ghost use Rattle.clap.specs.Words.{Row, Text, HasKind, kind_of, fault_of, first_of, found_of, rows_of, subcommand_of};
 ghost use Rattle.clap.specs.Words.{subcommand_rows_of};
 ghost use Rattle.wire_command_line.specs.CommandLine as spec;
-ghost use Rattle.wire_command_line.specs.CommandLine.{AsksFor, RefusedFor, SaidBy};
-ghost use Rattle.wire_command_line.specs.Requests.{text_of};
+ghost use Rattle.wire_command_line.specs.CommandLine.{AsksFor, RefusedFor, SaidBy, text_of};
 
 use crate::commands::{command_line, program};
 use crate::wanted::Asked;
@@ -131,8 +130,14 @@ fn parse_command<'a>(
         command,
         workers: workers_given(found),
         most: most_given(found),
+        ranks: find_word(found, "ranks"),
+        per_node: find_word(found, "per-node"),
+        by: find_word(found, "by"),
+        nodes: find_word(found, "nodes"),
         anywhere: is_set(found, "anywhere"),
         same: is_set(found, "same"),
+        pattern: is_set(found, "pattern"),
+        answers: is_set(found, "answers"),
         lines: is_set(found, "lines"),
         json: is_set(found, "json"),
         anyway: is_set(found, "anyway"),

@@ -1,18 +1,21 @@
 //! The request that the words of a command line make.
 
-ghost use Rattle.std.specs.Prelude.{◌≡◌, map, codes, false, None, IfOk, IfErr, IfSome, IfNone};
-ghost use Rattle.clap.specs.Words.{first_of, found_of, rows_of, subcommand_rows_of};
+ghost use Rattle.std.specs.Prelude.{◌≡◌, List, [], map, codes, false, None, Err, IfOk, IfErr, IfSome, IfNone};
+ghost use Rattle.clap.specs.Words.{Text, fault_of, first_of, found_of, rows_of, subcommand_of, subcommand_rows_of};
+ghost use Rattle.wire_command_line.specs.CommandLine.{program_line, text_of};
 ghost use Rattle.wire_command_line.specs.Reading.{IsReadAs, IsReadBy, IsReadIn};
 ghost use Rattle.wire_command_line.specs.Requests as spec;
-ghost use Rattle.wire_command_line.specs.Requests.{NamesCall, NamesCalls, IsCommand, IsRequestOf, IsRefusalOf, text_of};
+ghost use Rattle.wire_command_line.specs.Requests.{NamesCall, NamesCalls, IsCommand, IsRequestOf, IsRefusalOf};
 
 use crate::matching::{
     find_word, has_word, is_same, is_set, match_words, most_given, tell_missing, workers_given,
 };
 use crate::number::{most_of, workers_of};
 use crate::request::{
-    CallPair, CallWords, Command, Judged, PairOptions, Refusal, ReplayOptions, Request,
+    CallPair, CallWords, Command, ExpandOptions, Judged, PairOptions, PatternOptions, Refusal,
+    ReplayOptions, Request,
 };
+use crate::spreading::read_spread;
 use clap::ArgMatches;
 use std::alloc::Global;
 use wire_script::Size;
@@ -27,6 +30,10 @@ enum Lack {
     Workers,
     /// `--anywhere`, beside `--same`.
     Anywhere,
+    /// Options that go with `--pattern`, or `--pattern` beside those that need it.
+    Pattern,
+    /// Options of `expand` that say how ranks are put on nodes.
+    Spread,
     /// Words and options of `witness` that go together.
     Fit,
 }
@@ -97,10 +104,54 @@ fn judged_of(anywhere: bool, same: bool) -> Option<Judged>
     }
 }
 
-/// Which placements `check` is to judge, where `--same` isn't given alone.
+/// Whether an option is given that doesn't go with `--pattern`.
+fn has_other(found: &ArgMatches<'_>) -> bool
+    ensures { result ≡ spec.has_other (rows_of (found_of found.now)) }
+{
+    is_set(found, "anywhere")
+        || is_set(found, "same")
+        || has_form(found)
+        || is_set(found, "large")
+        || is_set(found, "explain")
+}
+
+/// Whether an option is given that needs `--pattern`.
+fn needs_pattern(found: &ArgMatches<'_>) -> bool
+    ensures { result ≡ spec.needs_pattern (rows_of (found_of found.now)) }
+{
+    is_set(found, "answers") || is_set(found, "complete")
+}
+
+/// Whether the options go with `--pattern`, or without it.
+fn fits_pattern(found: &ArgMatches<'_>) -> bool
+    ensures { result ≡ spec.fits_pattern (rows_of (found_of found.now)) }
+{
+    if is_set(found, "pattern") {
+        !has_other(found)
+    } else {
+        !needs_pattern(found)
+    }
+}
+
+/// What `check` is to tell of a pattern besides its verdict.
+fn read_told(found: &ArgMatches<'_>) -> PatternOptions
+    ensures { result ≡ spec.told_said (rows_of (found_of found.now)) }
+{
+    let answers = is_set(found, "answers");
+    let complete = is_set(found, "complete");
+    PatternOptions { answers, complete }
+}
+
+/// What `check` is to judge, where its options go with `--pattern` or without it, and `--same` isn't given alone.
 fn read_check<'a>(found: &ArgMatches<'a>) -> Result<Command<'a>, Lack>
     ensures { IsReadAs (codes "check") (rows_of (found_of found.now)) result }
 {
+    if !fits_pattern(found) {
+        return Err(Lack::Pattern);
+    }
+    if is_set(found, "pattern") {
+        return Ok(Command::Check(Judged::Pattern(read_told(found))));
+    }
     match judged_of(is_set(found, "anywhere"), is_set(found, "same")) {
         Some(judged) => Ok(Command::Check(judged)),
         None => Err(Lack::Anywhere),
@@ -195,6 +246,17 @@ fn read_witness<'a>(found: &ArgMatches<'a>) -> Result<Command<'a>, Lack>
     }
 }
 
+/// Which instance `expand` is to write, where its options say how ranks are put on nodes.
+fn read_expand<'a>(found: &ArgMatches<'a>) -> Result<Command<'a>, Lack>
+    ensures { IsReadAs (codes "expand") (rows_of (found_of found.now)) result }
+{
+    let Some(spread) = read_spread(found) else {
+        return Err(Lack::Spread);
+    };
+    let ranks = find_word(found, "ranks");
+    Ok(Command::Expand(ExpandOptions { ranks, spread }))
+}
+
 /// The command of this name, where it has all that it needs.
 fn read_command<'a>(name: &str, found: &ArgMatches<'a>) -> Result<Command<'a>, Lack>
     ensures { IsReadAs name.now (rows_of (found_of found.now)) result }
@@ -223,6 +285,9 @@ fn read_command<'a>(name: &str, found: &ArgMatches<'a>) -> Result<Command<'a>, L
     }
     if is_same(name, "witness") {
         return read_witness(found);
+    }
+    if is_same(name, "expand") {
+        return read_expand(found);
     }
     Err(Lack::Word)
 }
@@ -261,14 +326,34 @@ fn read_matches<'a>(matches: &ArgMatches<'a>) -> Result<Request<'a>, Lack>
     }
 }
 
+/// Why a command line requests nothing whose command lacks this.
+fn refuse(alloc: Global, lack: Lack) -> Refusal
+    ensures { (words : List Text) → fault_of program_line words ≡ [] → IsReadBy (subcommand_of program_line words) (Err lack)
+        → IsRefusalOf words result }
+{
+    match lack {
+        Lack::Workers => Refusal::Workers,
+        Lack::Anywhere => Refusal::Same,
+        Lack::Pattern => Refusal::Pattern,
+        Lack::Spread => Refusal::Spread,
+        Lack::Fit => Refusal::Witness,
+        Lack::Word => match tell_missing(alloc) {
+            Ok(error) => Refusal::Usage(error),
+            Err(error) => Refusal::from(error),
+        },
+    }
+}
+
 /// What the words of a command line request. The first of them is the program's name.
 ///
 /// Where it is `Ok`, `clap` finds no fault in the words, and each word of the request is the one that its matches have
 /// by that name. `Workers` comes only for a `replay` whose word of `--workers` isn't one or more digits, `Same` only
-/// for a `check` with `--same` and without `--anywhere`, `Witness` only for a `witness` whose words and options don't
-/// go together. Any other error is one of those that `clap` has for the
-/// words, want of memory among them, or `MissingRequiredArgument` where `clap` finds no fault and a word is missing all
-/// the same (no words are known for which that is so).
+/// for a `check` with `--same` and neither `--anywhere` nor `--pattern`, `Pattern` only for a `check` with `--pattern`
+/// and an option that doesn't go with it, or with one that needs it and without it, `Spread` only for an `expand` whose
+/// options don't say how ranks are put on nodes, `Witness` only for a `witness` whose words and options don't go
+/// together. Any other error is one of those that `clap` has for the words, want of memory among them, or
+/// `MissingRequiredArgument` where `clap` finds no fault and a word is missing all the same (no words are known for
+/// which that is so).
 pub fn read_request<'a>(alloc: Global, words: &'a [&'a str]) -> Result<Request<'a>, Refusal>
     ensures ok { IfOk result (IsRequestOf (map (λ w. w.now) words.entry.now)) }
     ensures err { IfErr result (IsRefusalOf (map (λ w. w.now) words.entry.now)) }
@@ -278,9 +363,6 @@ pub fn read_request<'a>(alloc: Global, words: &'a [&'a str]) -> Result<Request<'
     drop(matches);
     match read {
         Ok(request) => Ok(request),
-        Err(Lack::Workers) => Err(Refusal::Workers),
-        Err(Lack::Anywhere) => Err(Refusal::Same),
-        Err(Lack::Fit) => Err(Refusal::Witness),
-        Err(Lack::Word) => Err(Refusal::Usage(tell_missing(alloc)?)),
+        Err(lack) => Err(refuse(alloc, lack)),
     }
 }

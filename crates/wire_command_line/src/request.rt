@@ -2,6 +2,7 @@
 
 use clap::Error;
 use std::alloc::AllocError;
+use std::num::NonZeroU32;
 use wire_script::Size;
 use wire_types::{Form, Orders};
 
@@ -31,7 +32,16 @@ pub struct ReplayOptions {
     pub complete: bool,
 }
 
-/// Which placements of a plan `check` is to judge.
+/// What `check` is to tell of a pattern besides its verdict.
+#[derive(Clone, Copy, Debug, PartialEq, Eq)]
+pub struct PatternOptions {
+    /// Of each `get-now`, all statuses with which it is answered.
+    pub answers: bool,
+    /// By the exit status, whether one of these isn't success.
+    pub complete: bool,
+}
+
+/// What `check` is to judge: a plan, on which placements, or a pattern.
 #[derive(Clone, Copy, Debug, PartialEq, Eq)]
 pub enum Judged {
     /// The one that the plan has.
@@ -40,6 +50,8 @@ pub enum Judged {
     Anywhere,
     /// Every one, and if nothing is found whether each call replies the same on all of them.
     Same,
+    /// Every number of ranks on every placement, of a pattern.
+    Pattern(PatternOptions),
 }
 
 /// Whose race `witness` is to show by two runs, and what it is to write of them.
@@ -50,10 +62,29 @@ pub struct PairOptions<'a> {
     pub orders: Orders,
 }
 
+/// How `expand` is to put ranks on nodes. A number is 1,000,000,000 for every greater one.
+#[derive(Clone, Copy)]
+pub enum Spread {
+    /// Each rank on a node of its own, or dealt in turn to as many nodes as a plan may have.
+    Apart,
+    /// So many on each node, in rank order.
+    PerNode(NonZeroU32),
+    /// Dealt in turn to so many nodes.
+    ByNode(NonZeroU32),
+}
+
+/// How many ranks of each group `expand` is to write, and on which nodes.
+#[derive(Clone, Copy)]
+pub struct ExpandOptions<'a> {
+    /// The word that lists groups with their numbers. Without it each group has its least number.
+    pub ranks: Option<&'a str>,
+    pub spread: Spread,
+}
+
 /// A command, with all that it alone needs.
 #[derive(Clone, Copy)]
 pub enum Command<'a> {
-    /// To find the races of a plan, on these placements.
+    /// To find the races of a plan, on these placements, or of a pattern.
     Check(Judged),
     /// To run a plan.
     Replay(ReplayOptions),
@@ -65,6 +96,8 @@ pub enum Command<'a> {
     Migrate,
     /// To write a plan with these ranks on one node, and all others on another.
     Place(&'a str),
+    /// To write the plan of one instance of a pattern.
+    Expand(ExpandOptions<'a>),
     /// `witness` with two calls: to show their race by two runs.
     Witness(PairOptions<'a>),
     /// `witness` without calls: to tell which races two runs show. So many are tried, 1,000,000,000 for every greater
@@ -93,6 +126,10 @@ pub enum Refusal {
     Workers,
     /// `--same` is given without `--anywhere`.
     Same,
+    /// `--pattern` is given with an option that doesn't go with it, or one that needs it is given without it.
+    Pattern,
+    /// The options of `expand` that put ranks on nodes don't go together, or don't say how.
+    Spread,
     /// The words of `witness` aren't those of a file, or of two calls and a file; an option doesn't go with them; or
     /// the word of `--most` isn't one or more digits.
     Witness,

@@ -9,8 +9,15 @@ pub struct Asked<'a> {
     pub workers: &'a str,
     /// The word of `--most`, `1000` where none was given.
     pub most: &'a str,
+    /// The words of the options of `expand`, where they were given.
+    pub ranks: Option<&'a str>,
+    pub per_node: Option<&'a str>,
+    pub by: Option<&'a str>,
+    pub nodes: Option<&'a str>,
     pub anywhere: bool,
     pub same: bool,
+    pub pattern: bool,
+    pub answers: bool,
     pub lines: bool,
     pub json: bool,
     pub anyway: bool,

@@ -11,14 +11,14 @@ use wire_types::{Fault, Sink};
 
 /// What there is to write, and how the command ends.
 #[derive(Drop)]
-pub(crate) struct Answer {
+pub struct Answer {
     pub text: Vec<u8>,
     pub ended: Ended,
 }
 
 /// Writes the text of an answer, and says how the command ends. The one fault is `Fault::Write`, with the number of
 /// bytes that went out.
-pub(crate) fn write_answer<W: Sink>(writer: &mut W, answer: &Answer) -> Result<Ended, Fault>
+pub fn write_answer<W: Sink>(writer: &mut W, answer: &Answer) -> Result<Ended, Fault>
     ensures ok { IfOk result (λ ended. (ended ≡ answer.now.ended) × Appends (W.written writer.old) (W.written writer.new) answer.now.text.items) }
     ensures quiet { OnOk result (W.failures writer.new ≡ W.failures writer.old) }
     ensures front { IfErr result (λ e. WritesFront (W.written writer.old) (W.written writer.new) answer.now.text.items e) }

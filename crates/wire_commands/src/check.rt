@@ -1,5 +1,5 @@
-//! `check`: the findings of a plan, in lines or as JSON; with places in groups, each call with its line in the file (how
-//! one finding is written as JSON stands in `calls_json.rt`).
+//! `check`: the findings of a plan, in lines or as JSON; with places in groups, each call with its line in the file
+//! (how one finding is written as JSON stands in `calls_json.rt`).
 
 ghost use Rattle.std.specs.Prelude.{◌≡◌, ◌≢◌, ◌⊎◌, Ok, Err, true, map, OnOk, IfOk, IfErr};
 ghost use Rattle.wire_types.specs.declared.Fault.TheVariants.{Memory, Read};

@@ -20,6 +20,7 @@ mod why;
 mod witness;
 mod witnesses;
 
+pub use answer::{Answer, write_answer};
 pub use check::check_plan;
 pub use check_anywhere::check_placements;
 pub use check_same::check_replies;
@@ -29,6 +30,7 @@ pub use manner::Manner;
 pub use migrate::migrate_plan;
 pub use place::place_plan;
 pub use plain::run_plainly;
+pub use reading::read_up_to;
 pub use replay::{Mode, Replayed, Replaying, replay_plan};
 pub use why::answer_question;
 pub use witness::{PairAsked, witness_pair};

@@ -14,11 +14,7 @@ use wire_types::{Fault, Form, Source};
 
 /// The bytes of a reader, which is asked until it ends or so many have come. Fails where memory runs
 /// out or a call of the reader fails.
-pub(crate) fn read_up_to<R: Source>(
-    alloc: Global,
-    reader: &mut R,
-    limit: usize,
-) -> Result<Vec<u8>, Fault>
+pub fn read_up_to<R: Source>(alloc: Global, reader: &mut R, limit: usize) -> Result<Vec<u8>, Fault>
     ensures front { IfOk result (λ v. IfSome (R.coming reader.old) (λ bytes. v.items ≡ take limit bytes)) }
     ensures bound { IfOk result (λ v. vec_len v ≤ limit) }
     ensures quiet { OnOk result (R.failures reader.new ≡ R.failures reader.old) }

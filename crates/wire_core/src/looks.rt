@@ -1,6 +1,7 @@
 //! What fences have brought from a process to a node, looked for once.
 
-ghost use Rattle.std.specs.Prelude.{◌≡◌, ◌+◌, ◌*◌, ◌-◌, ◌<◌, ◌≤◌, ◌^◌, min, max, length, ℕ, Some, false, slice_get, IfOk};
+ghost use Rattle.std.specs.Prelude.{◌≡◌, ◌+◌, ◌*◌, ◌-◌, ◌<◌, ◌≤◌, ◌^◌, min, max, length, ℕ, Some, false, slice_get};
+ghost use Rattle.std.specs.Prelude.{IfOk};
 ghost use Rattle.std.specs.Prelude.{IfErr, IfSome, if◌then◌else◌};
 ghost use Rattle.wire_runs.specs.Plan.{Plan as ThePlan, event_count, process_count};
 ghost use Rattle.wire_runs.specs.Sight.{delivered};
@@ -78,8 +79,8 @@ impl Look {
 /// and 2 there are no more: 512 processes on 512 nodes. So many looks take 5 MiB.
 const ALWAYS_KEPT: usize = 512 * 512;
 
-/// The looks that are kept. Where there are too many processes and nodes, several share a place, which has the look that
-/// was kept last; what it took the place of is looked for again.
+/// The looks that are kept. Where there are too many processes and nodes, several share a place, which has the look
+/// that was kept last; what it took the place of is looked for again.
 #[derive(Drop)]
 pub(crate) struct Looks {
     looks: Vec<Look>,
@@ -96,8 +97,8 @@ impl Model for Looks {
 }
 
 impl Looks {
-    /// No event was looked at. There is a place for each process and node, or as many as a plan has events, which aren't
-    /// fewer than the processes and nodes that its gets ask.
+    /// No event was looked at. There is a place for each process and node, or as many as a plan has events, which
+    /// aren't fewer than the processes and nodes that its gets ask.
     pub fn new(alloc: Global, processes: u32, nodes: u32, events: usize) -> Result<Looks, Fault>
         ensures ok { IfOk result (λ looks. (plan : ThePlan) → AreLooks plan looks) }
         ensures room { IfOk result (λ looks. length looks ≡ min (min (nodes * processes) (2 ^ 64 - 1)) (max events 262144)) }

@@ -131,7 +131,8 @@ impl<'a> Core<'a> {
         }
     }
 
-    /// The next event of a process: the event with the number of those that are done. The process may have no such event.
+    /// The next event of a process: the event with the number of those that are done. The process may have no such
+    /// event.
     pub fn next_event(&self, proc: Proc) -> Event
         ensures { event_of result ≡ next_event (state_of self.now) proc.number }
     {

@@ -26,10 +26,10 @@ pub(crate) struct Calling {
 
 /// A loop: its caller, the number of the step in the caller's script, and its turns.
 #[derive(Clone, Copy)]
-pub(crate) struct Round {
-    pub(crate) caller: u32,
-    pub(crate) step: usize,
-    pub(crate) turns: Turns,
+pub struct Round {
+    pub caller: u32,
+    pub step: usize,
+    pub turns: Turns,
 }
 
 /// A pattern with a cast of it, and tables of its processes.
@@ -239,4 +239,20 @@ impl<'a> Frame<'a> {
         }
         Ok(turns)
     }
+}
+
+/// The processes for which a loop over a role takes a turn, in the order of its turns.
+pub fn turns_of(
+    alloc: Global,
+    pattern: &Pattern,
+    cast: &Cast,
+    round: Round,
+    group: u32,
+) -> Result<Vec<u32>, AllocError>
+    requires { IsCast pattern.now (cast_by cast.now) }
+    ensures { IfOk result (λ v. v.items
+        ≡ plan.turns (cast_of (cast_by cast.now)) round.caller round.step group (turns_by round.turns)) }
+{
+    let frame = Frame::new(alloc, pattern, cast)?;
+    frame.turns(round, group)
 }

@@ -102,7 +102,7 @@ name_byte_plain b =
     comma_in true false e = e
     comma_in false c e = e
 
-name_plain : (xs : List ℕ) → list_all is_name_byte xs ≡ true → list_all no_comma xs ≡ true
+pub name_plain : (xs : List ℕ) → list_all is_name_byte xs ≡ true → list_all no_comma xs ≡ true
 name_plain [] h = refl
 name_plain (x ∷ xs) h =
     let head : no_comma x ≡ true = name_byte_plain x (and_left _ _ h) in

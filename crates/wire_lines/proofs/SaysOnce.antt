@@ -95,7 +95,7 @@ scope_by_number Remote Remote e = refl
 scope_by_number Global Global e = refl
 scope_by_number _ _ e = absurd (omega arith)
 
-scope_once : (s t : Scope) → spelled_scope s ≡ spelled_scope t → s ≡ t
+pub scope_once : (s t : Scope) → spelled_scope s ≡ spelled_scope t → s ≡ t
 scope_once s t e = scope_by_number s t (sym (shows_scope s) ∙ ap shown_of_scope e ∙ shows_scope t)
 
 proc_once : (j k : List ℕ) (r s : ℕ) → IsTrue (is_name j) → IsTrue (is_name k) → spelled_proc j r ≡ spelled_proc k s → (j ≡ k) × (decimal r ≡ decimal s)
@@ -151,7 +151,7 @@ set_once (Listed is) Own la lb e = absurd (not_all is la.0 la.1 e)
 set_once (Listed is) (Listed js) la lb e =
     ap Listed (items_once is js la.1 lb.1 (sym (cut_items is la.0 la.1) ∙ ap (slice_split comma) e ∙ cut_items js lb.0 lb.1))
 
-collect_once : (a b : Bool) → collect_words a ≡ collect_words b → a ≡ b
+pub collect_once : (a b : Bool) → collect_words a ≡ collect_words b → a ≡ b
 collect_once true true e = refl
 collect_once true false e = absurd (cc)
 collect_once false true e = absurd (cc)

@@ -177,7 +177,7 @@ fn target_of<'a>(words: &[&'a [u8]]) -> Option<(ProcName<'a>, &'a [u8])>
 }
 
 /// Whether a fence collects, by the words after its set.
-fn collect_of(words: &[&[u8]]) -> Option<bool>
+pub fn collect_of(words: &[&[u8]]) -> Option<bool>
     ensures found { IfSome result (λ c. texts_of words.now ≡ collect_words c) }
     ensures none { IfNone result ((collect : Bool) → texts_of words.now ≢ collect_words collect) }
 {
@@ -189,7 +189,7 @@ fn collect_of(words: &[&[u8]]) -> Option<bool>
 }
 
 /// Whether the only word is a star.
-fn is_star_alone(words: &[&[u8]]) -> bool
+pub fn is_star_alone(words: &[&[u8]]) -> bool
     ensures { IsTrue result ↔ (texts_of words.now ≡ codes "*" ∷ []) }
 {
     match words {

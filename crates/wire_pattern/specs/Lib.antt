@@ -3,3 +3,4 @@ pub mod Planned
 pub mod Instances
 pub mod Shown
 pub mod Lawful
+pub mod Sound

@@ -1,6 +1,5 @@
 -- What a get-now finds in a large plan, its image finds in a small one that stands in it.
-use Rattle.std.proofs.Common.{◌≡◌, ℕ, suc, ◌≤◌, true, false, Some, is_some, inl, inr, refl, sym, ap, ◌∙◌, subst, arith}
-use Rattle.std.specs.Prelude.{option_map}
+use Rattle.std.proofs.Common.{◌≡◌, ℕ, suc, ◌≤◌, true, Some, is_some, inl, inr, refl, sym, ap, ◌∙◌, subst, arith}
 use Rattle.std.proofs.lemmas.Bool.{cases_lt, true≢false}
 use Rattle.wire_types.specs.declared.Status.{Status}
 use Rattle.wire_types.specs.declared.Status.TheVariants as status
@@ -8,15 +7,13 @@ use Rattle.wire_runs.specs.Plan.{Plan, Event, GetNow, kind, event_count, node_of
 use Rattle.wire_runs.specs.Puts.{own, stored, scope_of}
 use Rattle.wire_runs.specs.Fences.{is_member}
 use Rattle.wire_runs.specs.Order.{Stores, IsArrival, Live, Before}
-use Rattle.wire_runs.specs.Races.{Delivery, ByFence, ByGet, IsOf, FenceDelivers, GetDelivers, Delivers, ComesSurely}
-use Rattle.wire_runs.specs.Embeddings.{Renaming, image, IsKeyOf, IsSetOf, IsEmbedding, IsKept, IsKeptFence}
-use Rattle.wire_runs.proofs.Basics.{event_within, process_within, stored_stays}
+use Rattle.wire_runs.specs.Races.{Delivery, ByFence, ByGet, IsOf, Delivers, ComesSurely}
+use Rattle.wire_runs.specs.Embeddings.{Renaming, image, IsKeyOf, IsEmbedding, IsKept, IsKeptFence}
+use Rattle.wire_runs.proofs.Basics.{event_within, stored_stays}
 use Rattle.wire_runs.proofs.Puts.{first_stores}
-use Rattle.wire_runs.proofs.Histories.{before_live}
-use Rattle.wire_runs.proofs.Arrivals.{left_first, left_full, left_arrived, node_among, mate_on}
-use Rattle.wire_runs.proofs.Images.{mapped_some, own_some, stored_end, stores_into, full_back, arrival_into, arrival_back}
+use Rattle.wire_runs.proofs.Images.{mapped_some, own_some, stored_end, stores_into, arrival_into, arrival_back}
 use Rattle.wire_runs.proofs.EmbeddedOrder.{chain_into, live_back}
-use Rattle.wire_runs.proofs.EmbeddedFindings.{mate_within, scope_same, get_delivers_back, fence_delivers_back}
+use Rattle.wire_runs.proofs.EmbeddedFindings.{scope_same, sure_into, get_delivers_back, fence_delivers_back}
 use Rattle.wire_pattern_laws.specs.Finds.{found_status, shown_status, event_in, FindsOwn, FindsNear, near_nothing, near_value, FindsFar, far_nothing, far_value}
 
 -- a process stores a key once
@@ -57,63 +54,8 @@ module _ (to : Renaming) (small large : Plan) (e : IsEmbedding to small large) (
       (is_found ∙ ap (λ u. shown_status (admits (scope_of large (to.process owner) u) true)) (sym v.2)
       ∙ ap (λ s. shown_status (admits s true)) (scope_same to small large e owner key (event_count small owner) v.0 v.1))
 
-  -- a delivery that surely comes first in the small plan surely comes first in the large one
-  sure_into : (d : Delivery) → Delivers small owner key (node_of small get.proc) d → ((z : Event) → IsOf small d z → Before small z get) →
-      ComesSurely large (to.process owner) (to.key key) (node_of large (to.process get.proc)) (image to get)
-  sure_into (ByGet g) d before =
-      let b : GetDelivers small owner key (node_of small get.proc) g = d.brings_it in
-      let chain = chain_into to small large e (before g refl) live_get in
-      record {
-        delivery = ByGet (image to g);
-        delivers = record {
-          brings_it = record {
-            away = record {
-              keeps = e.keeps ∙ b.away.keeps;
-              is = e.kinds_agree g _ b.away.is;
-              put = to.place owner b.away.put;
-              committed = stored_end to small large e owner key on_key ∙ ap (option_map (to.place owner)) b.away.committed;
-              admitted = ap (λ s. admits s false) (scope_same to small large e owner key _ b.away.put b.away.committed) ∙ b.away.admitted;
-            };
-            there = e.together g.proc get.proc (process_within small g.proc g.at _ b.away.is) (process_within small get.proc get.at _ is) b.there;
-          };
-          all_live = λ z s. subst (λ v. Live large v) (sym s) (before_live chain);
-        };
-        all_before = λ z s. subst (λ v. Before large v (image to get)) (sym s) chain;
-      }
-  sure_into (ByFence members j) d before =
-      let b : FenceDelivers small owner key (node_of small get.proc) members j = d.brings_it in
-      let a = b.away.arrival in
-      let mine : Event = event_in owner b.away.at in
-      let fence : IsSetOf small members = (mine, _, a.is, refl) in
-      let chain = chain_into to small large e (before mine a) live_get in
-      let left = left_first (to.members members) j (arrival_into to small large e mine members j a) chain in
-      let full = left_full large (to.members members) j (image to get) left in
-      let mate = mate_on small members (node_of small get.proc) b.reaches in
-      let within = event_within small owner b.away.at _ a.is in
-      record {
-        delivery = ByFence (to.members members) j;
-        delivers = record {
-          brings_it = record {
-            away = record {
-              full = full;
-              collecting = e.all_collect members j fence full b.away.collecting;
-              member = e.member members owner fence ∙ b.away.member;
-              at = to.place owner b.away.at;
-              put = to.place owner b.away.put;
-              arrival = arrival_into to small large e mine members j a;
-              committed = e.stores owner key b.away.at on_key (omega (arith, within)) ∙ ap (option_map (to.place owner)) b.away.committed;
-              admitted = ap (λ s. admits s false) (scope_same to small large e owner key b.away.at b.away.put b.away.committed) ∙ b.away.admitted;
-            };
-            reaches = node_among large (to.members members) (to.process mate.0) _ (e.member members mate.0 fence ∙ mate.1)
-                (e.together mate.0 get.proc (mate_within small members j mine mate.0 (full_back to small large e members j fence full) a mate.1) (process_within small get.proc get.at _ is) mate.2);
-          };
-          all_live = λ z c. before_live (left_arrived large (to.members members) j (image to get) left z c);
-        };
-        all_before = left_arrived large (to.members members) j (image to get) left;
-      }
-
   pub far_nothing_back : (found : Status) → (ComesSurely large (to.process owner) (to.key key) (node_of large (to.process get.proc)) (image to get) → ⊥) → found ≡ status.NotFound → FindsFar small get owner key found
-  far_nothing_back found none is_found = far_nothing (λ sure. none (sure_into sure.delivery sure.delivers sure.all_before)) is_found
+  far_nothing_back found none is_found = far_nothing (λ sure. none (sure_into to small large e owner key get is live_get sure.delivery sure.delivers sure.all_before)) is_found
 
   none_back : (z : Event) → Live large (image to z) → (Before large (image to get) (image to z) → ⊥) → Before small get z → ⊥
   none_back z l none b = none (chain_into to small large e b l)

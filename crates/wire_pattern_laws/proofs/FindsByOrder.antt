@@ -1,28 +1,26 @@
 -- What a get-now finds, told by the order of calls alone: so it can be handed on to a plan of which no run is known.
-use Rattle.std.proofs.Common.{◌≡◌, ℕ, suc, ◌<◌, ◌≤◌, true, false, Option, Some, None, is_some, inl, inr, refl, sym, ap, ◌∙◌, subst, arith, eq-eqb, ne_eqb}
+use Rattle.std.proofs.Common.{◌≡◌, ℕ, suc, ◌≤◌, true, false, Option, Some, None, is_some, inl, inr, refl, sym, ap, ◌∙◌, arith, eq-eqb, ne_eqb}
 use Rattle.std.specs.Prelude.{if◌then◌else◌}
-use Rattle.std.proofs.lemmas.Bool.{cond-true, cond-false, cases_eq, cases_lt, cases_Bool, and_from, true≢false}
+use Rattle.std.proofs.lemmas.Bool.{cond-true, cond-false, cases_eq, cases_Bool, true≢false}
 use Rattle.std.proofs.lemmas.Option.{none-some, same_Some}
 use Rattle.wire_types.specs.declared.Status.{Status}
 use Rattle.wire_types.specs.declared.Status.TheVariants as status
 use Rattle.wire_runs.specs.Plan.{Plan, Event, GetNow, kind, event_count, process_count, node_of, same_node, admits}
 use Rattle.wire_runs.specs.State.{Answer, State, IsDone}
 use Rattle.wire_runs.specs.Puts.{own, stored, scope_of}
-use Rattle.wire_runs.specs.Fences.{arrivals}
-use Rattle.wire_runs.specs.Sight.{Outside, Shown, held, served, has_brought, brought, get_now_sees}
+use Rattle.wire_runs.specs.Sight.{Outside, Shown, held, served, brought, get_now_sees}
 use Rattle.wire_runs.specs.Step.{may_do, sight_reply, reply}
 use Rattle.wire_runs.specs.Order.{Stores, Live, Before}
 use Rattle.wire_runs.specs.Races.{Delivery, ByFence, ByGet, IsOf, FenceDelivers, GetDelivers, Delivers, ComesSurely, IsSettled}
 use Rattle.wire_runs.specs.Fate.{Fate, Waits, Says, HasFate, dead, told, IsPast}
 use Rattle.wire_runs.proofs.Basics.{event_within, process_within, stored_own, stored_stays, stores_commit}
-use Rattle.wire_runs.proofs.Due.{ClosedCut, chain_in, arrived}
+use Rattle.wire_runs.proofs.Due.{ClosedCut, chain_in}
 use Rattle.wire_runs.proofs.Puts.{stored_fixed, put_once, first_stores}
-use Rattle.wire_runs.proofs.Brought.{no_least, complete_more, complete_if_arrived}
-use Rattle.wire_runs.proofs.Getters.{Answered, answered_value, get_brought}
-use Rattle.wire_runs.proofs.Came.{Came, by_fence, by_get, came, came_is, brings_parts}
+use Rattle.wire_runs.proofs.Getters.{Answered}
+use Rattle.wire_runs.proofs.Deliveries.{none_delivers}
+use Rattle.wire_runs.proofs.Came.{came, came_is, came_by, came_of}
 use Rattle.wire_runs.proofs.Fates.{get_fate, past_closed, past_known, past_not_yet}
 use Rattle.wire_runs.proofs.Histories.{before_live}
-use Rattle.wire_runs.proofs.Arrivals.{all_undenied}
 use Rattle.wire_pattern_laws.specs.Finds.{status_of, found_status, shown_status, event_in, FindsOwn, FindsNear, near_nothing, near_value, FindsFar, far_nothing, far_value, Finds, from_own, from_near, from_far}
 
 -- a state that has all that is before the get, and not the get
@@ -36,61 +34,6 @@ pub record Poised (plan : Plan) (s : State) (get : Event) : Type 0 where
 -- what is done the get isn't before
 never_after : (plan : Plan) (s : State) (get : Event) → Poised plan s get → (z : Event) → IsDone s z → Before plan get z → ⊥
 never_after plan s get at z d b = let e = chain_in at.closed b d in let n = at.not_yet in omega (arith, e, n)
-
--- what has come to a node a delivery has brought that is done, and back
-came_by : (plan : Plan) (s : State) → ClosedCut plan s.done → Answered plan s → (t key node u : ℕ) → (node_of plan t ≡ node → ⊥) → Came plan s t key node u →
-    (d : Delivery) × Delivers plan t key node d × ((z : Event) → IsOf plan d z → IsDone s z)
-came_by plan s closed answered t key node u apart (by_fence b a) =
-    let j = arrivals plan t b.members (suc b.at) in
-    let parts = brings_parts plan s.done t node b.members j b.brings_it in (
-      ByFence b.members j,
-      record {
-        brings_it = record {
-          reaches = parts.3;
-          away = record {
-            full = complete_more plan s.done (event_count plan) b.members j closed.within parts.0;
-            collecting = parts.1;
-            member = parts.2;
-            at = b.at;
-            put = u;
-            arrival = record { collect = b.collect; is = b.is; member = parts.2; nth = refl };
-            committed = b.stored_is;
-            admitted = a;
-          };
-        };
-        all_live = λ z z_arrives. closed.all_live z (arrived plan s.done b.members j z parts.0 z_arrives);
-      },
-      (λ z z_arrives. arrived plan s.done b.members j z parts.0 z_arrives),
-    )
-came_by plan s closed answered t key node u apart (by_get keeps g) =
-    let v = answered_value plan s answered t key node u apart g in (
-      ByGet g.get,
-      record {
-        brings_it = record { away = record { keeps = keeps; is = g.is; put = u; committed = v.0; admitted = v.1 }; there = g.there };
-        all_live = λ z e. closed.all_live z (subst (IsDone s) (sym e) g.is_done);
-      },
-      (λ z e. subst (IsDone s) (sym e) g.is_done),
-    )
-
-came_of : (plan : Plan) (s : State) → Answered plan s → (t key node : ℕ) → (node_of plan t ≡ node → ⊥) → (d : Delivery) → Delivers plan t key node d → ((z : Event) → IsOf plan d z → IsDone s z) →
-    (u : ℕ) × Came plan s t key node u
-came_of plan s answered t key node apart (ByFence members j) delivers done =
-    let d : FenceDelivers plan t key node members j = delivers.brings_it in
-    let complete_now = complete_if_arrived plan s.done members j d.away.full done in (
-      d.away.put,
-      by_fence (record {
-        at = d.away.at;
-        members = members;
-        collect = d.away.arrival.collect;
-        is = d.away.arrival.is;
-        brings_it = subst (λ i. has_brought plan s.done t node members i ≡ true) (sym d.away.arrival.nth) (and_from _ _ complete_now (and_from _ _ d.away.collecting (and_from _ _ d.away.member d.reaches)));
-        stored_is = d.away.committed;
-        below = event_within plan t d.away.at _ d.away.arrival.is;
-      }) d.away.admitted,
-    )
-came_of plan s answered t key node apart (ByGet get) delivers done =
-    let d : GetDelivers plan t key node get = delivers.brings_it in
-    (d.away.put, by_get d.away.keeps (get_brought plan s answered t key node apart get d (done get refl)))
 
 -- a key that a delivery brings is stored in the end
 pub brought_is_stored : (plan : Plan) (owner key node : ℕ) (d : Delivery) → Delivers plan owner key node d → is_some (stored plan owner key (event_count plan owner)) ≡ true
@@ -115,41 +58,13 @@ absent plan get owner key found ne none is_found = elim (cases_Bool (same_node p
     stores_nothing i stores = let w = process_within plan owner i _ (stores_commit plan (event_in owner i) key stores) in omega (arith, none, w)
 
 module _ (plan : Plan) (settled : IsSettled plan) (get : Event) (owner key : ℕ) (is : kind plan get ≡ Some (GetNow owner key)) (is_live : Live plan get) where
-  -- where there is a delivery, and the get is before none of its events, it isn't denied that one comes surely
-  module _ (away : same_node plan owner get.proc ≡ false) (not_sure : ComesSurely plan owner key (node_of plan get.proc) get → ⊥) (d : Delivery) (delivers : Delivers plan owner key (node_of plan get.proc) d)
-      (none : (z : Event) → IsOf plan d z → Before plan get z → ⊥) where
-    abbrev Late : ℕ → Type 0
-    Late r = (z : Event) × IsOf plan d z × (Before plan z get → ⊥) × (z.proc ≡ r)
-
-    no_first : (r : ℕ) → Late r → ((i : ℕ) → i < r → Late i → ⊥) → ⊥
-    no_first r late least = settled.no_delivery_race late.0 get owner key (record {
-      is = is;
-      other = away;
-      once = put_once plan settled owner key (event_count plan owner) (stored_own plan owner key (event_count plan owner) (brought_is_stored plan owner key (node_of plan get.proc) d delivers));
-      get_live = is_live;
-      not_sure = not_sure;
-      delivery = d;
-      delivers = delivers;
-      before_none = none;
-      of_it = late.1;
-      not_before = late.2;
-      first = λ z a not. elim (cases_lt z.proc late.0.proc) [
-        | inl lt ↦ absurd (let same = late.3 in least z.proc (omega (arith, lt, same)) (z, a, not, refl))
-        | inr ge ↦ ge
-      ];
-    })
-
-    no_late : (z : Event) → IsOf plan d z → (Before plan z get → ⊥) → ⊥
-    no_late z a not = no_least Late no_first (suc z.proc) z.proc (omega arith) (z, a, not, refl)
-
+  -- where the get is before none of a delivery's events, it isn't denied that one comes surely
   pub undenied : same_node plan owner get.proc ≡ false → (ComesSurely plan owner key (node_of plan get.proc) get → ⊥) → (d : Delivery) → Delivers plan owner key (node_of plan get.proc) d →
       ((z : Event) → IsOf plan d z → Before plan get z → ⊥) → ⊥
-  undenied away not_sure (ByGet g) delivers none =
-      no_late away not_sure (ByGet g) delivers none g refl
-      (λ b. not_sure (record { delivery = ByGet g; delivers = delivers; all_before = λ z s. subst (λ v. Before plan v get) (sym s) b }))
-  undenied away not_sure (ByFence members j) delivers none =
-      all_undenied plan members j (λ z. Before plan z get) (no_late away not_sure (ByFence members j) delivers none) members
-      (λ all. not_sure (record { delivery = ByFence members j; delivers = delivers; all_before = λ z a. all z a a.member }))
+  undenied away not_sure d delivers none =
+      none_delivers plan settled get owner key is is_live away
+      (put_once plan settled owner key (event_count plan owner) (stored_own plan owner key (event_count plan owner) (brought_is_stored plan owner key (node_of plan get.proc) d delivers)))
+      not_sure d delivers none
 
   -- in a settled plan it finds one thing
   one_own : (a b : Status) → FindsOwn plan get owner key a → FindsOwn plan get owner key b → a ≡ b

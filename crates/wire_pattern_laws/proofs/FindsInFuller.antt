@@ -18,10 +18,11 @@ use Rattle.wire_pattern_laws.specs.Fuller.{IsFuller}
 use Rattle.wire_pattern_laws.specs.Lines.{numbers, turn_numbers, step_numbers, step_lines, numbers_from, IsOfLine}
 use Rattle.wire_pattern_laws.specs.Finds.{event_in, Finds, from_own, from_near, from_far, far_nothing, far_value}
 use Rattle.wire_pattern_laws.specs.SmallReplies.{ReadsFind}
-use Rattle.wire_pattern_laws.proofs.SameCalls.{in_order_same, round_same, AskedHere, AskedFrom}
+use Rattle.wire_runs.proofs.SameRoles.{in_order_same, round_same}
+use Rattle.wire_pattern_laws.proofs.SameCalls.{AskedHere, AskedFrom}
 use Rattle.wire_pattern_laws.proofs.MoreTurns.{some_pieces, step_pieces, pieces_from, FullerTurn, takes, takes_more, Standing, neither, both, taken, standing, pieces, asked, adds, reads_whole}
 use Rattle.wire_pattern_laws.proofs.KeptLines.{Along, along_both, kept_lines, left_lines}
-use Rattle.wire_pattern_laws.proofs.ReadsLive.{spot, e, arrival_spot, live_into, kind_into}
+use Rattle.wire_runs.proofs.MoreReads.{spot, e, arrival_spot, live_into, kind_into}
 use Rattle.wire_pattern_laws.proofs.FindsBack.{own_back, near_back, far_nothing_back, far_value_back}
 use Rattle.wire_pattern_laws.proofs.SmallFinds.{finds_are_said}
 

@@ -1,7 +1,7 @@
 -- What a get-now finds on some nodes, it finds where each process has a node of its own, but one of them that of the get.
 use Rattle.std.proofs.Common.{◌≡◌, ℕ, ◌<◌, ◌≤◌, List, length, true, false, Option, Some, None, inl, inr, refl, sym, ap, ◌∙◌, arith, eq-eqb, eqb-true, ne_eqb}
 use Rattle.std.specs.Prelude.{slice_get}
-use Rattle.std.proofs.lemmas.Bool.{cond-true, cond-false, cases_eq, cases_lt, true≢false}
+use Rattle.std.proofs.lemmas.Bool.{cases_lt, true≢false}
 use Rattle.std.proofs.lemmas.Option.{slice_get_cases}
 use Rattle.wire_types.specs.declared.Status.{Status}
 use Rattle.wire_types.specs.declared.Status.TheVariants as status
@@ -12,35 +12,13 @@ use Rattle.wire_runs.specs.Patterns.{Pattern, Coding, Cast, calls_from, instance
 use Rattle.wire_runs.specs.Restrictions.{script_in, on_nodes}
 use Rattle.wire_runs.proofs.Basics.{process_within, stores_commit}
 use Rattle.wire_runs.proofs.EmbeddedOrder.{live_back}
-use Rattle.wire_runs.proofs.Placements.{itself, same_calls, mate_of}
+use Rattle.wire_runs.proofs.Placements.{pair_first, pair_second, pair_other, pair_together, itself, same_calls, mate_of}
 use Rattle.wire_runs.proofs.RestrictedCalls.{instance_kinds}
 use Rattle.wire_runs.proofs.RestrictedWhole.{instance_node, instance_count}
 use Rattle.wire_pattern_laws.proofs.SameCalls.{calls_same, ask_all}
 use Rattle.wire_pattern_laws.specs.Finds.{event_in, FindsNear, near_nothing, near_value, FindsFar, far_nothing, far_value, Finds, from_own, from_near, from_far}
 use Rattle.wire_pattern_laws.proofs.FindsByOrder.{absent}
 use Rattle.wire_pattern_laws.proofs.FindsBack.{own_back, near_back, far_nothing_back, far_value_back}
-
--- which two share a node
-pair_first : (p q : ℕ) → pair p q p ≡ p
-pair_first p q = elim (cases_eq p q) [ inl e ↦ cond-true _ _ _ (eq-eqb p q e) | inr ne ↦ cond-false _ _ _ (ne_eqb p q ne) ]
-
-pair_second : (p q : ℕ) → pair p q q ≡ p
-pair_second p q = cond-true _ _ _ (eq-eqb q q refl)
-
-pair_other : (p q r : ℕ) → (r ≡ q → ⊥) → pair p q r ≡ r
-pair_other p q r ne = cond-false _ _ _ (ne_eqb r q ne)
-
-pair_together : (f : ℕ → ℕ) (p q r s : ℕ) → f p ≡ f q → pair p q r ≡ pair p q s → f r ≡ f s
-pair_together f p q r s together same = elim (cases_eq r q) [
-  | inl er ↦ elim (cases_eq s q) [
-    | inl es ↦ ap f (er ∙ sym es)
-    | inr ns ↦ ap f er ∙ sym together ∙ ap f (sym (pair_second p q) ∙ ap (pair p q) (sym er) ∙ same ∙ pair_other p q s ns)
-  ]
-  | inr nr ↦ elim (cases_eq s q) [
-    | inl es ↦ ap f (sym (pair_other p q r nr) ∙ same ∙ ap (pair p q) es ∙ pair_second p q) ∙ together ∙ ap f (sym es)
-    | inr ns ↦ ap f (sym (pair_other p q r nr) ∙ same ∙ pair_other p q s ns)
-  ]
-]
 
 -- nodes say nothing of calls
 kinds_there : (pattern : Pattern) (coding : Coding) (cast : Cast) (nodes : ℕ → ℕ) (p : ℕ) → kinds (instance_of pattern coding cast) p ≡ kinds (instance_of pattern coding (on_nodes nodes cast)) p

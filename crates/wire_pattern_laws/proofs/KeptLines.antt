@@ -1,18 +1,15 @@
 -- Without one rank an event is of the same line.
-use Rattle.std.proofs.Common.{◌≡◌, ℕ, zero, suc, ◌+◌, List, [], ◌∷◌, ◌++◌, map, Bool, not, ◌==◌, ◌&&◌, nat_lt, Some, inl, inr, refl, sym, ap, ◌∙◌, subst, eq-eqb, ne_eqb}
+use Rattle.std.proofs.Common.{◌≡◌, ℕ, zero, suc, ◌+◌, List, [], ◌∷◌, ◌++◌, map, not, ◌==◌, Some, inl, inr, refl, sym, ap, ◌∙◌, subst, eq-eqb, ne_eqb}
 use Rattle.std.specs.Prelude.{slice_get, filter}
-use Rattle.std.proofs.lemmas.Bool.{cond-true, cond-false, cases_eq, cases_Bool}
-use Rattle.std.proofs.lemmas.List.{map-append}
-use Rattle.std.proofs.lemmas.List.Elements.{filter-append, filter_agree}
+use Rattle.std.proofs.lemmas.Bool.{cond-true, cond-false, cases_eq}
 use Rattle.wire_runs.specs.Plan.{Event}
-use Rattle.wire_runs.specs.Fences.{is_member}
 use Rattle.wire_runs.specs.Embeddings.{image}
 use Rattle.wire_runs.specs.Parts.{Piece, Kept, Left, place_in}
 use Rattle.wire_runs.specs.Patterns.{Line, LinePut, LineCommit, LineFence, LineGet, LineGetNow, LinePublish, LineLookup, LineLookupWait, LineUnpublish, LineUnpublishAll, LineFixed}
-use Rattle.wire_runs.specs.Patterns.{Turns, InOrder, Round, Chosen, Step, Once, Loop, Pattern, Coding, Cast, group, call_in, turns}
-use Rattle.wire_runs.specs.Restrictions.{skip, back, without, restricted, keep_calls, leave_calls, loop_pieces, step_pieces, pieces_from, script_in, removal, CanGo}
-use Rattle.wire_runs.proofs.Skip.{skip_eq, skip_lt, group_skip, filter_map, filter_comm, without_get}
-use Rattle.wire_runs.proofs.WholeSets.{member_group}
+use Rattle.wire_runs.specs.Patterns.{Step, Once, Loop, Pattern, Coding, Cast, call_in, turns}
+use Rattle.wire_runs.specs.Restrictions.{skip, back, restricted, keep_calls, leave_calls, loop_pieces, step_pieces, pieces_from, script_in, removal, CanGo}
+use Rattle.wire_runs.proofs.Skip.{without_get}
+use Rattle.wire_runs.proofs.RestrictedEach.{turns_skip}
 use Rattle.wire_pattern_laws.specs.Lines.{numbers, turn_numbers, step_numbers, step_lines, numbers_from, IsOfLine}
 
 -- the numbers of all events, and those of the kept ones, along the pieces
@@ -89,32 +86,6 @@ module _ (pattern : Pattern) (coding : Coding) (cast : Cast) (r role : ℕ) (can
   abbrev others : List ℕ → List ℕ
   others es = filter (λ e. not (e == r)) es
 
-  -- the turns without r
-  filtered : (f g : ℕ → Bool) (group_role : ℕ) → ((e : ℕ) → f (skip r e) ≡ g e) → map (skip r) (filter g (group group_role (without r cast.roles))) ≡ others (filter f (group group_role cast.roles))
-  filtered f g group_role same =
-      ap (map (skip r)) (filter_agree g (λ e. f (skip r e)) (λ e. sym (same e)) (group group_role (without r cast.roles)))
-      ∙ sym (filter_map f (skip r) (group group_role (without r cast.roles)))
-      ∙ ap (filter f) (group_skip group_role r cast.roles)
-      ∙ filter_comm f (λ e. not (e == r)) (group group_role cast.roles)
-
-  turns_skip : (p i group_role : ℕ) (mode : Turns) → map (skip r) (turns fewer p i group_role mode) ≡ others (turns cast (skip r p) i group_role mode)
-  turns_skip p i group_role InOrder = filtered (λ e. not (e == skip r p)) (λ e. not (e == p)) group_role (λ e. ap not (skip_eq r e p))
-  turns_skip p i group_role Round = elim (cases_Bool (is_member (group group_role fewer.roles) p)) [
-    | inl t ↦ ap (map (skip r)) (cond-true _ _ (filter (λ e. not (e == p)) (group group_role fewer.roles)) t)
-        ∙ map-append (skip r) (filter (λ e. nat_lt p e) (group group_role (without r cast.roles))) (filter (λ e. nat_lt e p) (group group_role (without r cast.roles)))
-        ∙ ap (λ xs. xs ++ map (skip r) (filter (λ e. nat_lt e p) (group group_role (without r cast.roles)))) (filtered (λ e. nat_lt (skip r p) e) (λ e. nat_lt p e) group_role (λ e. skip_lt r p e))
-        ∙ ap (λ ys. others (filter (λ e. nat_lt (skip r p) e) (group group_role cast.roles)) ++ ys) (filtered (λ e. nat_lt e (skip r p)) (λ e. nat_lt e p) group_role (λ e. skip_lt r e p))
-        ∙ sym (filter-append (λ e. not (e == r)) (filter (λ e. nat_lt (skip r p) e) (group group_role cast.roles)) (filter (λ e. nat_lt e (skip r p)) (group group_role cast.roles)))
-        ∙ sym (ap others (cond-true _ _ (filter (λ e. not (e == skip r p)) (group group_role cast.roles)) (member_group pattern cast r role can group_role p ∙ t)))
-    | inr f ↦ ap (map (skip r)) (cond-false _ (filter (λ e. nat_lt p e) (group group_role fewer.roles) ++ filter (λ e. nat_lt e p) (group group_role fewer.roles)) _ f)
-        ∙ filtered (λ e. not (e == skip r p)) (λ e. not (e == p)) group_role (λ e. ap not (skip_eq r e p))
-        ∙ sym (ap others (cond-false _ (filter (λ e. nat_lt (skip r p) e) (group group_role cast.roles) ++ filter (λ e. nat_lt e (skip r p)) (group group_role cast.roles)) _
-        (member_group pattern cast r role can group_role p ∙ f)))
-  ]
-  turns_skip p i group_role Chosen =
-      filtered (λ e. not (e == skip r p) && cast.chosen (skip r p) i e) (λ e. not (e == p) && cast.chosen (skip r p) i (skip r e)) group_role
-      (λ e. ap (λ b. not b && cast.chosen (skip r p) i (skip r e)) (skip_eq r e p))
-
   loop_along : (p n : ℕ) (lines : List Line) (es : List ℕ) → Along (turn_numbers n lines es) (turn_numbers n lines (others es)) (loop_pieces coding cast r p lines es)
   loop_along p n lines [] = tt
   loop_along p n lines (e ∷ es) = elim (cases_eq e r) [
@@ -132,7 +103,7 @@ module _ (pattern : Pattern) (coding : Coding) (cast : Cast) (r role : ℕ) (can
   step_along p i n (Once line) = kept_lines coding fewer p p n (line ∷ [])
   step_along p i n (Loop other mode lines) =
       subst (λ ns. Along (turn_numbers n lines (turns cast (skip r p) i other mode)) ns (loop_pieces coding cast r p lines (turns cast (skip r p) i other mode)))
-      (ap (turn_numbers n lines) (sym (turns_skip p i other mode)) ∙ turns_mapped n lines (skip r) (turns fewer p i other mode))
+      (ap (turn_numbers n lines) (sym (turns_skip pattern coding cast r role can p i other mode)) ∙ turns_mapped n lines (skip r) (turns fewer p i other mode))
       (loop_along p n lines (turns cast (skip r p) i other mode))
 
   steps_along : (p i n : ℕ) (steps : List Step) → Along (numbers_from cast (skip r p) i n steps) (numbers_from fewer p i n steps) (pieces_from coding cast r p i steps)

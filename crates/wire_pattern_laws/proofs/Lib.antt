@@ -9,9 +9,7 @@ pub mod OneFewer
 pub mod KeptLines
 pub mod FindsOnPairs
 pub mod SmallFinds
-pub mod RenumberedEmbeds
 pub mod StatusesPlaced
 pub mod StatusesNumbered
-pub mod ReadsLive
 pub mod FindsInFuller
 pub mod LineRows

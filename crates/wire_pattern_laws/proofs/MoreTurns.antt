@@ -2,7 +2,7 @@
 use Rattle.std.proofs.Common.{◌≡◌, ℕ, zero, suc, ◌+◌, ◌<◌, List, [], ◌∷◌, ◌++◌, map, length, Bool, true, false, not, ◌==◌, ◌&&◌, Option, Some, None, ◌⊎◌, inl, inr, refl, sym, ap, ◌∙◌, subst, arith, eq-eqb}
 use Rattle.std.specs.Prelude.{slice_get, filter, cond}
 use Rattle.std.proofs.lemmas.Bool.{cond-true, cond-false, cases_Bool, or_left, or_right, true≢false}
-use Rattle.wire_runs.specs.Plan.{Call, Kind, Put, Commit, Arrive, Leave, Get, GetNow, Publish, Lookup, LookupWait, Unpublish, UnpublishAll, Fixed, kinds_of, node_of, process_node}
+use Rattle.wire_runs.specs.Plan.{Call, Kind, kinds_of, node_of, process_node}
 use Rattle.wire_runs.specs.Fences.{is_member}
 use Rattle.wire_runs.specs.Embeddings.{image_kind}
 use Rattle.wire_runs.specs.Parts.{Piece, Kept, Left, kept_kinds, all_kinds, in_place, LeavesReads, AddsReads}
@@ -10,27 +10,14 @@ use Rattle.wire_runs.specs.Patterns.{Line, LineGetNow, LineLookup}
 use Rattle.wire_runs.specs.Patterns.{InOrder, Round, Chosen, Step, Once, Loop, Pattern, Coding, Cast, group, call_in, turns, loop_calls, step_calls, calls_from, processes_from, instance_of}
 use Rattle.wire_runs.specs.Restrictions.{keep_calls, leave_calls, script_in}
 use Rattle.wire_runs.proofs.RestrictedCalls.{kinds_append, kept_append, all_append, kept_kept, kept_left, all_kept, all_left, instance_kinds}
-use Rattle.wire_runs.proofs.MoreReads.{reads_keep_findings}
+use Rattle.wire_runs.proofs.MoreReads.{kind_in_place, reads_keep_findings}
 use Rattle.wire_pattern_laws.specs.Fuller.{only_reads, IsFuller, ReadsWhole}
-use Rattle.wire_pattern_laws.proofs.SameCalls.{call_same, loop_same, in_order_same, round_same, Turn, AskedHere, AskedFrom, ask_all}
-
-kind_stays : (pieces : ℕ → List Piece) (k : Kind) → image_kind (in_place pieces) k ≡ k
-kind_stays pieces (Put key scope) = refl
-kind_stays pieces Commit = refl
-kind_stays pieces (Arrive members collect) = refl
-kind_stays pieces (Leave members) = refl
-kind_stays pieces (Get owner key) = refl
-kind_stays pieces (GetNow owner key) = refl
-kind_stays pieces (Publish name) = refl
-kind_stays pieces (Lookup name) = refl
-kind_stays pieces (LookupWait name) = refl
-kind_stays pieces (Unpublish name) = refl
-kind_stays pieces UnpublishAll = refl
-kind_stays pieces (Fixed reply) = refl
+use Rattle.wire_runs.proofs.SameRoles.{call_same, loop_same, in_order_same, round_same}
+use Rattle.wire_pattern_laws.proofs.SameCalls.{Turn, AskedHere, AskedFrom, ask_all}
 
 kinds_stay : (pieces : ℕ → List Piece) (ks : List Kind) → map (image_kind (in_place pieces)) ks ≡ ks
 kinds_stay pieces [] = refl
-kinds_stay pieces (k ∷ ks) = ap (λ l. l ∷ map (image_kind (in_place pieces)) ks) (kind_stays pieces k) ∙ ap (λ ls. k ∷ ls) (kinds_stay pieces ks)
+kinds_stay pieces (k ∷ ks) = ap (λ l. l ∷ map (image_kind (in_place pieces)) ks) (kind_in_place pieces k) ∙ ap (λ ls. k ∷ ls) (kinds_stay pieces ks)
 
 leaves_append : (xs ys : List Piece) → LeavesReads xs → LeavesReads ys → LeavesReads (xs ++ ys)
 leaves_append [] ys a b = b

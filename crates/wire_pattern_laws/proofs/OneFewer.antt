@@ -1,28 +1,27 @@
 -- What a get-now finds in an instance, it finds in the instance without some one rank of a role of four.
-use Rattle.std.proofs.Common.{◌≡◌, ℕ, zero, suc, ◌≤◌, List, [], ◌∷◌, map, length, Bool, true, false, ◌==◌, Option, Some, None, ◌⊎◌, inl, inr, refl, sym, ap, ◌∙◌, subst, eq-eqb, eqb-true}
+use Rattle.std.proofs.Common.{◌≡◌, ℕ, zero, suc, ◌≤◌, List, [], ◌∷◌, length, true, false, ◌==◌, Option, Some, None, inl, inr, refl, sym, ap, ◌∙◌, subst}
 use Rattle.std.specs.Prelude.{slice_get}
-use Rattle.std.proofs.lemmas.Bool.{cases_eq, cases_Bool, true≢false}
+use Rattle.std.proofs.lemmas.Bool.{true≢false}
 use Rattle.std.proofs.lemmas.Option.{none-some}
 use Rattle.wire_types.specs.declared.Status.{Status}
 use Rattle.wire_types.specs.declared.Status.TheVariants as status
-use Rattle.wire_runs.specs.Plan.{Plan, Event, Kind, Arrive, Get, GetNow, kind, process_node, node_of, same_node}
+use Rattle.wire_runs.specs.Plan.{Plan, Event, Kind, Get, GetNow, kind, process_node, node_of, same_node}
 use Rattle.wire_runs.specs.Fences.{is_member}
 use Rattle.wire_runs.specs.Order.{IsArrival, Live, Before}
 use Rattle.wire_runs.specs.Races.{Delivery, ByFence, ByGet, IsOf, Delivers, FenceDelivers, GetDelivers, ComesSurely, IsSettled}
 use Rattle.wire_runs.specs.Embeddings.{Renaming, image, IsEmbedding, IsKept}
-use Rattle.wire_runs.specs.Patterns.{Who, Only, Self, Each, Word, Pattern, Coding, Cast, group, who, members_in, processes_from, instance_of, names_each, has_every, IsLoopLine, KnowsLine, IsLawful, IsCastOf}
+use Rattle.wire_runs.specs.Patterns.{Pattern, Coding, Cast, group, processes_from, instance_of, IsLawful, IsCastOf}
 use Rattle.wire_runs.specs.Restrictions.{skip, back, restricted, removal, CanGo}
 use Rattle.wire_runs.proofs.Images.{event_back}
 use Rattle.wire_runs.proofs.Arrivals.{mate_on}
 use Rattle.wire_runs.proofs.EmbeddedOrder.{live_back}
 use Rattle.wire_runs.proofs.Skip.{skip_back, skip_one, skip_not, without_get}
-use Rattle.wire_runs.proofs.WholeSets.{member_set, group_member, plays, items_r}
-use Rattle.wire_runs.proofs.RestrictedCalls.{code_not, each_in}
 use Rattle.wire_runs.proofs.RestrictedWhole.{instance_node, restrictions_embed}
 use Rattle.wire_runs.proofs.EmbeddedFindings.{now_back}
 use Rattle.wire_runs.proofs.TurnMarks.{marks_of, is_image}
-use Rattle.wire_runs.proofs.TurnOrigins.{Origin, InScript, InLoop, origin_of, fence_line, get_line}
+use Rattle.wire_runs.proofs.TurnOrigins.{Origin, origin_of}
 use Rattle.wire_runs.proofs.FewerFindings.{spare, mark_at}
+use Rattle.wire_runs.proofs.FewerDeliveries.{get_turn, turn_case, of_role}
 use Rattle.wire_pattern_laws.specs.Finds.{event_in, FindsOwn, FindsNear, far_nothing, far_value, Finds, from_own, from_near, from_far}
 use Rattle.wire_pattern_laws.proofs.FindsBack.{own_back, near_back, far_nothing_back, far_value_back}
 
@@ -160,58 +159,11 @@ module _ (pattern : Pattern) (coding : Coding) (cast : Cast) (role : ℕ) (lawfu
           mate_there = node_there m not_mate ∙ m_there ∙ sym node_is;
         }
 
-    -- a get of the key isn't in the turn for r
-    get_turn : (v e : ℕ) → Origin pattern coding cast v e (Get owner key) → (v ≡ r → ⊥) → e ≡ r → ⊥
-    get_turn v e (InScript line known same h) not_v s = not_v (sym same ∙ s)
-    get_turn v e (InLoop other line known l i h) not_v s =
-        let g = get_line coding cast v e line owner key h in
-        go g.0 (subst (IsLoopLine other) g.2 l) g.3
-      where
-        word : Word
-        word = (get_line coding cast v e line owner key h).1
-
-        by_key : names_each word.indices ≡ true → ⊥
-        by_key named =
-            let g = get_line coding cast v e line owner key h in
-            code_not coding r w.own_key word.base (map (who cast v e) word.indices) (ap (is_member (map (who cast v e) word.indices)) (sym s) ∙ each_in cast v e word.indices named)
-            (w.key_is ∙ sym g.4)
-
-        go : (whose : Who) → names_each (whose ∷ word.indices) ≡ true → who cast v e whose ≡ owner → ⊥
-        go Each named is = not_owner (sym is ∙ s)
-        go Self named is = by_key named
-        go (Only single) named is = by_key named
-
     get_kept : (g : Event) → (b : GetDelivers large owner key (node_of large get.proc) g) → (e : ℕ) → slice_get (marks_of pattern coding cast g.proc) g.at ≡ Some e → Origin pattern coding cast g.proc e (Get owner key) →
         (g.proc ≡ r → ⊥) → IsKept (to r) (small r) large w.own_owner (node_of (small r) w.own_get.proc) (ByGet g)
     get_kept g b e mark origin not_getter =
-        let i = is_image pattern coding cast r role w.can g e mark not_getter (get_turn g.proc e origin not_getter) in
+        let i = is_image pattern coding cast r role w.can g e mark not_getter (get_turn pattern coding cast role lawful cast_is four settled r w.can g.proc e owner key w.own_key origin not_getter not_owner w.key_is) in
         (i.0, i.1, node_left pattern coding cast r i.0.proc ∙ ap (λ (v : Event). node_of large v.proc) i.1 ∙ b.there ∙ sym node_is)
-
-  -- the turn of a fence's call: the caller's own, or for a process of another role; or the fence has nobody of the role but these two
-  turn_case : (p e : ℕ) (members : List ℕ) (collect : Bool) → Origin pattern coding cast p e (Arrive members collect) →
-      ((e ≡ p) ⊎ (is_member (group role cast.roles) e ≡ false)) ⊎
-      ((r : ℕ) → CanGo pattern cast r role → (p ≡ r → ⊥) → (e ≡ r → ⊥) → is_member members r ≡ false)
-  turn_case p e members collect (InScript line known same h) = inl (inl same)
-  turn_case p e members collect (InLoop other line known l i h) = elim (cases_eq other role) [
-    | inl s ↦ inr (λ r can np ne.
-        let f = fence_line coding cast p e line members collect h in
-        let knows = subst (KnowsLine pattern.single) f.2 known in
-        let loop = subst (IsLoopLine other) f.2 l in
-        sym (ap (λ ms. is_member ms r) f.3) ∙ member_set (members_in cast p e f.0) r
-        ∙ sym (ap (λ v. is_member (members_in cast v e f.0) r) (skip_back r p np)) ∙ sym (ap (λ v. is_member (members_in cast (skip r (back r p)) v f.0) r) (skip_back r e ne))
-        ∙ items_r pattern cast r role can (back r p) (back r e) f.0 knows ∙ sym (ap (λ v. has_every v f.0) s) ∙ loop.1)
-    | inr differ ↦ inl (inr (elim (cases_Bool (is_member (group role cast.roles) e)) [
-      | inl t ↦ absurd (not_both (slice_get cast.roles e) (sym (group_member role cast.roles e) ∙ t) (sym (group_member other cast.roles e) ∙ i) differ)
-      | inr f ↦ f
-    ]))
-  ]
-    where
-      not_both : (o : Option ℕ) → plays o role ≡ true → plays o other ≡ true → (other ≡ role → ⊥) → ⊥
-      not_both None a b differ = true≢false (sym a)
-      not_both (Some x) a b differ = differ (sym (eqb-true x other b) ∙ eqb-true x role a)
-
-  of_role : (r : ℕ) → CanGo pattern cast r role → is_member (group role cast.roles) r ≡ true
-  of_role r can = group_member role cast.roles r ∙ ap (λ o. plays o role) can.is ∙ eq-eqb role role refl
 
   -- some rank can go
   module _ (get : Event) (owner key : ℕ) (is : kind large get ≡ Some (GetNow owner key)) (live_get : Live large get) (found : Status) where
@@ -232,7 +184,7 @@ module _ (pattern : Pattern) (coding : Coding) (cast : Cast) (role : ℕ) (lawfu
         let a = b.away.arrival in
         let e = mark_at pattern coding cast owner b.away.at _ a.is in
         let origin = origin_of pattern coding cast any.0 role any.1 owner b.away.at e.0 _ a.is e.1 in
-        elim (turn_case owner e.0 members a.collect origin) [
+        elim (turn_case pattern coding cast role lawful cast_is four settled owner e.0 members a.collect origin) [
           | inl out ↦ (
               let s = spare pattern coding cast role lawful cast_is four settled get.proc mark_get.0 m.0 in
               let w = reader get owner key mark_get.0 s.0 s.1 is mark_get.1 (λ q. s.2 (sym q)) (λ q. s.3 (sym q)) in
@@ -240,7 +192,7 @@ module _ (pattern : Pattern) (coding : Coding) (cast : Cast) (role : ℕ) (lawfu
               (fence_kept s.0 get owner key w live_get found members j b m.0 m.1 m.2 e.0 e.1
               (λ q. elim out [
                 | inl own ↦ not_owner s.0 get owner key w live_get found (sym own ∙ q)
-                | inr none_of ↦ true≢false (sym (of_role s.0 s.1) ∙ ap (is_member (group role cast.roles)) (sym q) ∙ none_of)
+                | inr none_of ↦ true≢false (sym (of_role pattern coding cast role lawful cast_is four settled s.0 s.1) ∙ ap (is_member (group role cast.roles)) (sym q) ∙ none_of)
               ])
               (λ q. s.4 (sym q))))
           | inr only ↦ (

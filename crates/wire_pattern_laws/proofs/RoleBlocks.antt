@@ -1,6 +1,7 @@
 -- Processes in the order of their roles stand in blocks.
 use Rattle.std.proofs.Common.{◌≡◌, ℕ, zero, suc, ◌+◌, ◌<◌, ◌≤◌, List, [], ◌∷◌, ◌++◌, map, length, ◌==◌, Some, inl, inr, refl, sym, ap, ◌∙◌, subst, arith, eq-eqb, ne_eqb}
 use Rattle.std.specs.Prelude.{slice_get, replicate, if◌then◌else◌}
+use Rattle.std.proofs.lemmas.List.{length-map}
 use Rattle.std.proofs.lemmas.Bool.{cond-true, cond-false, cases_eq, cases_lt}
 use Rattle.std.proofs.lemmas.Option.{none-some, same_Some}
 use Rattle.wire_runs.specs.Patterns.{group}
@@ -19,17 +20,13 @@ count_not : (role x : ℕ) (xs : List ℕ) → (x ≡ role → ⊥) → count ro
 unfolding count
 count_not role x xs ne = cond-false (x == role) (suc (count role xs)) (count role xs) (ne_eqb x role ne)
 
-length_map : (f : ℕ → ℕ) (xs : List ℕ) → length (map f xs) ≡ length xs
-length_map f [] = refl
-length_map f (x ∷ xs) = ap suc (length_map f xs)
-
 group_count : (role : ℕ) (xs : List ℕ) → length (group role xs) ≡ count role xs
 unfolding count
 group_count role [] = refl
 group_count role (x ∷ xs) = elim (cases_eq x role) [
-  | inl s ↦ ap (λ ys. length (ys ++ map suc (group role xs))) (cond-true (x == role) (0 ∷ []) [] (eq-eqb x role s)) ∙ ap suc (length_map suc (group role xs) ∙ group_count role xs)
+  | inl s ↦ ap (λ ys. length (ys ++ map suc (group role xs))) (cond-true (x == role) (0 ∷ []) [] (eq-eqb x role s)) ∙ ap suc (length-map (group role xs) suc ∙ group_count role xs)
       ∙ sym (count_here role x xs s)
-  | inr ne ↦ ap (λ ys. length (ys ++ map suc (group role xs))) (cond-false (x == role) (0 ∷ []) [] (ne_eqb x role ne)) ∙ length_map suc (group role xs) ∙ group_count role xs
+  | inr ne ↦ ap (λ ys. length (ys ++ map suc (group role xs))) (cond-false (x == role) (0 ∷ []) [] (ne_eqb x role ne)) ∙ length-map (group role xs) suc ∙ group_count role xs
       ∙ sym (count_not role x xs ne)
 ]
 

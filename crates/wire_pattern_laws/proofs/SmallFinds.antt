@@ -1,25 +1,26 @@
 -- What is answered in an instance of any size is found in a small one.
-use Rattle.std.proofs.Common.{◌≡◌, ℕ, zero, suc, ◌<◌, ◌≤◌, List, [], ◌∷◌, length, true, Some, inl, inr, refl, sym, ap, ◌∙◌, subst, arith}
+use Rattle.std.proofs.Common.{◌≡◌, ℕ, zero, suc, ◌<◌, ◌≤◌, length, Some, inl, inr, refl, sym, ap, ◌∙◌, subst, arith}
 use Rattle.std.specs.Prelude.{slice_get}
 use Rattle.std.proofs.lemmas.Option.{same_Some, slice_get_within}
 use Rattle.wire_types.specs.declared.Status.{Status}
 use Rattle.wire_runs.specs.Plan.{Plan, Event, GetNow, kind}
 use Rattle.wire_runs.specs.State.{Answer, State, start, next_event, IsDone}
-use Rattle.wire_runs.specs.Step.{is_enabled, reply, step, IsInterleaving, run_from, IsReachable}
+use Rattle.wire_runs.specs.Step.{reply, IsReachable}
 use Rattle.wire_runs.specs.Order.{Live, Before}
 use Rattle.wire_runs.specs.Races.{IsSettled}
 use Rattle.wire_runs.specs.Embeddings.{pair}
 use Rattle.wire_runs.specs.Patterns.{Pattern, Coding, Cast, group, instance_of, IsLawful, IsCastOf}
 use Rattle.wire_runs.specs.Restrictions.{restricted, CanGo, on_nodes}
-use Rattle.wire_runs.proofs.Due.{closed_cut, done_was, due}
-use Rattle.wire_runs.proofs.Known.{Known, known_start, known_step, reply_kept, reply_now, reachable_known}
+use Rattle.wire_runs.proofs.Due.{closed_cut, due}
+use Rattle.wire_runs.proofs.Known.{known_start, reachable_known}
 use Rattle.wire_runs.proofs.HaveFates.{have_fates}
-use Rattle.wire_runs.proofs.PlacingReplies.{CameTo}
+use Rattle.wire_runs.proofs.PlacingReplies.{CameTo, came_to_run}
+use Rattle.wire_runs.proofs.SmallInstances.{without_length}
 use Rattle.wire_pattern_laws.specs.Ordered.{IsInOrder, HasLeast, HasMost, AllowThree, SmallOnesAreSettled}
 use Rattle.wire_pattern_laws.specs.Lines.{IsOfLine}
 use Rattle.wire_pattern_laws.specs.Finds.{status_of, Finds, FindsAreSaid}
 use Rattle.wire_pattern_laws.specs.SmallReplies.{HasSmall, StatusesOfSmall}
-use Rattle.wire_pattern_laws.proofs.SmallOrdered.{without_length, restricted_order, look, fewer_cast, enough_left, ordered_suffice}
+use Rattle.wire_pattern_laws.proofs.SmallOrdered.{restricted_order, look, fewer_cast, enough_left, ordered_suffice}
 use Rattle.wire_pattern_laws.proofs.FindsByOrder.{Poised, sees, one_finding, fate_finds, fate_found}
 use Rattle.wire_pattern_laws.proofs.OneFewer.{finds_left}
 use Rattle.wire_pattern_laws.proofs.KeptLines.{line_left}
@@ -27,19 +28,8 @@ use Rattle.wire_pattern_laws.proofs.FindsOnPairs.{finds_beside}
 
 -- what a get-now is answered in a run, it finds
 module _ (plan : Plan) (settled : IsSettled plan) where
-  came_to_step : (s : State) (p : ℕ) → Known plan s → is_enabled plan s p ≡ true → ((x : Event) → IsDone s x → CameTo plan s x) → (x : Event) → IsDone (step plan s p) x → CameTo plan (step plan s p) x
-  came_to_step s p k h before x d = elim (done_was plan s p x d) [
-    | inl was ↦
-        (let b = before x was in record { then_ = b.then_; known = b.known; there = b.there; enabled = b.enabled; said = reply_kept plan s p x _ b.said })
-    | inr e ↦ subst (CameTo plan (step plan s p)) (sym e) (record { then_ = s; known = k; there = refl; enabled = h; said = reply_now plan s p (k.lengths p) })
-  ]
-
-  came_to_run : (w : List ℕ) (s : State) → Known plan s → IsInterleaving plan s w → ((x : Event) → IsDone s x → CameTo plan s x) → (x : Event) → IsDone (run_from plan s w) x → CameTo plan (run_from plan s w) x
-  came_to_run [] s k h before x d = before x d
-  came_to_run (p ∷ w) s k h before x d = came_to_run w (step plan s p) (known_step plan settled s p k h.0) h.1 (came_to_step s p k h.0 before) x d
-
   came_to : (s : State) → IsReachable plan s → (x : Event) → IsDone s x → CameTo plan s x
-  came_to s r x d = subst (λ t. CameTo plan t x) r.2 (came_to_run r.0 start (known_start plan) r.1 (λ z none. absurd (omega (arith, none))) x (subst (λ t. IsDone t x) (sym r.2) d))
+  came_to s r x d = subst (λ t. CameTo plan t x) r.2 (came_to_run plan settled r.0 start (known_start plan) r.1 (λ z none. absurd (omega (arith, none))) x (subst (λ t. IsDone t x) (sym r.2) d))
 
   poised : (s : State) (x : Event) → (c : CameTo plan s x) → Poised plan c.then_ x
   poised s x c =

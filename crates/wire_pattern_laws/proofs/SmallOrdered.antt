@@ -1,45 +1,14 @@
 -- Instances in the order of their roles are settled where the small ones are: by one rank fewer, again and again.
-use Rattle.std.proofs.Common.{◌≡◌, ℕ, zero, suc, ◌<◌, ◌≤◌, List, [], ◌∷◌, ◌++◌, map, length, false, not, ◌==◌, Some, ◌⊎◌, inl, inr, refl, sym, ap, ◌∙◌, subst, arith, ne_eqb, length-append}
-use Rattle.std.specs.Prelude.{slice_get, filter, cond}
-use Rattle.std.proofs.lemmas.Bool.{cond-false, cases_lt, cases_eq}
-use Rattle.std.proofs.lemmas.Option.{none-some, same_Some}
+use Rattle.std.proofs.Common.{◌≡◌, ℕ, zero, suc, ◌<◌, ◌≤◌, List, [], ◌∷◌, length, Some, ◌⊎◌, inl, inr, sym, ◌∙◌, subst, arith}
+use Rattle.std.specs.Prelude.{slice_get}
+use Rattle.std.proofs.lemmas.Bool.{cases_lt, cases_eq}
 use Rattle.wire_runs.specs.Races.{IsSettled}
 use Rattle.wire_runs.specs.Patterns.{Pattern, Coding, Cast, group, instance_of, IsLawful, IsCastOf}
 use Rattle.wire_runs.specs.Restrictions.{skip, without, restricted, CanGo}
-use Rattle.wire_runs.proofs.WholeSets.{filter_length, rises_group, single_stays}
-use Rattle.wire_runs.proofs.Skip.{group_skip, without_get}
-use Rattle.wire_runs.proofs.SmallInstances.{fewer_settle}
+use Rattle.wire_runs.proofs.WholeSets.{single_stays}
+use Rattle.wire_runs.proofs.Skip.{without_get}
+use Rattle.wire_runs.proofs.SmallInstances.{without_length, one_fewer, others_stay, fewer_settle}
 use Rattle.wire_pattern_laws.specs.Ordered.{DontFall, IsInOrder, HasLeast, AllowThree, SmallOnesAreSettled, OrderedSuffice}
-
--- sizes of lists and groups with one left out
-length_map : (f : ℕ → ℕ) (xs : List ℕ) → length (map f xs) ≡ length xs
-length_map f [] = refl
-length_map f (x ∷ xs) = ap suc (length_map f xs)
-
-pub without_length : (r role : ℕ) (roles : List ℕ) → slice_get roles r ≡ Some role → suc (length (without r roles)) ≡ length roles
-without_length r role [] is = absurd (none-some role is)
-without_length zero role (x ∷ xs) is = refl
-without_length (suc r) role (x ∷ xs) is = ap suc (without_length r role xs is)
-
-one_fewer : (role r : ℕ) (roles : List ℕ) → length (group role roles) ≤ suc (length (group role (without r roles)))
-one_fewer role r roles =
-    let a = filter_length r (group role roles) (rises_group role roles) in
-    let b : length (group role (without r roles)) ≡ length (filter (λ e. not (e == r)) (group role roles)) = sym (length_map (skip r) (group role (without r roles))) ∙ ap length (group_skip role r roles) in
-    omega (arith, a, b)
-
-others_stay : (other role r : ℕ) (roles : List ℕ) → slice_get roles r ≡ Some role → (role ≡ other → ⊥) → length (group other (without r roles)) ≡ length (group other roles)
-others_stay other role r [] is ne = absurd (none-some role is)
-others_stay other role zero (x ∷ xs) is ne =
-    let apart : (x == other) ≡ false = ne_eqb x other (λ s. ne (sym (same_Some _ _ is) ∙ s)) in
-    sym (length_map suc (group other xs)) ∙ sym (ap (λ ys. length (ys ++ map suc (group other xs))) (cond-false (x == other) (0 ∷ []) [] apart))
-others_stay other role (suc r) (x ∷ xs) is ne =
-    let h = others_stay other role r xs is ne in
-    let first : List ℕ = cond (x == other) (0 ∷ []) [] in
-    let a = length-append first (map suc (group other (without r xs))) in
-    let b = length-append first (map suc (group other xs)) in
-    let c = length_map suc (group other (without r xs)) in
-    let d = length_map suc (group other xs) in
-    omega (arith, h, a, b, c, d)
 
 -- order stays
 from_lower : (first lower : ℕ) (xs : List ℕ) → lower ≤ first → DontFall first xs → DontFall lower xs

@@ -9,7 +9,7 @@ use Rattle.wire_runs.proofs.EmbeddedOrder.{live_back}
 use Rattle.wire_pattern_laws.specs.Finds.{Finds, from_own, from_near, from_far, far_nothing, far_value}
 use Rattle.wire_pattern_laws.specs.StatusesTold.{RenumberedFinds}
 use Rattle.wire_pattern_laws.proofs.NumbersBack.{renumbering_turns}
-use Rattle.wire_pattern_laws.proofs.RenumberedEmbeds.{embeds, kept_delivery}
+use Rattle.wire_runs.proofs.Renumbered.{embeds, kept_delivery}
 use Rattle.wire_pattern_laws.proofs.FindsBack.{own_back, near_back, far_nothing_back, far_value_back}
 
 live_over : (plan other : Plan) (key name : ℕ → ℕ) → IsRenumbered plan other key name → (y : Event) → Live other y → Live plan y

@@ -1,13 +1,12 @@
 -- The first opening bracket of a word.
-use Rattle.std.proofs.Common.{◌≡◌, ◌∙◌, ap, subst, sym, refl, ℕ, suc, ◌+◌, ◌-◌, ◌<◌, ◌≤◌, List, [], ◌∷◌, ◌++◌, Bool, true, false, cond, Some, None, take, drop, length, arith, length-drop}
-use Rattle.std.specs.Prelude.{◌==◌, not, nat_lt, ◌&&◌, ◌||◌, position, map}
+use Rattle.std.proofs.Common.{◌≡◌, subst, sym, refl, ℕ, suc, ◌+◌, ◌-◌, ◌<◌, ◌≤◌, List, [], ◌∷◌, ◌++◌, Bool, true, false, cond, Some, None, take, drop, length, arith, length-drop}
+use Rattle.std.specs.Prelude.{◌==◌, not, nat_lt, ◌||◌, position, map}
 use Rattle.std.specs.List.{prefix_len, list_all, join_with_byte}
 use Rattle.std.proofs.lemmas.List.{take_all}
 use borrow.Author.Tests.{ltb-true, ltb-false}
-use Rattle.wire_types.specs.Said.{is_word_byte}
 use Rattle.wire_lines.proofs.Colon.{cut_parts, and_left, and_right}
 use Rattle.wire_pattern.specs.Lawful.{is_plain_byte, is_base}
-use Rattle.wire_pattern_lines.specs.Said.{Key, Proc, spelled_key, is_lawful_key, spelled_proc, is_lawful_proc}
+use Rattle.wire_pattern_lines.specs.Said.{Key, Proc, spelled_key, is_lawful_key, spelled_proc}
 
 abbrev pub bracket : ℕ → Bool
 bracket b = b == 91

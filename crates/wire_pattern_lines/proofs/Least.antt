@@ -1,5 +1,5 @@
 -- The words by which a group has a least size.
-use Rattle.std.proofs.Common.{◌≡◌, ◌∙◌, sym, refl, List, [], ◌∷◌, ℕ, ◌≤◌, ◌<◌, ◌^◌, true, false, Bool, codes, decimal, arith, if◌then◌else◌}
+use Rattle.std.proofs.Common.{◌≡◌, ◌∙◌, sym, refl, List, [], ◌∷◌, ℕ, ◌≤◌, ◌<◌, ◌^◌, true, false, codes, decimal, arith, if◌then◌else◌}
 use Rattle.std.specs.Prelude.{◌==◌}
 use Rattle.std.proofs.lemmas.Fmt.{decimal_injective}
 use borrow.Author.Tests.{eqb-false}

@@ -1,14 +1,12 @@
 -- Words that list parts with commas between them.
-use Rattle.std.proofs.Common.{◌≡◌, ◌∙◌, ap, sym, refl, ℕ, zero, suc, ◌+◌, ◌<◌, List, [], ◌∷◌, ◌++◌, Bool, true, false, length, map, arith, get_or, codes}
-use Rattle.std.specs.Prelude.{◌==◌, not, ◌&&◌, ◌||◌}
+use Rattle.std.proofs.Common.{◌≡◌, ◌∙◌, ap, sym, refl, ℕ, zero, suc, ◌<◌, List, [], ◌∷◌, ◌++◌, Bool, true, length, map, arith, get_or, codes}
 use Rattle.std.specs.List.{list_all, slice_split, join_with_byte}
 use Rattle.std.specs.Borrow.{Bor}
 use Rattle.std.proofs.lemmas.List.Splits.{join_with_byte-slice_split, length-slice_split}
 use Rattle.std.proofs.lemmas.List.Folds.{list_all-append}
-use Rattle.wire_types.specs.Said.{is_word_byte, is_name_byte}
 use Rattle.wire_types.specs.Texts.{texts_of}
 use Rattle.wire_lines.proofs.Colon.{and_left, and_right}
-use Rattle.wire_lines.proofs.Joined.{no_comma, comma, AllPlain, cut_joined}
+use Rattle.wire_lines.proofs.Joined.{no_comma, comma, AllPlain, name_plain, cut_joined}
 use Rattle.wire_pattern_lines.specs.Said.{Proc, Caller, Each, Named, spelled_proc, is_lawful_proc, Item, One, Every, spelled_item, is_lawful_item}
 use Rattle.wire_pattern_lines.specs.Said.{Set, Own, Listed, spelled_set, is_lawful_set}
 
@@ -59,25 +57,6 @@ some_mapped f (x ∷ xs) h = omega arith
 pub length_mapped : {A B : Type 0} (f : A → B) (xs : List A) → 0 < length xs → 0 < length (map f xs)
 length_mapped f [] h = h
 length_mapped f (x ∷ xs) h = omega arith
-
-name_byte_plain : (b : ℕ) → is_name_byte b ≡ true → no_comma b ≡ true
-name_byte_plain b =
-    elim (b == 44) as (λ t. (is_word_byte b && not (b == 58 || t || b == 35 || b == 42)) ≡ true → not t ≡ true) [
-      | true ↦ λ e. comma_in (is_word_byte b) (b == 58) e
-      | false ↦ λ e. refl
-    ]
-  where
-    comma_in : (w c : Bool) → (w && not (c || true || b == 35 || b == 42)) ≡ true → false ≡ true
-    comma_in true true e = e
-    comma_in true false e = e
-    comma_in false c e = e
-
-name_plain : (xs : List ℕ) → list_all is_name_byte xs ≡ true → list_all no_comma xs ≡ true
-name_plain [] h = refl
-name_plain (x ∷ xs) h =
-    let head : no_comma x ≡ true = name_byte_plain x (and_left _ _ h) in
-    let rest : list_all no_comma xs ≡ true = name_plain xs (and_right _ _ h) in
-    rw (head, rest) refl
 
 pub proc_plain : (p : Proc) → is_lawful_proc p ≡ true → list_all no_comma (spelled_proc p) ≡ true
 proc_plain Caller h = refl

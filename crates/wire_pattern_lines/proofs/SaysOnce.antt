@@ -1,28 +1,26 @@
 -- The words of a line say one thing.
-use Rattle.std.proofs.Common.{◌≡◌, ◌∙◌, ap, sym, refl, subst, true≢false, ℕ, List, [], ◌∷◌, ◌++◌, ◌<◌, ◌≤◌, ◌^◌, Bool, true, false, length, map, decimal, codes, arith, if◌then◌else◌}
+use Rattle.std.proofs.Common.{◌≡◌, ◌∙◌, ap, sym, refl, subst, true≢false, ℕ, List, [], ◌∷◌, ◌++◌, ◌<◌, ◌≤◌, Bool, true, false, length, map, decimal, codes, arith, if◌then◌else◌}
 use Rattle.std.specs.Str.{bytes_eq}
-use Rattle.std.specs.Prelude.{◌==◌, ◌&&◌, not, nat_le}
+use Rattle.std.specs.Prelude.{◌==◌, not}
 use Rattle.std.specs.List.{slice_split, list_all, join_with_byte}
 use Rattle.std.proofs.lemmas.Fmt.{decimal_injective}
 use borrow.Author.Tests.{leb-true, eqb-true}
 use Rattle.wire_runs.specs.Patterns.{Turns, InOrder, Round, Chosen}
-use Rattle.wire_types.specs.Said.{spelled_scope, collect_words, is_key}
-use Rattle.wire_types.specs.declared.Scope.{Scope}
-use Rattle.wire_types.specs.declared.Scope.TheVariants.{Local, Remote, Global}
+use Rattle.wire_types.specs.Said.{spelled_scope, collect_words}
 use Rattle.wire_lines.proofs.Colon.{plain, names_plain, and_left, and_right}
 use Rattle.wire_lines.proofs.Joined.{comma}
+use Rattle.wire_lines.proofs.SaysOnce.{scope_once, collect_once}
 use Rattle.wire_pattern.specs.Lawful.{is_base}
 use Rattle.wire_pattern_lines.specs.Said.{Proc, Caller, Each, Named, Key, Item, One, Every, Set, Own, Listed, Call, Put, Commit, Fence, Get, GetNow, Publish, Lookup}
 use Rattle.wire_pattern_lines.specs.Said.{LookupWait, Unpublish, UnpublishAll, Said, Header, Keep, Job, Single, Many, Begin, End, Calls}
 use Rattle.wire_pattern_lines.specs.Said.{spelled_proc, is_lawful_proc, spelled_key, is_lawful_key, spelled_item, is_lawful_item, spelled_set, is_lawful_set, is_role_name, is_kept_word}
-use Rattle.wire_pattern_lines.specs.Said.{is_lawful, is_lawful_call, first_word, other_words, first_of_call, others_of_call, min_words, turn_words, is_bare_name}
+use Rattle.wire_pattern_lines.specs.Said.{is_lawful, is_lawful_call, first_word, other_words, first_of_call, others_of_call, min_words, turn_words}
 use Rattle.wire_pattern_lines.specs.Once.{SaysOnce}
-use Rattle.wire_pattern_lines.proofs.Bracket.{cut_once, base_closed, last_once, key_cut}
+use Rattle.wire_pattern_lines.proofs.Bracket.{base_closed, last_once, key_cut}
 use Rattle.wire_pattern_lines.proofs.Parts.{cut_list, proc_plain, item_plain}
 use Rattle.wire_pattern_lines.proofs.Items.{star_once}
-use Rattle.wire_pattern_lines.proofs.Least.{min_shown}
 
--- each kind of line, of call and of scope has a number that its word shows
+-- each kind of line and of call has a number that its word shows
 abbrev kind : Said → ℕ
 kind Header = 0
 kind Keep = 1
@@ -86,34 +84,6 @@ shows_call (Lookup name) = refl
 shows_call (LookupWait name) = refl
 shows_call (Unpublish name) = refl
 shows_call UnpublishAll = refl
-
-abbrev number_of_scope : Scope → ℕ
-number_of_scope Local = 0
-number_of_scope Remote = 1
-number_of_scope Global = 2
-
-abbrev shown_of_scope : List ℕ → ℕ
-shown_of_scope w = if bytes_eq w (codes "local") then 0 else if bytes_eq w (codes "remote") then 1 else 2
-
-shows_scope : (s : Scope) → shown_of_scope (spelled_scope s) ≡ number_of_scope s
-shows_scope Local = refl
-shows_scope Remote = refl
-shows_scope Global = refl
-
-scope_by_number : (s t : Scope) → number_of_scope s ≡ number_of_scope t → s ≡ t
-scope_by_number Local Local e = refl
-scope_by_number Remote Remote e = refl
-scope_by_number Global Global e = refl
-scope_by_number _ _ e = absurd (omega arith)
-
-scope_once : (s t : Scope) → spelled_scope s ≡ spelled_scope t → s ≡ t
-scope_once s t e = scope_by_number s t (sym (shows_scope s) ∙ ap shown_of_scope e ∙ shows_scope t)
-
-collect_once : (a b : Bool) → collect_words a ≡ collect_words b → a ≡ b
-collect_once true true e = refl
-collect_once true false e = absurd (cc)
-collect_once false true e = absurd (cc)
-collect_once false false e = refl
 
 -- a word that names no role
 no_role : (word role : List ℕ) → is_kept_word word ≡ true → is_role_name role ≡ true → word ≡ role → ⊥

@@ -1,5 +1,5 @@
 -- From what a result that may be none says, to what follows from that.
-use Rattle.std.proofs.Common.{◌≡◌, Option, Some, None, Result, Ok, Err}
+use Rattle.std.proofs.Common.{Option, Some, None, Result, Ok, Err}
 use Rattle.std.specs.Prelude.{IfOk, IfSome, IfNone}
 
 pub some_through : {A E : Type 0} (P Q : A → Type 0) (r : Result (Option A) E) → ((v : A) → P v → Q v) → IfOk r (λ o. IfSome o (λ v. P v)) → IfOk r (λ o. IfSome o (λ v. Q v))

@@ -17,8 +17,8 @@ ghost use Rattle.wire_pattern_lines.specs.Shown.{proc_by, key_by, call_by};
 use crate::key::{Key, key_of};
 use crate::procs::{Proc, proc_of};
 use crate::sets::{Set, set_of};
-use crate::word::{is_text, is_word, scope_of};
 use std::alloc::{AllocError, Global};
+use wire_lines::{collect_of, is_star_alone, is_word, scope_of};
 use wire_types::{Scope, Verb};
 
 /// A call line, with its parts as they stand in the text.
@@ -150,28 +150,6 @@ fn target_of<'a>(
     match key_of(alloc, word)? {
         Some(key) => Ok(Some((owner, key))),
         None => Ok(None),
-    }
-}
-
-/// Whether a fence collects, by the words after its set.
-fn collect_of(words: &[&[u8]]) -> Option<bool>
-    ensures found { IfSome result (λ c. texts_of words.now ≡ collect_words c) }
-    ensures none { IfNone result ((collect : Bool) → texts_of words.now ≢ collect_words collect) }
-{
-    match words {
-        [] => Some(false),
-        [word] if is_text(word, b"collect") => Some(true),
-        _ => None,
-    }
-}
-
-/// Whether the only word is a star.
-fn is_star_alone(words: &[&[u8]]) -> bool
-    ensures { IsTrue result ↔ (texts_of words.now ≡ codes "*" ∷ []) }
-{
-    match words {
-        [word] => is_text(word, b"*"),
-        _ => false,
     }
 }
 

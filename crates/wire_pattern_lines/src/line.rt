@@ -15,9 +15,9 @@ ghost use Rattle.wire_pattern_lines.specs.Once.{SaysOnce};
 ghost use Rattle.wire_pattern_lines.specs.declared.line.Kind.{Kind};
 
 use crate::call::{CallLine, call_of};
-use crate::word::{is_bare_name, is_role_name, is_text, verb_of};
+use crate::word::{is_bare_name, is_role_name};
 use std::alloc::{AllocError, Global};
-use wire_lines::number_of;
+use wire_lines::{is_text, number_of, verb_of};
 use wire_pattern::Turns;
 use wire_types::Verb;
 

@@ -7,9 +7,9 @@ ghost use Rattle.wire_pattern_lines.specs.Said as spec;
 ghost use Rattle.wire_pattern_lines.specs.Said.{spelled_proc, is_lawful_proc};
 ghost use Rattle.wire_pattern_lines.specs.Shown.{proc_by};
 
-use crate::word::{is_role_name, is_text};
+use crate::word::is_role_name;
 use std::alloc::{AllocError, Global};
-use wire_lines::cut_parts;
+use wire_lines::{cut_parts, is_text};
 
 /// A process as a word names it.
 #[derive(Clone, Copy)]

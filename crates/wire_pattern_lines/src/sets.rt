@@ -8,9 +8,9 @@ ghost use Rattle.wire_pattern_lines.specs.Said.{spelled_item, spelled_set, is_la
 ghost use Rattle.wire_pattern_lines.specs.Shown.{item_by, set_by};
 
 use crate::procs::{Proc, proc_of};
-use crate::word::{is_bare_name, is_text};
+use crate::word::is_bare_name;
 use std::alloc::{AllocError, Global};
-use wire_lines::cut_parts;
+use wire_lines::{cut_parts, is_text};
 
 /// An item of the set of a fence.
 #[derive(Clone, Copy)]

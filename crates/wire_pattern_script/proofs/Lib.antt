@@ -3,6 +3,5 @@ pub mod Mapped
 pub mod Named
 pub mod Judging
 pub mod Once
-pub mod Lawful
 pub mod Fit
 pub mod Sound

@@ -3,5 +3,4 @@ pub mod Drafted
 pub mod Numbers
 pub mod Faults
 pub mod Reads
-pub mod Sound
 pub mod Fit

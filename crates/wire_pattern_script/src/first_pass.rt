@@ -192,7 +192,8 @@ fn names_each(call: &CallLine) -> bool
     }
 }
 
-/// Whether a call may stand here: outside of loops where it names no process of a turn, in one where it does, or commits.
+/// Whether a call may stand here: outside of loops where it names no process of a turn, in one where it does, or
+/// commits.
 fn is_turn_right(draft: &Draft, call: &CallLine) -> bool
     ensures { result ≡ spec.is_turn_right (declared_of draft.now).open_loop (call_by call.now) }
 {

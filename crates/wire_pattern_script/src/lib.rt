@@ -10,4 +10,4 @@ mod reader;
 mod second_pass;
 mod third_pass;
 
-pub use reader::{pattern_reads_once, read_pattern, sound_is_lawful};
+pub use reader::{pattern_reads_once, read_pattern};

@@ -6,7 +6,6 @@ ghost use Rattle.wire_pattern_script.specs.Reads.{ReadsPattern, ReadsShort, Patt
 ghost use Rattle.wire_pattern_script.specs.Reads.{most_bytes};
 ghost use Rattle.wire_pattern_script.specs.Numbers.{pattern_of as numbered_pattern};
 ghost use Rattle.wire_pattern_script.specs.Faults.{roles_fault};
-ghost use Rattle.wire_pattern_script.specs.Sound.{SoundIsLawful};
 ghost use Rattle.wire_pattern_script.specs.Fit.{IsFit};
 ghost use Rattle.wire_pattern_script.specs.Drafted.{declared_of};
 
@@ -89,9 +88,4 @@ fn pattern_of(alloc: Global, draft: Draft) -> Result<Pattern, Fault>
 /// A law: a text reads as at most one value.
 pub fn pattern_reads_once()
     ensures { PatternReadsOnce }
-{}
-
-/// A law: a sound pattern is lawful, as the laws of patterns want it.
-pub fn sound_is_lawful()
-    ensures { SoundIsLawful }
 {}

@@ -8,7 +8,7 @@ use Rattle.wire_runs.specs.Puts.{own, stored, scope_of}
 use Rattle.wire_runs.specs.Fences.{arrivals, is_member, is_complete, is_collecting, has_node}
 use Rattle.wire_runs.specs.Sight.{held, served, for_others, has_brought, delivered, kept, brought, get_now_sees}
 use Rattle.wire_runs.specs.Order.{IsArrival, Live, Before}
-use Rattle.wire_runs.specs.Races.{Delivery, ByFence, ByGet, IsOf, Delivers, ComesSurely, IsSettled}
+use Rattle.wire_runs.specs.Races.{Delivery, ByFence, ByGet, IsOf, FenceDelivers, GetDelivers, Delivers, ComesSurely, IsSettled}
 use Rattle.wire_runs.proofs.Basics.{arrivals_rise, arrivals_step, event_within}
 use Rattle.wire_runs.proofs.Due.{ClosedCut, arrived}
 use Rattle.wire_runs.proofs.Puts.{stored_fixed}
@@ -186,3 +186,59 @@ module _ (plan : Plan) (settled : IsSettled plan) (s r : State) (y : Event) (up 
       | inr away ↦ cond-false _ _ _ away ∙ ap held (brought_same away) ∙ sym (cond-false _ _ _ away)
     ])
   ]
+
+-- what has come to a node a delivery has brought that is done
+pub came_by : (plan : Plan) (s : State) → ClosedCut plan s.done → Answered plan s → (t key node u : ℕ) → (node_of plan t ≡ node → ⊥) → Came plan s t key node u →
+    (d : Delivery) × Delivers plan t key node d × ((z : Event) → IsOf plan d z → IsDone s z)
+came_by plan s closed answered t key node u apart (by_fence b a) =
+    let j = arrivals plan t b.members (suc b.at) in
+    let parts = brings_parts plan s.done t node b.members j b.brings_it in (
+      ByFence b.members j,
+      record {
+        brings_it = record {
+          reaches = parts.3;
+          away = record {
+            full = complete_more plan s.done (event_count plan) b.members j closed.within parts.0;
+            collecting = parts.1;
+            member = parts.2;
+            at = b.at;
+            put = u;
+            arrival = record { collect = b.collect; is = b.is; member = parts.2; nth = refl };
+            committed = b.stored_is;
+            admitted = a;
+          };
+        };
+        all_live = λ z z_arrives. closed.all_live z (arrived plan s.done b.members j z parts.0 z_arrives);
+      },
+      (λ z z_arrives. arrived plan s.done b.members j z parts.0 z_arrives),
+    )
+came_by plan s closed answered t key node u apart (by_get keeps g) =
+    let v = answered_value plan s answered t key node u apart g in (
+      ByGet g.get,
+      record {
+        brings_it = record { away = record { keeps = keeps; is = g.is; put = u; committed = v.0; admitted = v.1 }; there = g.there };
+        all_live = λ z e. closed.all_live z (subst (IsDone s) (sym e) g.is_done);
+      },
+      (λ z e. subst (IsDone s) (sym e) g.is_done),
+    )
+
+-- what a delivery that is done brought has come
+pub came_of : (plan : Plan) (s : State) → Answered plan s → (t key node : ℕ) → (node_of plan t ≡ node → ⊥) → (d : Delivery) → Delivers plan t key node d → ((z : Event) → IsOf plan d z → IsDone s z) →
+    (u : ℕ) × Came plan s t key node u
+came_of plan s answered t key node apart (ByFence members j) delivers done =
+    let d : FenceDelivers plan t key node members j = delivers.brings_it in
+    let complete_now = complete_if_arrived plan s.done members j d.away.full done in (
+      d.away.put,
+      by_fence (record {
+        at = d.away.at;
+        members = members;
+        collect = d.away.arrival.collect;
+        is = d.away.arrival.is;
+        brings_it = subst (λ i. has_brought plan s.done t node members i ≡ true) (sym d.away.arrival.nth) (and_from _ _ complete_now (and_from _ _ d.away.collecting (and_from _ _ d.away.member d.reaches)));
+        stored_is = d.away.committed;
+        below = event_within plan t d.away.at _ d.away.arrival.is;
+      }) d.away.admitted,
+    )
+came_of plan s answered t key node apart (ByGet get) delivers done =
+    let d : GetDelivers plan t key node get = delivers.brings_it in
+    (d.away.put, by_get d.away.keeps (get_brought plan s answered t key node apart get d (done get refl)))

@@ -1,7 +1,6 @@
 -- What is found in the large plan among images is found in the small one.
-use Rattle.std.proofs.Common.{◌≡◌, ℕ, suc, ◌<◌, ◌≤◌, List, true, false, Some, inl, inr, refl, sym, ap, ◌∙◌, subst, arith, leb-true}
+use Rattle.std.proofs.Common.{◌≡◌, ℕ, ◌<◌, ◌≤◌, List, true, false, Some, refl, sym, ap, ◌∙◌, subst, arith, leb-true}
 use Rattle.std.specs.Prelude.{option_map}
-use Rattle.std.proofs.lemmas.Bool.{cases_lt}
 use Rattle.wire_types.specs.declared.Scope.{Scope}
 use Rattle.wire_runs.specs.Plan.{Plan, Event, Kind, Put, Get, GetNow, kind, event_count, process_count, node_of, same_node, admits}
 use Rattle.wire_runs.specs.Puts.{own, stored, put_count, scope_in, scope_of}
@@ -10,11 +9,12 @@ use Rattle.wire_runs.specs.Order.{Stores, IsArrival, Live, Before}
 use Rattle.wire_runs.specs.Races.{IsRewrite, IsUnordered, IsPutOnce, IsNodeRace, Delivery, ByFence, ByGet, IsOf, FenceDelivers, GetDelivers, Delivers, ComesSurely, IsDeliveryRace, IsNameRace, IsSettled}
 use Rattle.wire_runs.specs.Embeddings.{Renaming, image, image_kind, IsNameOf, IsSetOf, IsEmbedding, IsKept, EmbeddingsKeepFindings}
 use Rattle.wire_runs.proofs.Basics.{list_all_at_member, arrivals_step, event_within, process_within}
-use Rattle.wire_runs.proofs.Brought.{no_least, nth_arrival}
+use Rattle.wire_runs.proofs.Brought.{nth_arrival}
 use Rattle.wire_runs.proofs.Histories.{before_live}
-use Rattle.wire_runs.proofs.Arrivals.{one_arrival, left_first, left_full, left_arrived, all_undenied, node_among, mate_on, stored_is_put}
+use Rattle.wire_runs.proofs.Arrivals.{one_arrival, left_first, left_full, left_arrived, node_among, mate_on, stored_is_put}
 use Rattle.wire_runs.proofs.Images.{mapped_some, image_order, event_back, own_none, stored_end, puts_end, stores_back, full_back, collecting_back, arrival_into, arrival_back, writes_back, calls_back}
 use Rattle.wire_runs.proofs.EmbeddedOrder.{chain_into, live_back}
+use Rattle.wire_runs.proofs.Deliveries.{none_delivers}
 
 abbrev key_in : Kind → ℕ
 key_in (Put key scope) = key
@@ -119,7 +119,7 @@ module _ (to : Renaming) (small large : Plan) (e : IsEmbedding to small large) w
   -- a get-now whose image is live
   module _ (owner key : ℕ) (get : Event) (is : kind small get ≡ Some (GetNow owner key)) (live_get : Live large (image to get)) where
     -- a delivery that surely comes first in the small plan surely comes first in the large one
-    sure_into : (d : Delivery) → Delivers small owner key (node_of small get.proc) d → ((z : Event) → IsOf small d z → Before small z get) →
+    pub sure_into : (d : Delivery) → Delivers small owner key (node_of small get.proc) d → ((z : Event) → IsOf small d z → Before small z get) →
         ComesSurely large (to.process owner) (to.key key) (node_of large (to.process get.proc)) (image to get)
     sure_into (ByGet g) d before =
         let b : GetDelivers small owner key (node_of small get.proc) g = d.brings_it in
@@ -173,45 +173,13 @@ module _ (to : Renaming) (small large : Plan) (e : IsEmbedding to small large) w
           all_before = left_arrived large (to.members members) j (image to get) left;
         }
 
-    -- in a settled plan nothing of a delivery is denied to come first, but if all of it did, it would come surely
-    module _ (settled : IsSettled small) (away : same_node small owner get.proc ≡ false) (once : IsPutOnce large (to.process owner) (to.key key))
-        (not_sure : ComesSurely large (to.process owner) (to.key key) (node_of large (to.process get.proc)) (image to get) → ⊥) where
-      not_sure_there : ComesSurely small owner key (node_of small get.proc) get → ⊥
-      not_sure_there s = not_sure (sure_into s.delivery s.delivers s.all_before)
-
-      module _ (d : Delivery) (delivers : Delivers small owner key (node_of small get.proc) d) (none : (z : Event) → IsOf small d z → Before small get z → ⊥) where
-        -- an event of it that isn't before the get, of the process with this number
-        abbrev Late : ℕ → Type 0
-        Late r = (z : Event) × IsOf small d z × (Before small z get → ⊥) × (z.proc ≡ r)
-
-        no_first : (r : ℕ) → Late r → ((i : ℕ) → i < r → Late i → ⊥) → ⊥
-        no_first r late least = settled.no_delivery_race late.0 get owner key (record {
-          is = is;
-          other = away;
-          once = sym (puts_end to small large e owner key (get, _, is, refl)) ∙ once;
-          get_live = live_back to small large e get live_get;
-          not_sure = not_sure_there;
-          delivery = d;
-          delivers = delivers;
-          before_none = none;
-          of_it = late.1;
-          not_before = late.2;
-          first = λ z a not. elim (cases_lt z.proc late.0.proc) [
-            | inl lt ↦ absurd (let same = late.3 in least z.proc (omega (arith, lt, same)) (z, a, not, refl))
-            | inr ge ↦ ge
-          ];
-        })
-
-        no_late : (z : Event) → IsOf small d z → (Before small z get → ⊥) → ⊥
-        no_late z a not = no_least Late no_first (suc z.proc) z.proc (omega arith) (z, a, not, refl)
-
-      none_delivers : (d : Delivery) → Delivers small owner key (node_of small get.proc) d → ((z : Event) → IsOf small d z → Before small get z → ⊥) → ⊥
-      none_delivers (ByGet g) delivers none =
-          no_late (ByGet g) delivers none g refl
-          (λ b. not_sure_there (record { delivery = ByGet g; delivers = delivers; all_before = λ z s. subst (λ v. Before small v get) (sym s) b }))
-      none_delivers (ByFence members j) delivers none =
-          all_undenied small members j (λ z. Before small z get) (no_late (ByFence members j) delivers none) members
-          (λ all. not_sure_there (record { delivery = ByFence members j; delivers = delivers; all_before = λ z a. all z a a.member }))
+    -- in a settled plan the get-now is before some event of each delivery, where surely none comes
+    none_comes : IsSettled small → same_node small owner get.proc ≡ false → IsPutOnce large (to.process owner) (to.key key) →
+        (ComesSurely large (to.process owner) (to.key key) (node_of large (to.process get.proc)) (image to get) → ⊥) →
+        (d : Delivery) → Delivers small owner key (node_of small get.proc) d → ((z : Event) → IsOf small d z → Before small get z → ⊥) → ⊥
+    none_comes settled away once not_sure =
+        none_delivers small settled get owner key is (live_back to small large e get live_get) away (sym (puts_end to small large e owner key (get, _, is, refl)) ∙ once)
+        (λ s. not_sure (sure_into s.delivery s.delivers s.all_before))
 
     -- a delivery of the large plan that is kept is one of the small plan
     committed_back : (n put : ℕ) → n ≤ event_count small owner → stored large (to.process owner) (to.key key) (to.place owner n) ≡ Some put → admits (scope_of large (to.process owner) put) false ≡ true →
@@ -277,7 +245,7 @@ module _ (to : Renaming) (small large : Plan) (e : IsEmbedding to small large) w
       let is : kind small get ≡ Some (GetNow owner g.1) = k.1 ∙ ap Some (g.4 ∙ ap (λ p. GetNow p g.1) (e.one_process _ _ g.2)) in
       let once : IsPutOnce large (to.process owner) (to.key g.1) = subst (λ n. IsPutOnce large (to.process owner) n) (sym g.3) race.once in
       let not_sure = subst (λ n. ComesSurely large (to.process owner) n (node_of large (to.process get.proc)) (image to get) → ⊥) (sym g.3) race.not_sure in
-      let denied = none_delivers owner g.1 get is race.get_live settled away once not_sure in
+      let denied = none_comes owner g.1 get is race.get_live settled away once not_sure in
       go g.1 is race.get_live denied race.delivery (subst (λ n. Delivers large (to.process owner) n (node_of large (to.process get.proc)) race.delivery) (sym g.3) race.delivers) race.before_none kept
     where
       none_back : (z : Event) → Live large (image to z) → (Before large (image to get) (image to z) → ⊥) → Before small get z → ⊥

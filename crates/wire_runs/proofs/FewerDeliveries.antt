@@ -114,7 +114,7 @@ module _ (pattern : Pattern) (coding : Coding) (cast : Cast) (role : ℕ) (lawfu
         refuted source y get p owner key at own (apart_there y get p owner w.6 ltp at own f.other) f (subst (λ d. IsKept to small large p (node_of small y.proc) d) (sym is) kept)
 
     -- a get of an image's key, by another process, isn't in the turn for r
-    get_turn : (v e owner key own : ℕ) → Origin pattern coding cast v e (Get owner key) → (v ≡ r → ⊥) → (owner ≡ r → ⊥) → to.key own ≡ key → e ≡ r → ⊥
+    pub get_turn : (v e owner key own : ℕ) → Origin pattern coding cast v e (Get owner key) → (v ≡ r → ⊥) → (owner ≡ r → ⊥) → to.key own ≡ key → e ≡ r → ⊥
     get_turn v e owner key own (InScript line known same h) not_v not_owner key_is s = not_v (sym same ∙ s)
     get_turn v e owner key own (InLoop other line known l i h) not_v not_owner key_is s =
         let g = get_line coding cast v e line owner key h in
@@ -154,7 +154,7 @@ module _ (pattern : Pattern) (coding : Coding) (cast : Cast) (role : ℕ) (lawfu
         (subst (λ d. IsKept to small large p (node_of small y.proc) d) (sym is) kept)
 
   -- the turn of a fence's call: the caller's own, or for a process of another role; or the fence has nobody of the role but these two
-  turn_case : (p e : ℕ) (members : List ℕ) (collect : Bool) → Origin pattern coding cast p e (Arrive members collect) →
+  pub turn_case : (p e : ℕ) (members : List ℕ) (collect : Bool) → Origin pattern coding cast p e (Arrive members collect) →
       ((e ≡ p) ⊎ (is_member (group role cast.roles) e ≡ false)) ⊎
       ((r : ℕ) → CanGo pattern cast r role → (p ≡ r → ⊥) → (e ≡ r → ⊥) → is_member members r ≡ false)
   turn_case p e members collect (InScript line known same h) = inl (inl same)
@@ -176,7 +176,7 @@ module _ (pattern : Pattern) (coding : Coding) (cast : Cast) (role : ℕ) (lawfu
       not_both None a b differ = true≢false (sym a)
       not_both (Some x) a b differ = differ (sym (eqb-true x other b) ∙ eqb-true x role a)
 
-  of_role : (r : ℕ) → CanGo pattern cast r role → is_member (group role cast.roles) r ≡ true
+  pub of_role : (r : ℕ) → CanGo pattern cast r role → is_member (group role cast.roles) r ≡ true
   of_role r can = group_member role cast.roles r ∙ ap (λ o. plays o role) can.is ∙ eq-eqb role role refl
 
   pub no_delivery_race : (source get : Event) (owner key : ℕ) → IsDeliveryRace large source get owner key → ⊥

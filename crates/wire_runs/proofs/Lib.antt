@@ -46,6 +46,7 @@ pub mod PlacedRows
 pub mod Images
 pub mod EmbeddedOrder
 pub mod Arrivals
+pub mod Deliveries
 pub mod EmbeddedFindings
 pub mod Placements
 pub mod Parts
@@ -63,6 +64,7 @@ pub mod TurnMarks
 pub mod TurnOrigins
 pub mod FewerFindings
 pub mod FewerDeliveries
+pub mod SameRoles
 pub mod SmallInstances
 pub mod Codings
 pub mod Renumbered

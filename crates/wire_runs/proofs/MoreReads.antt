@@ -22,7 +22,7 @@ use Rattle.wire_runs.proofs.EmbeddedOrder.{chain_into, live_back}
 use Rattle.wire_runs.proofs.EmbeddedFindings.{scope_same, get_delivers_back, fence_delivers_back}
 use Rattle.wire_runs.proofs.Parts.{rising, kinds_agree, collects_track, back_end, parts_embed}
 
-kind_in_place : (pieces : ℕ → List Piece) (k : Kind) → image_kind (in_place pieces) k ≡ k
+pub kind_in_place : (pieces : ℕ → List Piece) (k : Kind) → image_kind (in_place pieces) k ≡ k
 kind_in_place pieces (Put key scope) = refl
 kind_in_place pieces Commit = refl
 kind_in_place pieces (Arrive members collect) = refl
@@ -89,14 +89,14 @@ module _ (small large : Plan) (pieces : ℕ → List Piece) (adds : AddsReads sm
   }
 
   -- an event of the large plan is an image, or a read
-  spot : (z : Event) (k : Kind) → kind large z ≡ Some k → ((y : Event) × (image to y ≡ z) × (kind small y ≡ Some k)) ⊎ IsRead k
+  pub spot : (z : Event) (k : Kind) → kind large z ≡ Some k → ((y : Event) × (image to y ≡ z) × (kind small y ≡ Some k)) ⊎ IsRead k
   unfolding kind_at
   spot z k is = elim (stands_or_read to (pieces z.proc) (adds.reads z.proc) z.at k (ap (λ ks. slice_get ks z.at) (sym (adds.all z.proc)) ∙ is)) [
     | inl s ↦ inl (record { proc = z.proc; at = s.0 }, (λ t. record { proc = z.proc; at = s.1 t }), ap (λ ks. slice_get ks s.0) (adds.kept z.proc) ∙ s.3 ∙ ap Some (sym (kind_in_place pieces s.2) ∙ s.4))
     | inr r ↦ inr r
   ]
 
-  kind_into : (y : Event) (k : Kind) → kind small y ≡ Some k → kind large (image to y) ≡ Some k
+  pub kind_into : (y : Event) (k : Kind) → kind small y ≡ Some k → kind large (image to y) ≡ Some k
   kind_into y k is = kinds_agree to small large pieces each y k is ∙ ap Some (kind_in_place pieces k)
 
   -- two events with one image are one
@@ -168,7 +168,7 @@ module _ (small large : Plan) (pieces : ℕ → List Piece) (adds : AddsReads sm
     keeps = adds.keeps;
   }
 
-  e : IsEmbedding to small large
+  pub e : IsEmbedding to small large
   e = parts_embed to small large pieces part
 
   kind_back : (y : Event) (k : Kind) → kind large (image to y) ≡ Some k → kind small y ≡ Some k
@@ -178,7 +178,7 @@ module _ (small large : Plan) (pieces : ℕ → List Piece) (adds : AddsReads sm
   arrival_here z members j a = let b = arrival_back to small large e z members j a in subst (λ ms. IsArrival small ms j z) b.1 b.2
 
   -- of an arrival in the large plan, the event of which it is the image
-  arrival_spot : (z : Event) (members : List ℕ) (j : ℕ) → IsArrival large members j z → (y : Event) × (image to y ≡ z) × IsArrival small members j y
+  pub arrival_spot : (z : Event) (members : List ℕ) (j : ℕ) → IsArrival large members j z → (y : Event) × (image to y ≡ z) × IsArrival small members j y
   arrival_spot z members j a = elim (spot z _ a.is) [ inl s ↦ (s.0, s.1, arrival_here s.0 members j (subst (λ v. IsArrival large members j v) (sym s.1) a)) | inr r ↦ absurd r ]
 
   full_same : (members : List ℕ) (j : ℕ) → IsSetOf small members → is_full large members j ≡ is_full small members j
@@ -391,7 +391,7 @@ module _ (small large : Plan) (pieces : ℕ → List Piece) (adds : AddsReads sm
             subst (λ m. Live large (record { proc = y.proc; at = m })) s here)
       ]
 
-  live_into : (y : Event) → Live small y → Live large (image to y)
+  pub live_into : (y : Event) → Live small y → Live large (image to y)
   live_into y l = up_to_live l (place_in (pieces y.proc) y.at) (omega arith)
 
   unordered_into : (x y : Event) → IsUnordered small x y → IsUnordered large (image to x) (image to y)

@@ -119,16 +119,16 @@ pub count_placed : (nodes : ℕ → ℕ) (plan : Plan) → process_count (placin
 count_placed nodes plan = placed_length nodes plan.processes
 
 -- which two share a node
-pair_first : (p q : ℕ) → pair p q p ≡ p
+pub pair_first : (p q : ℕ) → pair p q p ≡ p
 pair_first p q = elim (cases_eq p q) [ inl e ↦ cond-true _ _ _ (eq-eqb p q e) | inr ne ↦ cond-false _ _ _ (ne_eqb p q ne) ]
 
-pair_second : (p q : ℕ) → pair p q q ≡ p
+pub pair_second : (p q : ℕ) → pair p q q ≡ p
 pair_second p q = cond-true _ _ _ (eq-eqb q q refl)
 
-pair_other : (p q r : ℕ) → (r ≡ q → ⊥) → pair p q r ≡ r
+pub pair_other : (p q r : ℕ) → (r ≡ q → ⊥) → pair p q r ≡ r
 pair_other p q r ne = cond-false _ _ _ (ne_eqb r q ne)
 
-pair_together : (f : ℕ → ℕ) (p q r s : ℕ) → f p ≡ f q → pair p q r ≡ pair p q s → f r ≡ f s
+pub pair_together : (f : ℕ → ℕ) (p q r s : ℕ) → f p ≡ f q → pair p q r ≡ pair p q s → f r ≡ f s
 pair_together f p q r s together same = elim (cases_eq r q) [
   | inl er ↦ elim (cases_eq s q) [
     | inl es ↦ ap f (er ∙ sym es)

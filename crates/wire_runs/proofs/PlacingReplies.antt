@@ -2,14 +2,13 @@
 use Rattle.std.proofs.Common.{◌≡◌, ℕ, suc, ◌<◌, ◌≤◌, List, [], ◌∷◌, Bool, true, false, cond, Option, Some, None, is_some, inl, inr, ⊎_elim, refl, sym, ap, ◌∙◌, subst, arith, eq-eqb, ne_eqb}
 use Rattle.std.specs.Prelude.{slice_get, ◌↔◌}
 use Rattle.std.proofs.lemmas.Option.{same_Some, slice_get_past}
-use Rattle.std.proofs.lemmas.Bool.{cond-true, cond-false, cases_lt, cases_Bool, and_from, true≢false}
+use Rattle.std.proofs.lemmas.Bool.{cond-true, cond-false, cases_lt, cases_Bool, true≢false}
 use Rattle.wire_types.specs.declared.Scope.{Scope}
 use Rattle.wire_types.specs.declared.Scope.TheVariants.{Local, Remote, Global}
 use Rattle.wire_runs.specs.Plan.{Plan, Get, GetNow, kind, event_count, process_count, node_of, same_node, admits, Event}
 use Rattle.wire_runs.specs.State.{Answer, Value, NotFound, ExistsOutside, State, start, next_event, IsDone}
 use Rattle.wire_runs.specs.Puts.{stored, scope_of}
-use Rattle.wire_runs.specs.Fences.{arrivals}
-use Rattle.wire_runs.specs.Sight.{held, served, has_brought, brought, get_now_sees}
+use Rattle.wire_runs.specs.Sight.{held, served, brought, get_now_sees}
 use Rattle.wire_runs.specs.Step.{is_enabled, sight_reply, reply, step, IsInterleaving, run_from, run}
 use Rattle.wire_runs.specs.PlainRun.{plain_run}
 use Rattle.wire_runs.specs.Order.{Stores, Edge, Feeds, Live, Before}
@@ -17,12 +16,11 @@ use Rattle.wire_runs.specs.Races.{Delivery, ByFence, ByGet, IsOf, Delivers, Fenc
 use Rattle.wire_runs.specs.Laws.{plain_end}
 use Rattle.wire_runs.specs.Placings.{IsPlacing, paired, Carries, HasSurely, IsSettledAnywhere}
 use Rattle.wire_runs.specs.PlacingLaws.{tells_places, plain_reply, RepliesAlike, RepliesAnywhere}
-use Rattle.wire_runs.proofs.Basics.{event_within, process_within, stored_own, stored_stays, stores_commit}
-use Rattle.wire_runs.proofs.Due.{closed_cut, chain_in, arrived, done_was, due}
+use Rattle.wire_runs.proofs.Basics.{process_within, stored_own, stored_stays, stores_commit}
+use Rattle.wire_runs.proofs.Due.{closed_cut, chain_in, done_was, due}
 use Rattle.wire_runs.proofs.Puts.{stored_fixed, put_once, first_stores}
-use Rattle.wire_runs.proofs.Brought.{complete_more, complete_if_arrived}
-use Rattle.wire_runs.proofs.Getters.{answered_value, get_brought}
-use Rattle.wire_runs.proofs.Came.{Came, by_fence, by_get, came, came_value, came_is, brings_parts}
+use Rattle.wire_runs.proofs.Getters.{answered_value}
+use Rattle.wire_runs.proofs.Came.{Came, by_fence, by_get, came, came_value, came_is, came_by, came_of}
 use Rattle.wire_runs.proofs.Known.{Known, known_start, known_step, reply_kept, reply_now, reachable_known}
 use Rattle.wire_runs.proofs.PlainRun.{plain_runs}
 use Rattle.wire_runs.proofs.PlacingKeeps.{turned, placing_keeps, kind_kept, stored_same, scope_same, counts, surely_kept}
@@ -46,7 +44,7 @@ module _ (plan : Plan) (settled : IsSettled plan) where
     | inr e ↦ subst (CameTo plan (step plan s p)) (sym e) (record { then_ = s; known = k; there = refl; enabled = h; said = reply_now plan s p (k.lengths p) })
   ]
 
-  came_to_run : (w : List ℕ) (s : State) → Known plan s → IsInterleaving plan s w → ((x : Event) → IsDone s x → CameTo plan s x) → (x : Event) → IsDone (run_from plan s w) x → CameTo plan (run_from plan s w) x
+  pub came_to_run : (w : List ℕ) (s : State) → Known plan s → IsInterleaving plan s w → ((x : Event) → IsDone s x → CameTo plan s x) → (x : Event) → IsDone (run_from plan s w) x → CameTo plan (run_from plan s w) x
   came_to_run [] s k h before x d = before x d
   came_to_run (p ∷ w) s k h before x d = came_to_run w (step plan s p) (known_step plan settled s p k h.0) h.1 (came_to_step s p k h.0 before) x d
 
@@ -55,62 +53,6 @@ module _ (plan : Plan) (settled : IsSettled plan) where
 
   end_known : Known plan (plain_end plan)
   end_known = reachable_known plan settled (plain_end plan) (plain_run plan, (plain_runs plan).is_run, refl)
-
-  -- what has come to a node by a state, a delivery has brought that is done
-  came_by : (s : State) → Known plan s → (t key node u : ℕ) → (node_of plan t ≡ node → ⊥) → Came plan s t key node u →
-      (d : Delivery) × Delivers plan t key node d × ((z : Event) → IsOf plan d z → IsDone s z)
-  came_by s k t key node u apart (by_fence b a) =
-      let j = arrivals plan t b.members (suc b.at) in
-      let parts = brings_parts plan s.done t node b.members j b.brings_it in (
-        ByFence b.members j,
-        record {
-          brings_it = record {
-            reaches = parts.3;
-            away = record {
-              full = complete_more plan s.done (event_count plan) b.members j k.sound.within parts.0;
-              collecting = parts.1;
-              member = parts.2;
-              at = b.at;
-              put = u;
-              arrival = record { collect = b.collect; is = b.is; member = parts.2; nth = refl };
-              committed = b.stored_is;
-              admitted = a;
-            };
-          };
-          all_live = λ z z_arrives. k.sound.live_done z (arrived plan s.done b.members j z parts.0 z_arrives);
-        },
-        (λ z z_arrives. arrived plan s.done b.members j z parts.0 z_arrives),
-      )
-  came_by s k t key node u apart (by_get keeps g) =
-      let v = answered_value plan s k.answered t key node u apart g in (
-        ByGet g.get,
-        record {
-          brings_it = record { away = record { keeps = keeps; is = g.is; put = u; committed = v.0; admitted = v.1 }; there = g.there };
-          all_live = λ z e. k.sound.live_done z (subst (IsDone s) (sym e) g.is_done);
-        },
-        (λ z e. subst (IsDone s) (sym e) g.is_done),
-      )
-
-  -- what a delivery that is done brought has come
-  came_of : (s : State) → Known plan s → (t key node : ℕ) → (node_of plan t ≡ node → ⊥) → (d : Delivery) → Delivers plan t key node d → ((z : Event) → IsOf plan d z → IsDone s z) →
-      (u : ℕ) × Came plan s t key node u
-  came_of s k t key node apart (ByFence members j) delivers done =
-      let d : FenceDelivers plan t key node members j = delivers.brings_it in
-      let complete_now = complete_if_arrived plan s.done members j d.away.full done in (
-        d.away.put,
-        by_fence (record {
-          at = d.away.at;
-          members = members;
-          collect = d.away.arrival.collect;
-          is = d.away.arrival.is;
-          brings_it = subst (λ i. has_brought plan s.done t node members i ≡ true) (sym d.away.arrival.nth) (and_from _ _ complete_now (and_from _ _ d.away.collecting (and_from _ _ d.away.member d.reaches)));
-          stored_is = d.away.committed;
-          below = event_within plan t d.away.at _ d.away.arrival.is;
-        }) d.away.admitted,
-      )
-  came_of s k t key node apart (ByGet get) delivers done =
-      let d : GetDelivers plan t key node get = delivers.brings_it in
-      (d.away.put, by_get d.away.keeps (get_brought plan s k.answered t key node apart get d (done get refl)))
 
   -- where nothing is stored, nothing has come
   none_came : (s : State) → Known plan s → (t key node : ℕ) → (node_of plan t ≡ node → ⊥) → stored plan t key (s.done t) ≡ None → (d : Delivery) → Delivers plan t key node d →
@@ -293,7 +235,7 @@ module _ (plan : Plan) (everywhere : IsSettledAnywhere plan) where
       sure_away away sure =
           let h = surely_kept plan other same p key x.proc x sure in
           let node = node_of other x.proc in
-          let w = came_of other (there other same) c.then_ c.known p key node (apart away) h.delivery (to_node other p key node x.proc h.delivery refl h.carries) (λ z a. done_here z (h.all_before z a)) in
+          let w = came_of other c.then_ c.known.answered p key node (apart away) h.delivery (to_node other p key node x.proc h.delivery refl h.carries) (λ z a. done_here z (h.all_before z a)) in
           off_node away
           ∙ ap (λ o. Some (sight_reply p (held o))) (came_is other (there other same) c.then_ c.known.answered p key node (apart away) w.0 w.1)
           ∙ ap (λ u. Some (value_at p u)) (put_is w.0 away w.1)
@@ -313,7 +255,7 @@ module _ (plan : Plan) (everywhere : IsSettledAnywhere plan) where
 
         pub alone_sure : HasSurely plan p key x.proc x
         alone_sure =
-            let w = came_by other (there other same) c.then_ c.known p key (node_of other x.proc) u (apart away) it_came in
+            let w = came_by other c.then_ (closed_cut c.known.sound) c.known.answered p key (node_of other x.proc) u (apart away) it_came in
             let m = to_process other p key (node_of other x.proc) w.0 (apart away) w.1 in
             let carries : Carries other p key x.proc w.0 = subst (λ k. Carries other p key k w.0) (alone m.0 m.2) m.1 in
             surely_kept other plan (turned same) p key x.proc x (⊎_elim
@@ -364,7 +306,7 @@ module _ (plan : Plan) (everywhere : IsSettledAnywhere plan) where
           go away None e = off_node away ∙ ap (λ o. Some (sight_reply p (held o))) e
           go away (Some u) e =
               let node = node_of other x.proc in
-              let w = came_by other (there other same) c.then_ c.known p key node u (apart away) (came other c.then_ p key node u e) in
+              let w = came_by other c.then_ (closed_cut c.known.sound) c.known.answered p key node u (apart away) (came other c.then_ p key node u e) in
               absurd (none_came other (there other same) c.then_ c.known p key node (apart away) none_stored w.0 w.1 w.2)
 
   pub came_there : (other : Plan) → (same : IsPlacing plan other) → (x : Event) → IsDone (plain_end plan) x → CameTo other (plain_end other) x

@@ -95,7 +95,7 @@ module _ (plan other : Plan) (key name : ℕ → ℕ) (same : IsRenumbered plan 
     once : PublishesOnce other (image to x) (name n)
     once = record { is = kinds_agree to plan other pieces each x _ o.is; only = only; stays = λ y. false_from_ne_true _ (taken y (kind other y) refl) }
 
-  embeds : IsEmbedding to plan other
+  pub embeds : IsEmbedding to plan other
   embeds = parts_embed to plan other pieces (record {
     each = each;
     one_process = λ p q s. s;
@@ -117,7 +117,7 @@ module _ (plan other : Plan) (key name : ℕ → ℕ) (same : IsRenumbered plan 
       let m = mate_on other members (node_of other get.proc) b.reaches in
       record { own_at = b.away.at; arrival = b.away.arrival; mate = m.0; mate_is_member = m.1; mate_there = sym (same.nodes m.0) ∙ m.2 ∙ same.nodes get.proc }
 
-  kept_delivery : (owner : ℕ) (get : Event) (k : ℕ) (d : Delivery) → Delivers other owner k (node_of other get.proc) d → IsKept to plan other owner (node_of plan get.proc) d
+  pub kept_delivery : (owner : ℕ) (get : Event) (k : ℕ) (d : Delivery) → Delivers other owner k (node_of other get.proc) d → IsKept to plan other owner (node_of plan get.proc) d
   kept_delivery owner get k (ByFence members j) d = kept_fence owner get k members j d.brings_it
   kept_delivery owner get k (ByGet g) d =
       let b : GetDelivers other owner k (node_of other get.proc) g = d.brings_it in

@@ -83,7 +83,7 @@ module _ (pattern : Pattern) (coding : Coding) (cast : Cast) (r role : ℕ) (can
       ∙ ap (filter f) (group_skip group_role r cast.roles)
       ∙ filter_comm f (λ e. not (e == r)) (group group_role cast.roles)
 
-  turns_skip : (p i group_role : ℕ) (mode : Turns) → map (skip r) (turns fewer p i group_role mode) ≡ others (turns cast (skip r p) i group_role mode)
+  pub turns_skip : (p i group_role : ℕ) (mode : Turns) → map (skip r) (turns fewer p i group_role mode) ≡ others (turns cast (skip r p) i group_role mode)
   turns_skip p i group_role InOrder = filtered (λ e. not (e == skip r p)) (λ e. not (e == p)) group_role (λ e. ap not (skip_eq r e p))
   turns_skip p i group_role Round = elim (cases_Bool (is_member (group group_role fewer.roles) p)) [
     | inl t ↦ ap (map (skip r)) (cond-true _ _ (filter (λ e. not (e == p)) (group group_role fewer.roles)) t)

@@ -1,16 +1,17 @@
 -- Three of each role suffice: an instance with more is settled where those with one rank fewer are.
 use Rattle.std.proofs.Common.{◌≡◌, ℕ, zero, suc, ◌+◌, ◌<◌, ◌≤◌, List, [], ◌∷◌, ◌++◌, map, length, true, false, not, ◌==◌, Some, ◌⊎◌, inl, inr, refl, sym, ap, ◌∙◌, subst, arith, ne_eqb, eqb-true, length-append}
 use Rattle.std.specs.Prelude.{slice_get, filter, cond}
+use Rattle.std.proofs.lemmas.List.{length-map}
 use Rattle.std.proofs.lemmas.Bool.{cond-false, cases_lt, cases_eq, cases_Bool, or_cases, or_parts, true≢false}
 use Rattle.std.proofs.lemmas.Option.{none-some, same_Some}
-use Rattle.wire_runs.specs.Plan.{Process, CallPut, CallFence, CallGet, CallGetNow, CallPublish, CallLookup, CallLookupWait, CallUnpublish}
+use Rattle.wire_runs.specs.Plan.{Process}
 use Rattle.wire_runs.specs.Fences.{is_member}
 use Rattle.wire_runs.specs.Races.{IsSettled}
 use Rattle.wire_runs.specs.Embeddings.{pair}
 use Rattle.wire_runs.specs.Placings.{placed, placing}
-use Rattle.wire_runs.specs.Patterns.{Who, Only, Self, Each, Item, Every, One, Word, Line, LinePut, LineCommit, LineFence, LineGet, LineGetNow, LinePublish, LineLookup, LineLookupWait, LineUnpublish, LineUnpublishAll, LineFixed}
-use Rattle.wire_runs.specs.Patterns.{InOrder, Round, Chosen, Step, Once, Loop, Pattern, Coding, Cast, group, who, members_in, word_code, call_in, turns, loop_calls, step_calls, calls_from, processes_from, instance_of, IsLawful, IsCastOf}
+use Rattle.wire_runs.specs.Patterns.{InOrder, Round, Chosen, Step, Once, Loop, Pattern, Coding, Cast, group, turns, step_calls, calls_from, processes_from, instance_of, IsLawful, IsCastOf}
 use Rattle.wire_runs.specs.Restrictions.{skip, without, restricted, CanGo, FewerSettle, on_nodes, HasAtLeast, HasAtMost, SmallAreSettled, ThreeSuffice}
+use Rattle.wire_runs.proofs.SameRoles.{call_same, loop_same}
 use Rattle.wire_runs.proofs.WholeSets.{filter_length, rises_group, single_stays}
 use Rattle.wire_runs.proofs.Skip.{group_skip}
 use Rattle.wire_runs.proofs.Placements.{pairs_suffice}
@@ -30,50 +31,11 @@ module _ (coding : Coding) (cast : Cast) (nodes : ℕ → ℕ) where
   abbrev there : Cast
   there = on_nodes nodes cast
 
-  who_there : (v e : ℕ) (w : Who) → who there v e w ≡ who cast v e w
-  who_there v e (Only role) = refl
-  who_there v e Self = refl
-  who_there v e Each = refl
-
-  indices_there : (v e : ℕ) (ws : List Who) → map (who there v e) ws ≡ map (who cast v e) ws
-  indices_there v e [] = refl
-  indices_there v e (w ∷ ws) = ap (λ x. x ∷ map (who there v e) ws) (who_there v e w) ∙ ap (λ xs. who cast v e w ∷ xs) (indices_there v e ws)
-
-  word_there : (v e : ℕ) (word : Word) → word_code coding there v e word ≡ word_code coding cast v e word
-  word_there v e word = ap (coding.code word.base) (indices_there v e word.indices)
-
-  members_there : (v e : ℕ) (items : List Item) → members_in there v e items ≡ members_in cast v e items
-  members_there v e [] = refl
-  members_there v e (Every role ∷ items) = ap (λ ms. group role cast.roles ++ ms) (members_there v e items)
-  members_there v e (One w ∷ items) = ap (λ x. x ∷ members_in there v e items) (who_there v e w) ∙ ap (λ ms. who cast v e w ∷ ms) (members_there v e items)
-
-  call_there : (v e : ℕ) (line : Line) → call_in coding there v e line ≡ call_in coding cast v e line
-  call_there v e (LinePut key scope) = ap (λ n. CallPut n scope) (word_there v e key)
-  call_there v e LineCommit = refl
-  call_there v e (LineFence items collect) = ap (λ ms. CallFence ms collect) (members_there v e items)
-  call_there v e (LineGet owner key) = ap (λ n. CallGet n (word_code coding there v e key)) (who_there v e owner) ∙ ap (λ n. CallGet (who cast v e owner) n) (word_there v e key)
-  call_there v e (LineGetNow owner key) = ap (λ n. CallGetNow n (word_code coding there v e key)) (who_there v e owner) ∙ ap (λ n. CallGetNow (who cast v e owner) n) (word_there v e key)
-  call_there v e (LinePublish name) = ap CallPublish (word_there v e name)
-  call_there v e (LineLookup name) = ap CallLookup (word_there v e name)
-  call_there v e (LineLookupWait name) = ap CallLookupWait (word_there v e name)
-  call_there v e (LineUnpublish name) = ap CallUnpublish (word_there v e name)
-  call_there v e LineUnpublishAll = refl
-  call_there v e (LineFixed reply) = refl
-
-  lines_there : (v e : ℕ) (lines : List Line) → map (call_in coding there v e) lines ≡ map (call_in coding cast v e) lines
-  lines_there v e [] = refl
-  lines_there v e (line ∷ lines) = ap (λ c. c ∷ map (call_in coding there v e) lines) (call_there v e line) ∙ ap (λ cs. call_in coding cast v e line ∷ cs) (lines_there v e lines)
-
-  loop_there : (v : ℕ) (lines : List Line) (es : List ℕ) → loop_calls coding there v lines es ≡ loop_calls coding cast v lines es
-  loop_there v lines [] = refl
-  loop_there v lines (e ∷ es) =
-      ap (λ cs. cs ++ loop_calls coding there v lines es) (lines_there v e lines) ∙ ap (λ cs. map (call_in coding cast v e) lines ++ cs) (loop_there v lines es)
-
   step_there : (v i : ℕ) (step : Step) → step_calls coding there v i step ≡ step_calls coding cast v i step
-  step_there v i (Once line) = ap (λ c. c ∷ []) (call_there v v line)
-  step_there v i (Loop role InOrder lines) = loop_there v lines (turns cast v i role InOrder)
-  step_there v i (Loop role Round lines) = loop_there v lines (turns cast v i role Round)
-  step_there v i (Loop role Chosen lines) = loop_there v lines (turns cast v i role Chosen)
+  step_there v i (Once line) = ap (λ c. c ∷ []) (call_same coding cast there refl v v line)
+  step_there v i (Loop role InOrder lines) = loop_same coding cast there refl v lines (turns cast v i role InOrder)
+  step_there v i (Loop role Round lines) = loop_same coding cast there refl v lines (turns cast v i role Round)
+  step_there v i (Loop role Chosen lines) = loop_same coding cast there refl v lines (turns cast v i role Chosen)
 
   calls_there : (v i : ℕ) (steps : List Step) → calls_from coding there v i steps ≡ calls_from coding cast v i steps
   calls_there v i [] = refl
@@ -96,41 +58,37 @@ module _ (coding : Coding) (cast : Cast) (nodes : ℕ → ℕ) where
       (processes_there pattern 0 nodes (λ q. (let s : q ≡ 0 + q = omega arith in ap nodes s)) cast.roles)
 
 -- sizes
-length_map : (f : ℕ → ℕ) (xs : List ℕ) → length (map f xs) ≡ length xs
-length_map f [] = refl
-length_map f (x ∷ xs) = ap suc (length_map f xs)
-
-without_length : (r role : ℕ) (roles : List ℕ) → slice_get roles r ≡ Some role → suc (length (without r roles)) ≡ length roles
+pub without_length : (r role : ℕ) (roles : List ℕ) → slice_get roles r ≡ Some role → suc (length (without r roles)) ≡ length roles
 without_length r role [] is = absurd (none-some role is)
 without_length zero role (x ∷ xs) is = refl
 without_length (suc r) role (x ∷ xs) is = ap suc (without_length r role xs is)
 
 -- of r's role there is one fewer, of the others there are as many
-one_fewer : (role r : ℕ) (roles : List ℕ) → length (group role roles) ≤ suc (length (group role (without r roles)))
+pub one_fewer : (role r : ℕ) (roles : List ℕ) → length (group role roles) ≤ suc (length (group role (without r roles)))
 one_fewer role r roles =
     let a = filter_length r (group role roles) (rises_group role roles) in
-    let b : length (group role (without r roles)) ≡ length (filter (λ e. not (e == r)) (group role roles)) = sym (length_map (skip r) (group role (without r roles))) ∙ ap length (group_skip role r roles) in
+    let b : length (group role (without r roles)) ≡ length (filter (λ e. not (e == r)) (group role roles)) = sym (length-map (group role (without r roles)) (skip r)) ∙ ap length (group_skip role r roles) in
     omega (arith, a, b)
 
-others_stay : (other role r : ℕ) (roles : List ℕ) → slice_get roles r ≡ Some role → (role ≡ other → ⊥) → length (group other (without r roles)) ≡ length (group other roles)
+pub others_stay : (other role r : ℕ) (roles : List ℕ) → slice_get roles r ≡ Some role → (role ≡ other → ⊥) → length (group other (without r roles)) ≡ length (group other roles)
 others_stay other role r [] is ne = absurd (none-some role is)
 others_stay other role zero (x ∷ xs) is ne =
     let apart : (x == other) ≡ false = ne_eqb x other (λ s. ne (sym (same_Some _ _ is) ∙ s)) in
-    sym (length_map suc (group other xs)) ∙ sym (ap (λ ys. length (ys ++ map suc (group other xs))) (cond-false (x == other) (0 ∷ []) [] apart))
+    sym (length-map (group other xs) suc) ∙ sym (ap (λ ys. length (ys ++ map suc (group other xs))) (cond-false (x == other) (0 ∷ []) [] apart))
 others_stay other role (suc r) (x ∷ xs) is ne =
     let h = others_stay other role r xs is ne in
     let first : List ℕ = cond (x == other) (0 ∷ []) [] in
     let a = length-append first (map suc (group other (without r xs))) in
     let b = length-append first (map suc (group other xs)) in
-    let c = length_map suc (group other (without r xs)) in
-    let d = length_map suc (group other xs) in
+    let c = length-map (group other (without r xs)) suc in
+    let d = length-map (group other xs) suc in
     omega (arith, h, a, b, c, d)
 
 none_of : (role : ℕ) (roles : List ℕ) → is_member roles role ≡ false → length (group role roles) ≡ 0
 none_of role [] out = refl
 none_of role (x ∷ xs) out =
     let parts = or_parts (x == role) (is_member xs role) out in
-    ap (λ ys. length (ys ++ map suc (group role xs))) (cond-false (x == role) (0 ∷ []) [] parts.0) ∙ length_map suc (group role xs) ∙ none_of role xs parts.1
+    ap (λ ys. length (ys ++ map suc (group role xs))) (cond-false (x == role) (0 ∷ []) [] parts.0) ∙ length-map (group role xs) suc ∙ none_of role xs parts.1
 
 module _ (pattern : Pattern) (coding : Coding) (least most : ℕ → ℕ) (lawful : IsLawful pattern) (three : (role : ℕ) → 3 ≤ most role) (range : (role : ℕ) → least role ≤ most role)
     (small : SmallAreSettled pattern coding least most) where

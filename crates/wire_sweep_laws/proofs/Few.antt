@@ -5,12 +5,13 @@ use Rattle.std.proofs.lemmas.Bool.{cond-true, cond-false, cases_lt, cases_Bool, 
 use Rattle.std.proofs.lemmas.Option.{none-some}
 use Rattle.wire_types.specs.Said.{is_reserved}
 use Rattle.wire_runs.specs.Patterns as plan
-use Rattle.wire_runs.specs.Patterns.{Coding, Cast, group, instance_of, IsCastOf, IsLawful, Chosen}
+use Rattle.wire_runs.specs.Patterns.{Coding, Cast, group, instance_of, IsCastOf, Chosen}
 use Rattle.wire_runs.specs.Races.{IsSettled}
 use Rattle.wire_pattern.specs.Pattern.{Call, Put, Commit, Fence, Get, GetNow, Publish, Lookup, LookupWait, Unpublish, UnpublishAll}
 use Rattle.wire_pattern.specs.Pattern.{Line, Step, Once, Loop, Role, Pattern}
 use Rattle.wire_pattern.specs.Planned.{pattern_of, line_of, step_of, steps_in, single_in, least_in, least_of}
 use Rattle.wire_pattern.specs.Lawful.{IsSound}
+use Rattle.wire_pattern.proofs.Lawful.{sound_is_lawful}
 use Rattle.wire_pattern.specs.Instances.{Turn, roles_from}
 use Rattle.wire_pattern_laws.specs.Ordered.{HasMost, in_blocks}
 use Rattle.wire_pattern_laws.specs.Fuller.{only_reads, MayTake, IsFuller}
@@ -20,7 +21,7 @@ use Rattle.wire_pattern_laws.proofs.MoreTurns.{reads_whole}
 use Rattle.wire_runs.proofs.PlainRun.{plain_runs}
 use Rattle.wire_runs.proofs.Lists.{slice_get-map_back}
 use Rattle.std.proofs.lemmas.List.{append-nil, length-map}
-use Rattle.wire_sweep_laws.specs.Sizes.{AreSizes, most_of}
+use Rattle.wire_sweep_laws.specs.Sizes.{AreFewSizes, most_of}
 use Rattle.wire_sweep_laws.specs.Choices.{is_read, are_reads, optional_turns, chosen_by, cast_on}
 use Rattle.wire_sweep_laws.specs.Promised.{AreFewSettled, IsAnyCast, IsSettledForAll, FewSuffice}
 use Rattle.wire_sweep_laws.proofs.Turns.{turn, taken_or, may_be_left}
@@ -54,7 +55,7 @@ Bounded role n = (role.least ≤ n) × (n ≤ most_of role)
 
 are_sizes : (size : ℕ → ℕ) (k : ℕ) (roles : List Role)
     → ((i : ℕ) (role : Role) → slice_get roles i ≡ Some role → Bounded role (size (k + i)))
-    → AreSizes roles (sizes_by size k roles)
+    → AreFewSizes roles (sizes_by size k roles)
 unfolding sizes_by Bounded
 are_sizes size k [] each = tt
 are_sizes size k (role ∷ roles) each = (
@@ -176,7 +177,7 @@ module _ (p : Pattern) (sound : IsSound p) (few : AreFewSettled p) (coding : Cod
           let h = most i there in let a = ap most_at least_is in
           let b = cond-false role.single 1 (if nat_lt role.least 3 then 3 else role.least) n in omega (arith, h, a, b)
 
-  fit : AreSizes p.roles sizes
+  fit : AreFewSizes p.roles sizes
   fit = are_sizes size 0 p.roles (λ i role is. subst (λ m. Bounded role (size m)) (none i) (bounded i role is))
     where
       none : (i : ℕ) → i ≡ 0 + i
@@ -219,13 +220,13 @@ module _ (p : Pattern) (sound : IsSound p) (few : AreFewSettled p) (coding : Cod
   pub small_settled : IsSettled (instance_of (pattern_of p) coding cast)
   small_settled = reads_whole (pattern_of p) coding cast fuller is_fuller (few sizes fit (map taken open_turns) (length-map open_turns taken) coding cast.nodes)
 
-settled_for_all : (p : Pattern) → IsSound p → IsLawful (pattern_of p) → AreFewSettled p → IsSettledForAll p
-settled_for_all p sound lawful few coding cast any =
-    ordered_suffice (pattern_of p) coding (length p.roles) (least_of p) (λ role. most_at (least_of p role)) lawful (λ role lt. three (least_of p role))
+settled_for_all : (p : Pattern) → IsSound p → AreFewSettled p → IsSettledForAll p
+settled_for_all p sound few coding cast any =
+    ordered_suffice (pattern_of p) coding (length p.roles) (least_of p) (λ role. most_at (least_of p role)) (sound_is_lawful p sound) (λ role lt. three (least_of p role))
     (λ c is in_order least most. small_settled p sound few coding c (record { is = is; in_order = in_order; least = least }) most) cast any.is any.in_order any.least
 
 pub few_suffice : FewSuffice
-few_suffice p sound lawful few = (
-  settled_for_all p sound lawful few,
-  λ coding cast any. (plain_runs (instance_of (pattern_of p) coding cast)).is_the_end (settled_for_all p sound lawful few coding cast any),
+few_suffice p sound few = (
+  settled_for_all p sound few,
+  λ coding cast any. (plain_runs (instance_of (pattern_of p) coding cast)).is_the_end (settled_for_all p sound few coding cast any),
 )

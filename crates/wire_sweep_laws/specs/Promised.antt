@@ -1,7 +1,7 @@
 -- What is judged of a pattern, and what that promises.
 use Rattle.std.specs.Prelude.{◌≡◌, ℕ, Bool, List, length}
 use Rattle.wire_runs.specs.Patterns as plan
-use Rattle.wire_runs.specs.Patterns.{Coding, instance_of, IsCastOf, IsLawful}
+use Rattle.wire_runs.specs.Patterns.{Coding, instance_of, IsCastOf}
 use Rattle.wire_runs.specs.Races.{IsSettled}
 use Rattle.wire_runs.specs.Laws.{HasOneEnd}
 use Rattle.wire_pattern.specs.Pattern.{Pattern}
@@ -9,7 +9,7 @@ use Rattle.wire_pattern.specs.Lawful.{IsSound}
 use Rattle.wire_pattern.specs.Planned.{pattern_of, least_of}
 use Rattle.wire_pattern.specs.Instances.{Turn}
 use Rattle.wire_pattern_laws.specs.Ordered.{IsInOrder, HasLeast}
-use Rattle.wire_sweep_laws.specs.Sizes.{AreSizes}
+use Rattle.wire_sweep_laws.specs.Sizes.{AreFewSizes}
 use Rattle.wire_sweep_laws.specs.Choices.{optional_turns, chosen_by, cast_on}
 
 -- on all nodes the instance with so many processes of each role and these turns has nothing to find
@@ -24,7 +24,7 @@ AreSizesSettled p sizes =
 
 -- with few processes of each role
 abbrev pub AreFewSettled : Pattern → Type 0
-AreFewSettled p = (sizes : List ℕ) → AreSizes p.roles sizes → AreSizesSettled p sizes
+AreFewSettled p = (sizes : List ℕ) → AreFewSizes p.roles sizes → AreSizesSettled p sizes
 
 -- the processes of an instance: each role has its least number of them at least, in the order of the roles
 pub record IsAnyCast (p : Pattern) (cast : plan.Cast) : Type 0 where
@@ -42,4 +42,4 @@ HasOneEndForAll p = (coding : Coding) (cast : plan.Cast) → IsAnyCast p cast �
 
 -- few processes of each role tell of any number
 abbrev pub FewSuffice : Type 0
-FewSuffice = (p : Pattern) → IsSound p → IsLawful (pattern_of p) → AreFewSettled p → IsSettledForAll p × HasOneEndForAll p
+FewSuffice = (p : Pattern) → IsSound p → AreFewSettled p → IsSettledForAll p × HasOneEndForAll p

@@ -8,10 +8,10 @@ abbrev pub most_of : Role → ℕ
 most_of role = if role.single then 1 else if nat_lt role.least 3 then 3 else role.least
 
 -- from the least to the most of each role
-abbrev pub AreSizes : List Role → List ℕ → Type 0
-AreSizes [] [] = Unit {0}
-AreSizes (role ∷ roles) (size ∷ sizes) = ((role.least ≤ size) × (size ≤ most_of role)) × AreSizes roles sizes
-AreSizes _ _ = ⊥
+abbrev pub AreFewSizes : List Role → List ℕ → Type 0
+AreFewSizes [] [] = Unit {0}
+AreFewSizes (role ∷ roles) (size ∷ sizes) = ((role.least ≤ size) × (size ≤ most_of role)) × AreFewSizes roles sizes
+AreFewSizes _ _ = ⊥
 
 -- so many numbers, the first of them n
 abbrev pub numbers_from : ℕ → ℕ → List ℕ

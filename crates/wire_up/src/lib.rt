@@ -24,8 +24,8 @@ use std::alloc::Global;
 use std::sync::Wait;
 use std::thread::Threads;
 pub use wire_command_line::{
-    Asked, CallPair, CallWords, Command, Judged, PairOptions, Refusal, ReplayOptions, Request,
-    asked, read_request, workers_of,
+    Asked, CallPair, CallWords, Command, ExpandOptions, Judged, PairOptions, PatternOptions,
+    Refusal, ReplayOptions, Request, Spread, asked, read_request, workers_of,
 };
 pub use wire_commands::{
     Ended, Manner, Mode, PairAsked, Replayed, Replaying, answer_question, check_placements,

@@ -297,8 +297,8 @@ fn is_there(plan: &Plan, call: CallAt) -> bool
 /// process that can go on, but for one change: in two of them one of the calls is held back as long as anything else
 /// can happen; in the others only what a chain demands comes before the one call, and then before the other. `None` is
 /// the answer where none of these runs shows a difference, which doesn't mean that there is no witness; and of a call
-/// that isn't the plan's. The contract says that four runs of these kinds show none; that they are the ones that take the
-/// lowest process is tested. The one fault is `Fault::Memory`.
+/// that isn't the plan's. The contract says that four runs of these kinds show none; that they are the ones that take
+/// the lowest process is tested. The one fault is `Fault::Memory`.
 pub fn find_witness(
     alloc: Global,
     marked: &MarkedPlan<'_>,

@@ -62,6 +62,7 @@ Writes a report that people look at: what `wire_up` finds in a plan, with diagra
 fixes.
 
     wire_up-report [OPTION..] PLAN                  writes the report of a plan as one HTML file
+    wire_up-report [OPTION..] PATTERN               does so for plans of every number of ranks
 
 {describe(OPTIONS)}
 The plan is a file. If it comes from `wire_up-record`, the report says where in the program each \

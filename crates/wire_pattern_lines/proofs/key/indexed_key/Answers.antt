@@ -1,4 +1,4 @@
-use Rattle.std.proofs.Common.{◌≡◌, ◌∙◌, sym, true, map, ap}
+use Rattle.std.proofs.Common.{◌≡◌, ◌∙◌, sym, true, map}
 use Rattle.std.specs.List.{join_with_byte}
 use Rattle.wire_lines.proofs.Colon.{and_left, and_right}
 use Rattle.wire_pattern.specs.Lawful.{is_base}

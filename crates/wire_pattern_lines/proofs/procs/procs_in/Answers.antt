@@ -1,4 +1,4 @@
-use Rattle.std.proofs.Common.{◌≡◌, ◌∙◌, ◌<◌, ◌≢◌, ℕ, List, map, length, true, sym}
+use Rattle.std.proofs.Common.{◌≡◌, ◌∙◌, ◌<◌, ◌≢◌, List, map, length, true}
 use Rattle.std.specs.List.{slice_split, list_all, join_with_byte}
 use Rattle.wire_types.specs.Texts.{texts_of}
 use Rattle.wire_lines.proofs.Joined.{comma}

@@ -1,0 +1,13 @@
+pub mod Rows
+pub mod Calls
+pub mod Events
+pub mod Same
+pub mod Placed
+pub mod Walks
+pub mod Noted
+pub mod Told
+pub mod Settled
+pub mod Selected
+pub mod OfLines
+pub mod Texts
+pub mod Three

@@ -1,0 +1,9 @@
+use Rattle.std.proofs.Common.{◌≡◌, ◌+◌, ◌++◌, filter, drop}
+use Rattle.wire_pattern_waits.specs.Lines.{numbered}
+use Rattle.wire_pattern_answers.specs.Lines.{is_get_now}
+use Rattle.wire_pattern_answers.proofs.lines.add_script.Given as goal
+
+abbrev pub invariant-loop-index : goal.invariant-loop-index
+invariant-loop-index l =
+    l.out.items ++ filter (λ c. is_get_now c.verb) (numbered l.role (l.index + 1) (drop l.index l.verb-items))
+    ≡ l.fn.out.items ++ filter (λ c. is_get_now c.verb) (numbered l.role 1 l.verb-items)

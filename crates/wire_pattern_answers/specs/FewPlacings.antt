@@ -1,0 +1,45 @@
+-- A few placings tell with which statuses a get-now is answered on all nodes.
+use Rattle.std.specs.Prelude.{◌≡◌, ◌<◌, ◌⊎◌, ℕ, Bool, true, false, List, [], ◌∷◌, Option, Some, length, slice_get, slice_index_or}
+use Rattle.wire_types.specs.declared.Call.{Call}
+use Rattle.wire_types.specs.declared.Call.TheVariants.{GetNow}
+use Rattle.wire_types.specs.declared.CallEnd.TheVariants.{Replied}
+use Rattle.wire_types.specs.declared.Reply.{Reply}
+use Rattle.wire_types.specs.declared.Status.{Status}
+use Rattle.wire_types.specs.declared.Status.TheVariants.{Success, NotFound, ExistsOutsideScope}
+use Rattle.wire_runs.specs.Placings.{IsSettledAnywhere}
+use Rattle.wire_content.specs.Scripts.{Scripts, call_at}
+use Rattle.wire_content.specs.Planned.{plan_of}
+use Rattle.wire_content.specs.Placed.{moved, placed}
+use Rattle.wire_core.specs.EndsAfter.{plain_ends}
+
+-- whether there is a call, and it is a get-now
+abbrev pub asks_now : Option Call → Bool
+asks_now (Some (GetNow owner key)) = true
+asks_now _ = false
+
+-- the call of this number of the process is answered with this status in the plain run of the scripts
+pub record IsAnsweredWith (scripts : Scripts) (process call : ℕ) (status : Status) : Type 0 where
+  pub reply : Reply
+  pub is : slice_get (slice_index_or (plain_ends scripts).rows process []) call ≡ Some (Replied reply)
+  pub has : reply.status ≡ status
+
+-- the ranks that have a node of their own, together: none, or one of so many
+abbrev pub IsApart : ℕ → List ℕ → Type 0
+IsApart count ranks = (ranks ≡ []) ⊎ ((rank : ℕ) × (rank < count) × (ranks ≡ rank ∷ []))
+
+-- where nothing is found on any nodes: with whatever status a get-now is answered on some nodes, it is answered with
+-- all processes on one node, or with one of them on a node of its own and all others on another
+abbrev pub FewPlacingsTell : Type 0
+FewPlacingsTell = (s : Scripts) → IsSettledAnywhere (plan_of s) → (names : List (List ℕ)) (nodes : ℕ → ℕ)
+    → (process call : ℕ) → asks_now (call_at s.processes process call) ≡ true → (status : Status)
+    → IsAnsweredWith (moved s names nodes) process call status
+    → (ranks : List ℕ) × IsApart (length s.processes) ranks × IsAnsweredWith (placed s ranks) process call status
+
+abbrev pub IsOfThree : Status → Type 0
+IsOfThree status = (status ≡ Success) ⊎ ((status ≡ NotFound) ⊎ (status ≡ ExistsOutsideScope))
+
+-- and it is one of three statuses
+abbrev pub ThreeStatuses : Type 0
+ThreeStatuses = (s : Scripts) → IsSettledAnywhere (plan_of s) → (names : List (List ℕ)) (nodes : ℕ → ℕ)
+    → (process call : ℕ) → asks_now (call_at s.processes process call) ≡ true → (status : Status)
+    → IsAnsweredWith (moved s names nodes) process call status → IsOfThree status

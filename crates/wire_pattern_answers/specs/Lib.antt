@@ -1,0 +1,4 @@
+pub mod FewPlacings
+pub mod Lines
+pub mod Answers
+pub mod Notes

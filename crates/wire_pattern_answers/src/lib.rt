@@ -1,0 +1,14 @@
+//! With which statuses the get-nows of a pattern are answered, in the instances that are judged, on all placements.
+#![tactic(auto)]
+
+mod answers;
+mod instance;
+pub mod laws;
+mod lines;
+mod notes;
+mod sweep;
+mod text;
+
+pub use answers::LineAnswers;
+pub use sweep::find_answers;
+pub use text::write_answers;

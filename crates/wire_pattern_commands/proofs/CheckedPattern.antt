@@ -1,0 +1,78 @@
+-- From what the parts of `check --pattern` answer to what it answers.
+use Rattle.std.proofs.Common.{◌≡◌, ◌≢◌, ◌∙◌, subst, sym, ℕ, List, ◌⊎◌, inl, inr, Option, Result, Ok, Err, IfOk, IfErr, OnOk, ◌++◌, ap, append_assoc, if◌then◌else◌}
+use Rattle.std.specs.Prelude.{is_ok}
+use Rattle.std.specs.Io.KnownBytes.{Appends}
+use Rattle.wire_types.specs.declared.Fault.{Fault}
+use Rattle.wire_types.specs.declared.Fault.TheVariants.{Memory, Read}
+use Rattle.wire_types.specs.Front.{WritesFront}
+use Rattle.wire_script.specs.declared.Size.TheVariants.{OfVersion}
+use Rattle.wire_pattern.specs.Pattern.{Pattern}
+use Rattle.wire_pattern.specs.Instances.{instance_lines, instance_text}
+use Rattle.wire_pattern.specs.Lawful.{IsSound}
+use Rattle.wire_sweep.specs.Texts.{TextsSettled}
+use Rattle.wire_sweep.specs.Judged.{IsSweepFault}
+use Rattle.wire_commands.specs.declared.ended.Ended.{Ended}
+use Rattle.wire_commands.specs.declared.ended.Ended.TheVariants.{Clean, Found}
+use Rattle.wire_commands.proofs.FileFaults as files
+use Rattle.wire_pattern_commands.specs.CheckPattern.{BreaksOffPatternVerdict, EndsInOneStateForAll, IsPatternVerdict, StopsBeforePattern, WritesPatternVerdict}
+use Rattle.wire_pattern_commands.specs.declared.check.Told.{Told}
+use Rattle.wire_pattern_commands.specs.Read.{HasNoPattern, ReadAsPattern}
+use Rattle.wire_pattern_commands.proofs.PatternFaults.{read_before}
+
+-- a fault of the file comes before the writing
+pub file_stops : (coming : Option (List ℕ)) (e : Fault) → HasNoPattern coming e → StopsBeforePattern coming e
+file_stops coming e (inl memory) = inl memory
+file_stops coming e (inr (inl read)) = inr (inl read)
+file_stops coming e (inr (inr refuses)) = inr (inr (inl refuses))
+
+-- and so does one of an instance
+pub sweep_stops : (coming : Option (List ℕ)) (p : Pattern) (e : Fault) → ReadAsPattern coming p → IsSweepFault p e → StopsBeforePattern coming e
+sweep_stops coming p e read why = inr (inr (inr (record { pattern = p; read = read; fault_is = why })))
+
+-- which is no failed read
+pub no_read_judging : (p : Pattern) (e : Fault) → IsSweepFault p e → e ≢ Read
+no_read_judging p e (inl (inl memory)) is = let no : Memory ≡ Read = sym memory ∙ is in cc
+no_read_judging p e (inl (inr plan)) is =
+    files.not_read OfVersion (instance_text p plan.cast) plan.of_text.told (inr plan.of_text.reads)
+    (read_before (instance_lines p plan.cast) plan.of_text.told (sym plan.of_text.is ∙ is))
+no_read_judging p e (inr (inl many)) is = let no : _ ≡ Read = sym many.1 ∙ is in cc
+no_read_judging p e (inr (inr turns)) is = let no : _ ≡ Read = sym turns.2 ∙ is in cc
+
+-- all of the verdict went out
+pub writes_verdict : (coming old new : Option (List ℕ)) (p : Pattern) (told : Told) (text : List ℕ) (ended : Ended) (r : Result Ended Fault) → ReadAsPattern coming p → IsPatternVerdict p told text ended
+    → IfOk r (λ e. (e ≡ ended) × Appends old new text) → IfOk r (λ e. WritesPatternVerdict told coming e old new)
+writes_verdict coming old new p told text ended (Ok e) read tells wrote =
+    record { pattern = p; read = read; text = text; tells = subst (IsPatternVerdict p told text) (sym wrote.0) tells; wrote = wrote.1 }
+writes_verdict coming old new p told text ended (Err e) read tells wrote = tt
+
+-- or the front of it that the fault counts
+pub verdict_err : (coming old new : Option (List ℕ)) (p : Pattern) (told : Told) (text : List ℕ) (ended : Ended) (kept failed : Type 0) (r : Result Ended Fault) → ReadAsPattern coming p
+    → IsPatternVerdict p told text ended → IfErr r (WritesFront old new text) → IfErr r (λ _. failed)
+    → IfErr r (λ e. (StopsBeforePattern coming e × kept) ⊎ (BreaksOffPatternVerdict told coming old new e × failed))
+verdict_err coming old new p told text ended kept failed (Ok e) read tells front count = tt
+verdict_err coming old new p told text ended kept failed (Err e) read tells front count =
+    inr (record { pattern = p; read = read; text = text; ended = ended; tells = tells; wrote = front }, count)
+
+-- where nothing is found, each instance has one end, and its text
+clean_means : (coming : Option (List ℕ)) (p : Pattern) (told : Told) (text : List ℕ) (ended : Ended) → ReadAsPattern coming p → IsSound p → TextsSettled
+    → IsPatternVerdict p told text ended → ended ≡ Clean → EndsInOneStateForAll coming
+clean_means coming p told text ended read sound texts (inl settled) is = record {
+  pattern = p;
+  read = read;
+  one_end = settled.one_end;
+  texts = λ cast size scripts is_cast least reads. (texts p cast size scripts sound settled.settled is_cast least reads).1;
+}
+clean_means coming p told text ended read sound texts (inr found) is = let no : Found _ ≡ Clean = sym found.ends ∙ is in absurd (cc)
+
+pub clean_one_end : (coming old new : Option (List ℕ)) (p : Pattern) (told : Told) (text : List ℕ) (ended : Ended) (r : Result Ended Fault) → ReadAsPattern coming p → IsSound p
+    → TextsSettled → IsPatternVerdict p told text ended → IfOk r (λ e. (e ≡ ended) × Appends old new text) → r ≡ Ok Clean → EndsInOneStateForAll coming
+clean_one_end coming old new p told text ended (Ok e) read sound texts tells wrote clean =
+    let is : e ≡ Clean = cc in clean_means coming p told text ended read sound texts tells (sym wrote.0 ∙ is)
+clean_one_end coming old new p told text ended (Err e) read sound texts tells wrote clean = let bad : Err e ≡ Ok Clean = clean in absurd (cc)
+
+-- three parts of a line
+pub three_parts : {A E : Type 0} (r : Result A E) (old a b c word first second third : List ℕ) → first ≡ old ++ a → second ≡ first ++ b → word ≡ c → third ≡ (if is_ok r then second ++ word else second)
+    → OnOk r (third ≡ old ++ (a ++ (b ++ c)))
+three_parts (Err e) old a b c word first second third one two is wrote = tt
+three_parts (Ok x) old a b c word first second third one two is wrote =
+    wrote ∙ ap (λ t. t ++ word) (two ∙ ap (λ t. t ++ b) one) ∙ append_assoc (old ++ a) b word ∙ append_assoc old a (b ++ word) ∙ ap (λ w. old ++ (a ++ (b ++ w))) is

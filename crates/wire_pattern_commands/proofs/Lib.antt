@@ -1,0 +1,8 @@
+pub mod Spreads
+pub mod Cut
+pub mod Misfits
+pub mod Expansions
+pub mod PatternFaults
+pub mod PatternCame
+pub mod Expanded
+pub mod CheckedPattern

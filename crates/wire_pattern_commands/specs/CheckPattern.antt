@@ -1,0 +1,116 @@
+-- What `check --pattern` writes: that nothing is found for any number of processes, or a counterexample.
+use Rattle.std.specs.Prelude.{◌≡◌, ◌⊎◌, ◌==◌, ◌&&◌, ◌||◌, ℕ, Bool, true, not, List, [], ◌++◌, count_by, Option, Ok, codes, decimal, length, if◌then◌else◌}
+use Rattle.std.specs.List.{flat_map}
+use Rattle.std.specs.Io.KnownBytes.{Appends}
+use Rattle.wire_types.specs.Front.{WritesFront}
+use Rattle.wire_types.specs.declared.Fault.{Fault}
+use Rattle.wire_types.specs.declared.Fault.TheVariants.{Memory, Read}
+use Rattle.wire_content.specs.Scripts.{Scripts}
+use Rattle.wire_content.specs.Planned.{plan_of}
+use Rattle.wire_runs.specs.Laws.{HasOneEnd}
+use Rattle.wire_script.specs.declared.limits.Size.{Size}
+use Rattle.wire_script.specs.Reads.{Reads}
+use Rattle.wire_sweep.specs.Texts.{HaveLeast}
+use Rattle.wire_findings.specs.declared.finding.Finding.{Finding}
+use Rattle.wire_report.specs.Findings.{finding_line, count_line}
+use Rattle.wire_pattern.specs.Pattern.{Pattern}
+use Rattle.wire_pattern.specs.Instances.{Cast, IsCast, instance_text}
+use Rattle.wire_sweep_laws.specs.Promised.{IsSettledForAll, HasOneEndForAll}
+use Rattle.wire_pattern_waits.specs.declared.lines.CallLine.{CallLine}
+use Rattle.wire_pattern_waits.specs.Lines.{waits_text}
+use Rattle.wire_pattern_waits.specs.Waits.{AreWaiting}
+use Rattle.wire_pattern_answers.specs.declared.answers.LineAnswers.{LineAnswers}
+use Rattle.wire_pattern_answers.specs.Lines.{answers_text}
+use Rattle.wire_pattern_answers.specs.Answers.{AreAnswers}
+use Rattle.wire_pattern_commands.specs.declared.check.Told.{Told}
+use Rattle.wire_commands.specs.Ending.{ended_of}
+use Rattle.wire_sweep.specs.Judged.{IsCounterexample, IsSweepFault}
+use Rattle.wire_pattern_commands.specs.Read.{ReadAsPattern, RefusesPattern}
+use Rattle.wire_commands.specs.declared.ended.Ended.{Ended}
+use Rattle.wire_commands.specs.declared.ended.Ended.TheVariants.{Clean, Found}
+
+abbrev pub settled_line : List ℕ
+settled_line = codes "findings 0 for every number of ranks on every placement\n"
+
+-- how many ranks the counterexample has
+abbrev pub head_line : ℕ → List ℕ
+head_line count = codes "# counterexample, " ++ decimal count ++ (if count == 1 then codes " rank\n" else codes " ranks\n")
+
+-- a finding, as a comment
+abbrev pub finding_comment : Scripts → Finding → List ℕ
+finding_comment scripts finding = codes "# " ++ finding_line scripts finding
+
+-- the text of a plan between two comments: how many ranks it has, and its findings
+abbrev pub counterexample_text : List ℕ → Scripts → List Finding → List ℕ
+counterexample_text text scripts found =
+    head_line (length scripts.processes) ++ text ++ flat_map (finding_comment scripts) found ++ codes "# " ++ count_line (length found)
+
+-- whether a get-now line is answered with success, and with nothing else
+abbrev pub succeeds : LineAnswers → Bool
+succeeds answers = answers.success && (not answers.not_found && not answers.outside)
+
+-- that nothing is found, a line for each call line at which something waits, and where that is asked for a line for each
+-- get-now. Where `complete` is asked for, the command ends with the count of the get-now lines that don't succeed
+pub record IsSettledSaid (p : Pattern) (told : Told) (text : List ℕ) (ended : Ended) : Type 0 where
+  pub lines : List CallLine
+  pub waiting : AreWaiting p lines
+  pub answers : List LineAnswers
+  pub answered : told.answers || told.complete ≡ true → AreAnswers p answers
+  pub is : text ≡ settled_line ++ (waits_text p lines ++ (if told.answers then answers_text p answers else []))
+  pub ends : ended ≡ (if told.complete then ended_of (count_by (λ a. not (succeeds a)) answers) else Clean)
+
+-- nothing is found, whatever the number of processes, and then each instance has one end
+pub record IsSettledText (p : Pattern) (told : Told) (text : List ℕ) (ended : Ended) : Type 0 where
+  pub settled : IsSettledForAll p
+  pub one_end : HasOneEndForAll p
+  pub said : IsSettledSaid p told text ended
+
+-- an instance with its findings
+pub record IsUnsettledText (p : Pattern) (text : List ℕ) (ended : Ended) : Type 0 where
+  pub cast : Cast
+  pub plan_text : List ℕ
+  pub scripts : Scripts
+  pub found : List Finding
+  pub shows : IsCounterexample p cast plan_text scripts found
+  pub ends : ended ≡ Found (length found)
+  pub is : text ≡ counterexample_text plan_text scripts found
+
+abbrev pub IsPatternVerdict : Pattern → Told → List ℕ → Ended → Type 0
+IsPatternVerdict p told text ended = IsSettledText p told text ended ⊎ IsUnsettledText p text ended
+
+-- all of the verdict of what was to come went out
+pub record WritesPatternVerdict (told : Told) (coming : Option (List ℕ)) (ended : Ended) (old new : Option (List ℕ)) : Type 0 where
+  pub pattern : Pattern
+  pub read : ReadAsPattern coming pattern
+  pub text : List ℕ
+  pub tells : IsPatternVerdict pattern told text ended
+  pub wrote : Appends old new text
+
+-- exactly as many bytes of it went out as the fault says, which aren't all of it
+pub record BreaksOffPatternVerdict (told : Told) (coming : Option (List ℕ)) (old new : Option (List ℕ)) (fault : Fault) : Type 0 where
+  pub pattern : Pattern
+  pub read : ReadAsPattern coming pattern
+  pub text : List ℕ
+  pub ended : Ended
+  pub tells : IsPatternVerdict pattern told text ended
+  pub wrote : WritesFront old new text fault
+
+-- it reads as a pattern that can't be judged
+pub record IsUnjudged (coming : Option (List ℕ)) (fault : Fault) : Type 0 where
+  pub pattern : Pattern
+  pub read : ReadAsPattern coming pattern
+  pub fault_is : IsSweepFault pattern fault
+
+-- why nothing is written
+abbrev pub StopsBeforePattern : Option (List ℕ) → Fault → Type 0
+StopsBeforePattern coming fault = (fault ≡ Memory) ⊎ ((fault ≡ Read) ⊎ (RefusesPattern coming fault ⊎ IsUnjudged coming fault))
+
+-- what was to come reads as a pattern. With any number of processes of each role, on any nodes, every interleaving that
+-- can't go on ends in one state; and so it is in the text of each instance with the least number of each role at least,
+-- whatever its size, if it reads as a plan
+pub record EndsInOneStateForAll (coming : Option (List ℕ)) : Type 0 where
+  pub pattern : Pattern
+  pub read : ReadAsPattern coming pattern
+  pub one_end : HasOneEndForAll pattern
+  pub texts : (cast : Cast) (size : Size) (scripts : Scripts) → IsCast pattern cast → HaveLeast pattern.roles cast.sizes
+      → Reads size (instance_text pattern cast) (Ok scripts) → HasOneEnd (plan_of scripts)

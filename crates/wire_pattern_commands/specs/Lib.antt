@@ -1,0 +1,5 @@
+pub mod Read
+pub mod Ranks
+pub mod Spread
+pub mod Expand
+pub mod CheckPattern

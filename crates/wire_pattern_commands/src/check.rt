@@ -1,0 +1,268 @@
+//! `check --pattern`: one verdict for every number of ranks on every placement.
+
+ghost use Rattle.std.specs.Prelude.{◌≡◌, ◌≢◌, ◌⊎◌, ◌++◌, ◌==◌, ◌||◌, ◌<◌, ◌^◌, [], true, not, Ok, Err, OnOk, IfOk, IfErr};
+ghost use Rattle.std.specs.Prelude.{codes, count_by, if◌then◌else◌};
+ghost use Rattle.std.specs.List.{flat_map};
+ghost use Rattle.wire_types.specs.declared.Fault.TheVariants.{Memory, Read};
+ghost use Rattle.wire_types.specs.Counting.{one_more};
+ghost use Rattle.wire_commands.specs.declared.ended.Ended.TheVariants.{Clean};
+ghost use Rattle.wire_sweep.specs.Judged.{IsSweepFault};
+ghost use Rattle.wire_sweep.specs.Selections.{most_sizes};
+ghost use Rattle.wire_sweep.specs.Shown.{IsFoundFor};
+ghost use Rattle.wire_sweep_laws.specs.Sizes.{total_of};
+ghost use Rattle.wire_sweep_laws.specs.Promised.{IsSettledForAll};
+ghost use Rattle.wire_pattern_waits.specs.Lines.{waits_text};
+ghost use Rattle.wire_pattern_answers.specs.Answers.{AreAnswers};
+ghost use Rattle.wire_pattern_answers.specs.Lines.{answers_text};
+ghost use Rattle.wire_commands.specs.Ending.{ended_of};
+ghost use Rattle.wire_pattern_commands.specs.CheckPattern as spec;
+ghost use Rattle.wire_pattern_commands.specs.CheckPattern.{BreaksOffPatternVerdict, EndsInOneStateForAll};
+ghost use Rattle.wire_pattern_commands.specs.CheckPattern.{IsPatternVerdict, IsSettledSaid, StopsBeforePattern, WritesPatternVerdict};
+
+use crate::reading::{note_sound, read_coming};
+use std::alloc::{AllocError, Global};
+use std::thread::Threads;
+use wire_commands::{Answer, Ended, write_answer};
+use wire_content::Scripts;
+use wire_findings::Finding;
+use wire_pattern::Pattern;
+use wire_pattern_answers::{LineAnswers, find_answers, write_answers};
+use wire_pattern_waits::{CallLine, waiting_lines, write_waits};
+use wire_report::{push_count, push_finding};
+use wire_sweep::laws::texts_settled;
+use wire_sweep::{Counterexample, judge_pattern};
+use wire_types::{Fault, Sink, Source};
+use wire_words::push_number;
+
+/// What is told of a pattern besides its verdict.
+#[derive(Clone, Copy, Debug, PartialEq, Eq)]
+pub struct Told {
+    /// With which statuses each get-now is answered.
+    pub answers: bool,
+    /// By how the command ends, whether each is answered with success alone.
+    pub complete: bool,
+}
+
+/// The end of the first line.
+fn ranks_word(ranks: usize) -> &'static [u8]
+    ensures { result.now ≡ (if ranks == 1 then codes " rank\n" else codes " ranks\n") }
+{
+    if ranks == 1 {
+        b" rank\n".as_slice()
+    } else {
+        b" ranks\n".as_slice()
+    }
+}
+
+/// Appends the first line: how many ranks the counterexample has.
+fn push_head(out: &mut Vec<u8>, ranks: usize) -> Result<(), AllocError>
+    ensures { OnOk result (out.new.items ≡ out.old.items ++ spec.head_line ranks) }
+{
+    out.extend_from_slice(b"# counterexample, ")?;
+    push_number(out, ranks as u64)?;
+    out.extend_from_slice(ranks_word(ranks))
+}
+
+/// Appends a finding as a comment.
+fn push_comment(out: &mut Vec<u8>, scripts: &Scripts, finding: Finding) -> Result<(), AllocError>
+    ensures { OnOk result (out.new.items ≡ out.old.items ++ spec.finding_comment scripts.now finding) }
+{
+    out.extend_from_slice(b"# ")?;
+    push_finding(out, scripts, finding)?;
+    out.extend_from_slice(b"\n")
+}
+
+/// Appends findings as comments.
+fn push_findings(
+    out: &mut Vec<u8>,
+    scripts: &Scripts,
+    findings: &[Finding],
+) -> Result<(), AllocError>
+    ensures { OnOk result (out.new.items ≡ out.old.items ++ flat_map (spec.finding_comment scripts.now) findings.now) }
+{
+    for finding in findings {
+        push_comment(out, scripts, *finding)?;
+    }
+    Ok(())
+}
+
+/// The text of a counterexample.
+fn counterexample_text(alloc: Global, found: &Counterexample) -> Result<Vec<u8>, AllocError>
+    ensures { IfOk result (λ text. text.items
+        ≡ spec.counterexample_text found.now.text.items found.now.plan found.now.findings.items) }
+{
+    let scripts = found.plan.scripts();
+    let findings = found.findings.as_slice();
+    let mut out = Vec::new(alloc);
+    push_head(&mut out, scripts.processes().len())?;
+    out.extend_from_slice(found.text.as_slice())?;
+    push_findings(&mut out, scripts, findings)?;
+    out.extend_from_slice(b"# ")?;
+    push_count(&mut out, findings.len())?;
+    Ok(out)
+}
+
+/// The answer that shows a counterexample.
+fn answer_found(
+    alloc: Global,
+    pattern: &Pattern,
+    told: Told,
+    found: &Counterexample,
+) -> Result<Answer, Fault>
+    requires { IsFoundFor pattern.now found.now }
+    ensures ok { IfOk result (λ answer. IsPatternVerdict pattern.now told answer.text.items answer.ended) }
+    ensures err { IfErr result (λ e. e ≡ Memory) }
+{
+    let text = counterexample_text(alloc, found)?;
+    Ok(Answer {
+        text,
+        ended: Ended::Found(found.findings.as_slice().len() as u64),
+    })
+}
+
+/// Whether a get-now line is answered with success, and with nothing else.
+fn succeeds(answers: &LineAnswers) -> bool
+    ensures { result ≡ spec.succeeds answers.now }
+{
+    answers.success && !answers.not_found && !answers.outside
+}
+
+/// How many get-now lines don't succeed.
+fn count_failing(all: &[LineAnswers]) -> usize
+    ensures { result ≡ count_by (λ a. not (spec.succeeds a)) all.now }
+{
+    let mut count: usize = 0;
+    for answers in all {
+        if !succeeds(answers) {
+            count += 1;
+        }
+    }
+    count
+}
+
+/// How the command ends where nothing is found.
+fn settled_end(told: Told, answers: &[LineAnswers]) -> Ended
+    ensures { result ≡ (if told.complete then ended_of (count_by (λ a. not (spec.succeeds a)) answers.now) else Clean) }
+{
+    if told.complete {
+        Ended::of_count(count_failing(answers))
+    } else {
+        Ended::Clean
+    }
+}
+
+/// With which statuses each get-now line is answered, if that is asked for.
+fn answers_asked(alloc: Global, pattern: &Pattern, told: Told) -> Result<Vec<LineAnswers>, Fault>
+    requires settled { IsSettledForAll pattern.now }
+    requires few { total_of (most_sizes pattern.now.roles) < 2 ^ 31 }
+    ensures ok { IfOk result (λ v. told.answers || told.complete ≡ true → AreAnswers pattern.now v.items) }
+    ensures err { IfErr result (λ e. IsSweepFault pattern.now e) }
+{
+    if told.answers || told.complete {
+        let answers = find_answers(alloc, pattern)?;
+        return Ok(answers);
+    }
+    Ok(Vec::new(alloc))
+}
+
+/// The text about a pattern in which nothing is found: so it says, at which call lines something waits, and if that is
+/// asked for with which statuses each get-now is answered.
+fn settled_text(
+    alloc: Global,
+    pattern: &Pattern,
+    told: Told,
+    lines: &[CallLine],
+    answers: &[LineAnswers],
+) -> Result<Vec<u8>, AllocError>
+    ensures { IfOk result (λ text. text.items ≡ spec.settled_line
+        ++ (waits_text pattern.now lines.now ++ (if told.answers then answers_text pattern.now answers.now else []))) }
+{
+    let mut text = Vec::from_slice(
+        alloc,
+        b"findings 0 for every number of ranks on every placement\n",
+    )?;
+    write_waits(&mut text, pattern, lines)?;
+    if !told.answers {
+        return Ok(text);
+    }
+    write_answers(&mut text, pattern, answers)?;
+    Ok(text)
+}
+
+/// The answer about a pattern in which nothing is found.
+fn answer_settled(alloc: Global, pattern: &Pattern, told: Told) -> Result<Answer, Fault>
+    requires settled { IsSettledForAll pattern.now }
+    requires few { total_of (most_sizes pattern.now.roles) < 2 ^ 31 }
+    ensures ok { IfOk result (λ answer. IsSettledSaid pattern.now told answer.text.items answer.ended) }
+    ensures err { IfErr result (λ e. IsSweepFault pattern.now e) }
+{
+    let lines = waiting_lines(alloc, pattern)?;
+    let answers = answers_asked(alloc, pattern, told)?;
+    let text = settled_text(alloc, pattern, told, lines.as_slice(), answers.as_slice())?;
+    Ok(Answer {
+        text,
+        ended: settled_end(told, answers.as_slice()),
+    })
+}
+
+/// The verdict about a pattern.
+fn answer_pattern(
+    rt: &(impl Threads + Sync),
+    alloc: Global,
+    pattern: &Pattern,
+    told: Told,
+) -> Result<Answer, Fault>
+    ensures ok { IfOk result (λ answer. IsPatternVerdict pattern.now told answer.text.items answer.ended) }
+    ensures err { IfErr result (λ e. IsSweepFault pattern.now e) }
+{
+    match judge_pattern(rt, alloc, pattern)? {
+        None => answer_settled(alloc, pattern, told),
+        Some(found) => {
+            let answer = answer_found(alloc, pattern, told, &found);
+            drop(found);
+            answer
+        }
+    }
+}
+
+/// Checks a pattern for every number of ranks on every placement: reads it to its end, and writes that nothing is
+/// found, at which call lines something waits, and if that is asked for with which statuses each get-now is answered;
+/// or a counterexample: how many ranks it has, the text of its plan, and as comments what `check` finds in that. It is
+/// the first instance that is judged in which something is found.
+///
+/// It answers `Clean` where nothing is found in any instance; but with `complete`, where get-now lines don't succeed,
+/// their count. The faults of the pattern's file come first, then those
+/// of the instances that are judged, each on the line of the pattern that it comes from. After the fault `Write` the
+/// front of the text that it counts is written, after any other fault nothing. `Memory` may come in place of any other
+/// answer.
+pub fn check_pattern<R: Source, W: Sink>(
+    rt: &(impl Threads + Sync),
+    alloc: Global,
+    told: Told,
+    reader: &mut R,
+    writer: &mut W,
+) -> Result<Ended, Fault>
+    ensures ok { IfOk result (λ ended. WritesPatternVerdict told (R.coming reader.old) ended (W.written writer.old) (W.written writer.new)) }
+    ensures quiet { OnOk result ((R.failures reader.new ≡ R.failures reader.old) × (W.failures writer.new ≡ W.failures writer.old)) }
+
+    // The headline: where it finds nothing, in each instance every interleaving that can't go on ends in one state, and
+    // so in what its text reads as.
+    ensures one_end { result ≡ Ok Clean → EndsInOneStateForAll (R.coming reader.old) }
+
+    // Either nothing was written, or the front of the text that the fault counts.
+    ensures err { IfErr result (λ e. (StopsBeforePattern (R.coming reader.old) e × (writer.new ≡ writer.old))
+        ⊎ (BreaksOffPatternVerdict told (R.coming reader.old) (W.written writer.old) (W.written writer.new) e
+        × (W.failures writer.new ≡ one_more (W.failures writer.old)))) }
+
+    // A failed read is answered only where the reader failed.
+    ensures read_failed { result ≡ Err Read → R.failures reader.new ≡ one_more (R.failures reader.old) }
+    ensures unfailed { IfErr result (λ e. e ≢ Memory → e ≢ Read → R.failures reader.new ≡ R.failures reader.old) }
+{
+    let pattern = read_coming(alloc, reader)?;
+    note_sound(&pattern);
+    texts_settled();
+    let answer = answer_pattern(rt, alloc, &pattern, told);
+    drop(pattern);
+    let answer = answer?;
+    write_answer(writer, &answer)
+}

@@ -1,0 +1,10 @@
+use Rattle.std.proofs.Common.{◌≡◌, ◌++◌, drop}
+use Rattle.wire_types.specs.Texts.{lists_of}
+use Rattle.wire_instances.specs.Shown.{cast_by}
+use Rattle.wire_pattern_waits.specs.Stops.{stops_from}
+use Rattle.wire_pattern_waits.proofs.stops.stops_by.Given as goal
+
+abbrev pub invariant-loop-number : goal.invariant-loop-number
+invariant-loop-number l =
+    l.stops.items ++ stops_from l.pattern (cast_by l.cast) l.number (drop l.number l.role-items) (drop l.number (lists_of l.rows))
+    ≡ stops_from l.pattern (cast_by l.cast) 0 l.role-items (lists_of l.rows)

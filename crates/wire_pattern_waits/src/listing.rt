@@ -1,0 +1,70 @@
+//! The call lines at which something stands, in the order of the pattern.
+
+ghost use Rattle.std.specs.Prelude.{◌≡◌, ◌++◌, ◌∷◌, [], OnOk, IfOk, filter, map};
+ghost use Rattle.wire_pattern.specs.Shown.{step_by};
+ghost use Rattle.wire_pattern_waits.specs.Lines as spec;
+ghost use Rattle.wire_pattern_waits.specs.Lines.{verbs_in};
+ghost use Rattle.wire_pattern_waits.specs.Stops.{is_noted};
+
+use crate::lines::{CallLine, verbs_of};
+use crate::stops::{Stop, is_noted};
+use std::alloc::{AllocError, Global};
+use wire_pattern::{Pattern, Step};
+
+/// Adds the call line of this number if it is noted.
+fn add_line(out: &mut Vec<CallLine>, noted: &[Stop], line: CallLine) -> Result<(), AllocError>
+    ensures { OnOk result (out.new.items ≡ out.old.items ++ filter (λ c. is_noted noted.now c.role c.number) (line ∷ [])) }
+{
+    let stop = Stop {
+        role: line.role,
+        line: line.number,
+    };
+    if is_noted(noted, stop) {
+        out.push(line)?;
+    }
+    Ok(())
+}
+
+/// Adds the call lines of a role with this script that are noted.
+fn add_script(
+    out: &mut Vec<CallLine>,
+    alloc: Global,
+    noted: &[Stop],
+    role: u32,
+    steps: &[Step],
+) -> Result<(), AllocError>
+    ensures { OnOk result (out.new.items ≡ out.old.items
+        ++ filter (λ c. is_noted noted.now c.role c.number) (spec.numbered role 1 (verbs_in (map step_by steps.now)))) }
+{
+    let verbs = verbs_of(alloc, steps)?;
+    for (index, verb) in verbs.iter().enumerate() {
+        let line = CallLine {
+            role,
+            number: index + 1,
+            verb: *verb,
+        };
+        add_line(out, noted, line)?;
+    }
+    Ok(())
+}
+
+/// The call lines of a pattern that are noted, in the order of roles and lines.
+pub(crate) fn noted_lines(
+    alloc: Global,
+    pattern: &Pattern,
+    noted: &[Stop],
+) -> Result<Vec<CallLine>, AllocError>
+    ensures { IfOk result (λ v. v.items ≡ filter (λ c. is_noted noted.now c.role c.number) (spec.call_lines pattern.now)) }
+{
+    let mut lines = Vec::new(alloc);
+    for (number, role) in pattern.roles().iter().enumerate() {
+        add_script(
+            &mut lines,
+            alloc,
+            noted,
+            number as u32,
+            role.steps.as_slice(),
+        )?;
+    }
+    Ok(lines)
+}

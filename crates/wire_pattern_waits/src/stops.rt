@@ -1,0 +1,188 @@
+//! Where the processes of an instance stand when its run can't go on.
+
+ghost use Rattle.std.specs.Prelude.{◌≡◌, ◌<◌, ◌^◌, ◌++◌, ◌||◌, ◌↔◌, true, ℕ, OnOk, IfOk, IfErr, length, slice_get};
+ghost use Rattle.std.specs.List.{list_any};
+ghost use Rattle.wire_types.specs.declared.Fault.TheVariants.{Memory};
+ghost use Rattle.wire_types.specs.Texts.{lists_of};
+ghost use Rattle.wire_core.specs.EndsAfter.{plain_ends};
+ghost use Rattle.wire_pattern.specs.Instances.{IsCast, cast_of};
+ghost use Rattle.wire_pattern.specs.Planned.{steps_in};
+ghost use Rattle.wire_instances.specs.Shown.{cast_by};
+ghost use Rattle.wire_pattern_waits.specs.Places.{steps_places};
+ghost use Rattle.wire_pattern_waits.specs.Stops as spec;
+ghost use Rattle.wire_pattern_waits.specs.Stops.{Stops};
+
+use crate::places::places_of;
+use std::alloc::{AllocError, Global};
+use wire_content::Scripts;
+use wire_core::plain_outcome;
+use wire_instances::{Cast, roles_by};
+use wire_pattern::Pattern;
+use wire_plan::Plan;
+use wire_types::{CallEnd, Fault, Outcome};
+
+/// A call line at which a process stands: the number of its role, and its own in the role's script, from 1.
+#[derive(Clone, Copy, PartialEq, Eq)]
+pub(crate) struct Stop {
+    pub(crate) role: u32,
+    pub(crate) line: usize,
+}
+
+/// Whether a call is what its process stands at, and waits for something.
+fn is_waiting(end: &CallEnd) -> bool
+    ensures { result ≡ spec.is_waiting end.now }
+{
+    match end {
+        CallEnd::Waiting => true,
+        CallEnd::Replied(_) | CallEnd::Ready | CallEnd::Unreached => false,
+    }
+}
+
+/// Whether a process waits at one of these calls.
+fn is_stopped(row: &[CallEnd]) -> bool
+    ensures { result ≡ list_any spec.is_waiting row.now }
+{
+    for end in row {
+        if is_waiting(end) {
+            return true;
+        }
+    }
+    false
+}
+
+/// Adds the stops of a process of this role, by what became of its calls and by the numbers of their lines.
+fn add_stops(
+    out: &mut Vec<Stop>,
+    role: u32,
+    row: &[CallEnd],
+    places: &[usize],
+) -> Result<(), AllocError>
+    ensures { OnOk result (out.new.items ≡ out.old.items ++ spec.process_stops role row.now places.now) }
+{
+    for (number, end) in row.iter().enumerate() {
+        let Some(line) = places.get(number) else {
+            return Ok(());
+        };
+        if is_waiting(end) {
+            out.push(Stop { role, line: *line })?;
+        }
+    }
+    Ok(())
+}
+
+/// Adds the stops of a process of this role, by what became of its calls.
+fn add_process(
+    out: &mut Vec<Stop>,
+    alloc: Global,
+    pattern: &Pattern,
+    cast: &Cast,
+    process: u32,
+    role: u32,
+    row: &[CallEnd],
+) -> Result<(), AllocError>
+    requires { IsCast pattern.now (cast_by cast.now) }
+    ensures { OnOk result (out.new.items ≡ out.old.items ++ spec.process_stops role row.now
+        (steps_places (cast_by cast.now) process 0 1 (steps_in (slice_get pattern.now.roles role)))) }
+{
+    if !is_stopped(row) {
+        return Ok(());
+    }
+    let places = places_of(alloc, pattern, cast, process, role)?;
+    add_stops(out, role, row, places.as_slice())
+}
+
+/// The role of each process.
+pub fn process_roles(alloc: Global, pattern: &Pattern, cast: &Cast) -> Result<Vec<u32>, AllocError>
+    requires { IsCast pattern.now (cast_by cast.now) }
+    ensures roles { IfOk result (λ v. v.items ≡ (cast_of (cast_by cast.now)).roles) }
+    ensures few { IfOk result (λ v. length v.items < 2 ^ 31) }
+{
+    // The roles are sound, so there are few of them.
+    let _roles = pattern.roles();
+    let roles = roles_by(alloc, cast.sizes.as_slice())?;
+    Ok(roles)
+}
+
+/// The stops of all processes of an instance, by what became of their calls.
+fn stops_by(
+    alloc: Global,
+    pattern: &Pattern,
+    cast: &Cast,
+    rows: &[Vec<CallEnd>],
+) -> Result<Vec<Stop>, AllocError>
+    requires { IsCast pattern.now (cast_by cast.now) }
+    ensures { IfOk result (λ v. v.items
+        ≡ spec.stops_from pattern.now (cast_by cast.now) 0 (cast_of (cast_by cast.now)).roles (lists_of rows.now)) }
+{
+    let roles = process_roles(alloc, pattern, cast)?;
+    let mut stops = Vec::new(alloc);
+    for (number, role) in roles.iter().enumerate() {
+        let Some(row) = rows.get(number) else {
+            return Ok(stops);
+        };
+        let process = number as u32;
+        add_process(
+            &mut stops,
+            alloc,
+            pattern,
+            cast,
+            process,
+            *role,
+            row.as_slice(),
+        )?;
+    }
+    Ok(stops)
+}
+
+/// What became of every call in the plain run of scripts.
+fn ends_of_run(alloc: Global, scripts: Scripts) -> Result<Outcome, Fault>
+    ensures ok { IfOk result (λ outcome. lists_of outcome.rows.items ≡ (plain_ends scripts).rows) }
+    ensures err { IfErr result (λ e. e ≡ Memory) }
+{
+    let plan = Plan::build(alloc, scripts)?;
+    let outcome = plain_outcome(alloc, &plan);
+    drop(plan);
+    outcome
+}
+
+/// The stops of all processes of an instance that reads as these scripts: these, and no others.
+pub(crate) fn stops_of(
+    alloc: Global,
+    pattern: &Pattern,
+    cast: &Cast,
+    scripts: Scripts,
+) -> Result<Vec<Stop>, Fault>
+    requires { IsCast pattern.now (cast_by cast.now) }
+    ensures ok { IfOk result (λ v. (role line : ℕ) → (spec.is_noted v.items role line ≡ true)
+        ↔ Stops pattern.now (cast_by cast.now) scripts role line) }
+    ensures err { IfErr result (λ e. e ≡ Memory) }
+{
+    let outcome = ends_of_run(alloc, scripts)?;
+    let stops = stops_by(alloc, pattern, cast, outcome.rows.as_slice())?;
+    Ok(stops)
+}
+
+/// Whether a stop is among these.
+pub(crate) fn is_noted(stops: &[Stop], stop: Stop) -> bool
+    ensures { result ≡ spec.is_noted stops.now stop.role stop.line }
+{
+    for other in stops {
+        if *other == stop {
+            return true;
+        }
+    }
+    false
+}
+
+/// Notes stops that aren't noted yet.
+pub(crate) fn note_stops(noted: &mut Vec<Stop>, stops: &[Stop]) -> Result<(), AllocError>
+    ensures { OnOk result ((role line : ℕ) → spec.is_noted noted.new.items role line
+        ≡ spec.is_noted noted.old.items role line || spec.is_noted stops.now role line) }
+{
+    for stop in stops {
+        if !is_noted(noted.as_slice(), *stop) {
+            noted.push(*stop)?;
+        }
+    }
+    Ok(())
+}

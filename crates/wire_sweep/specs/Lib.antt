@@ -1,0 +1,4 @@
+pub mod Selections
+pub mod Judged
+pub mod Shown
+pub mod Texts

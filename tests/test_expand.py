@@ -1,0 +1,152 @@
+"""`expand` of the built program: the plan of one instance of a pattern, and what is refused."""
+import glob
+import os
+import random
+import unittest
+
+import grammar
+import pattern_reference
+import pattern_soaking
+import support
+from pattern_reference import Ranks
+from pattern_soaking import Instance
+from running import FULL, ProgramCase, Run, Runs, as_lines, onto
+
+CARDS = "examples/patterns/business-cards.pattern"
+# How many instances of each example are written.
+INSTANCES = 8
+MOST_NODES, MOST_RANKS = 64, 512
+# A pattern with a single role, and a group of at least two ranks.
+TEAM = as_lines(
+    "pattern 1/job app/one root/put global k v/commit/many team min 2/get root k".split("/")
+)
+LONG_KEY = as_lines(["pattern 1", "job " + "j" * 58, "many w", "put global k[self] v"])
+
+
+def cards(nodes: list[int]) -> bytes:
+    """The plan of business cards, with a rank on each of these nodes."""
+    lines = [b"rehearsal 2"]
+    lines += [b"node n%d" % it for it in sorted(set(nodes))]
+    lines.append(b"job app")
+    for rank, node in enumerate(nodes):
+        lines += [b"rank n%d" % node, b"put global card v", b"commit", b"fence app:* collect"]
+        lines += [b"get-now app:%d card" % it for it in range(len(nodes)) if it != rank]
+    return b"".join(it + b"\n" for it in lines)
+
+
+def written_plans() -> Runs:
+    """Instances of one pattern on all kinds of nodes."""
+    yield Run("no rank", ["expand", CARDS], wrote=cards([]))
+    placements: list[tuple[list[str], list[int]]] = [
+        ([], [0, 1, 2]),
+        (["--per-node", "2"], [0, 0, 1]),
+        (["--per-node", "9"], [0, 0, 0]),
+        (["--by", "node", "--nodes", "2"], [0, 1, 0]),
+        (["--by", "node", "--nodes", "9"], [0, 1, 2]),
+        (["--large"], [0, 1, 2]),
+    ]
+    for words, nodes in placements:
+        told = ["expand", "--ranks", "workers=3", *words, CARDS]
+        yield Run(" ".join(told), told, wrote=cards(nodes))
+    apart = [it % MOST_NODES for it in range(MOST_NODES + 2)]
+    told = ["expand", "--ranks", f"workers={len(apart)}", CARDS]
+    yield Run("more ranks than nodes", told, wrote=cards(apart))
+    wanted = cards([0, 1, 2])
+    given = pattern_text(CARDS)
+    told = ["expand", "--ranks", "workers=3"]
+    yield Run("from standard input", told, given=given, wrote=wanted)
+    yield Run(
+        "onto a full device", told, given=given, status=4, said=FULL, set_up=onto("/dev/full", 1)
+    )
+
+
+def pattern_text(path: str) -> bytes:
+    with open(os.path.join(support.TOP, path), "rb") as it:
+        return it.read()
+
+
+def refusal(words: list[str], given: bytes, fault: str, number: int) -> Run:
+    """A run that is refused."""
+    said = grammar.Refused(fault, number).said()
+    return Run(" ".join(words), ["expand", *words], given=given, status=2, said=said)
+
+
+def refusals() -> Runs:
+    """What is refused: the pattern, the word of the ranks, and an instance that is no plan."""
+    yield refusal(["--ranks", "nobody=1"], b"pattern 2\n", "BadHeader", 1)
+    for word in ("", "workers", "workers=", "workers=x", "workers=01", "workers=1000000000"):
+        yield refusal(["--ranks", word], pattern_text(CARDS), "BadOrder", 1)
+    yield refusal(["--ranks", "workers=1,others=2"], pattern_text(CARDS), "BadOrder", 2)
+    yield refusal(["--ranks", "workers=1,workers=1"], pattern_text(CARDS), "BadOrder", 2)
+    for word in ("team=1", "root=1", "root=2"):
+        yield refusal(["--ranks", word], TEAM, "BadOrder", 1)
+    large = f"workers={MOST_RANKS + 1}"
+    yield refusal(["--ranks", large], pattern_text(CARDS), "TooMany", 4)
+    # Call 32,769 is the get of rank 162 from rank 41.
+    yield refusal(["--ranks", "workers=200"], pattern_text(CARDS), "TooMany", 9)
+    many = ["--ranks", "workers=66", "--per-node", "1"]
+    yield refusal(many, pattern_text(CARDS), "TooMany", 4)
+    yield refusal(["--ranks", "w=11"], LONG_KEY, "TooLong", 4)
+
+
+def usages() -> Runs:
+    """Words that are no command line."""
+    yield Run("help on expand", ["expand", "--help"], wrote=(b"Usage: wire_up expand",))
+    for words in (
+        "--per-node 0",
+        "--per-node x",
+        "--by node",
+        "--nodes 2",
+        "--by rank --nodes 2",
+        "--by node --nodes 0",
+        "--per-node 1 --by node --nodes 1",
+    ):
+        told = ["expand", *words.split(" "), CARDS]
+        yield Run(words, told, status=5, said=b"wire_up: usage expand\n")
+
+
+class Expand(ProgramCase):
+    """`expand` of the built program."""
+
+    @classmethod
+    def setUpClass(cls) -> None:
+        super().setUpClass()
+        if not pattern_soaking.has_expand(cls.program):
+            raise unittest.SkipTest("this wire_up has no expand")
+
+    def test_written_plans(self) -> None:
+        self.hold_all(written_plans())
+
+    def test_refusals(self) -> None:
+        self.hold_all(refusals())
+
+    def test_usages(self) -> None:
+        self.hold_all(usages())
+
+    def test_examples(self) -> None:
+        """Instances of all examples, as the reference has them."""
+        folder = os.path.join(support.TOP, "examples", "patterns")
+        for path in sorted(glob.glob(os.path.join(folder, "*.verdict"))):
+            file = path.removesuffix(".verdict") + ".pattern"
+            pattern = pattern_reference.read_pattern(pattern_text(file))
+            for number in range(INSTANCES):
+                dice = random.Random(number)
+                sizes = [
+                    1 if it.least is None else dice.randint(it.least, max(6, it.least))
+                    for it in pattern.roles
+                ]
+                ranks = Ranks(pattern, sizes)
+                scripts = [ranks.script(it, frozenset()) for it in range(ranks.count)]
+                named = [
+                    f"{role.name.decode()}={size}"
+                    for role, size in zip(pattern.roles, sizes)
+                    if role.least is not None
+                ]
+                told = ["--ranks", ",".join(named)] if named else []
+                wanted = Instance(ranks, scripts, [*range(ranks.count)]).text
+                with self.subTest(file, sizes=sizes):
+                    self.hold(Run(file, ["expand", *told, file], wrote=wanted))
+
+
+if __name__ == "__main__":
+    unittest.main()
