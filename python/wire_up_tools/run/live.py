@@ -259,11 +259,15 @@ class Run:
         until = time.monotonic() + SOON
         while left and time.monotonic() < until:
             for heard in self.hall.hear(TICK):
-                name = left.pop(heard.channel, None)
-                if name and heard.line is None:
-                    raise self.refuse_loss(f"{name} ended before the run did")
-                if name and heard.line in LOST:
-                    raise self.refuse_loss(f"{name} lost its PMIx server before the run ended")
+                self.hold_served(left.pop(heard.channel, ""), heard.line)
+
+    def hold_served(self, name: str, line: Optional[str]) -> None:
+        """Takes what a rank says at its end; without a name it is of another process. Raises
+        Refused if it has no server any more, or is gone."""
+        if name and line is None:
+            raise self.refuse_loss(f"{name} ended before the run did")
+        if name and line in LOST:
+            raise self.refuse_loss(f"{name} lost its PMIx server before the run ended")
 
 
 def choose_hosts(
@@ -283,16 +287,23 @@ def end_process(process: "subprocess.Popen[bytes]", is_fake: bool) -> None:
     their table, and that ends last; elsewhere the launcher is given time to take its daemons
     down."""
     if is_fake:
-        for child in fake_nodes.find_children(process.pid):
-            with contextlib.suppress(ProcessLookupError):
-                os.kill(child, signal.SIGKILL)
-        ends_within(process, PATIENCE)
+        end_fake_nodes(process)
     elif not ends_within(process, PATIENCE):
         process.terminate()
         ends_within(process, PATIENCE)
     with contextlib.suppress(ProcessLookupError):
         os.killpg(process.pid, signal.SIGKILL)
     process.wait()
+
+
+def end_fake_nodes(process: "subprocess.Popen[bytes]") -> None:
+    """Ends the first process of those among fake nodes, which `unshare` waits for."""
+    children = fake_nodes.find_children(process.pid)
+    for child in children:
+        with contextlib.suppress(ProcessLookupError):
+            os.kill(child, signal.SIGKILL)
+    if children:
+        ends_within(process, PATIENCE)
 
 
 def ends_within(process: "subprocess.Popen[bytes]", seconds: float) -> bool:
