@@ -214,8 +214,11 @@ class FullDisk(LiveRuns):
             self.assertIn(f"wire_up-run: {folder}/wire_up-run-", ran.stderr)
 
     def test_no_room_for_the_library(self) -> None:
+        """It says so to the rank, or its server writes it, and no rank comes up."""
         with self.small_disk(1024) as folder:
-            self.hold_refused(self.run_it(ENDS, temporary=folder), "has the disk room?")
+            ran = self.run_it("--start", "15", ENDS, temporary=folder)
+        self.hold_refused(ran, "wire_up-run: ")
+        self.assertRegex(ran.stderr, "has the disk room|ranks came up in 15 seconds: .*RESOURCE")
 
     def test_no_file_may_be_as_large(self) -> None:
         """A limit of files is told as a full disk is."""
