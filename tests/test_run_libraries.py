@@ -24,7 +24,6 @@ from wire_up_tools.run.tables import Recorded, read_table
 UNEXPLAINED: dict[str, list[str]] = {}
 # Plans of which `--predict` says a call more than was seen, and that it is unsteady.
 UNSEEN = {
-    "openpmix-4.2": ["later-key-other-node"],
     "slurm-24.11": [
         "collect-after-get",
         "get-new-key",
@@ -38,13 +37,7 @@ UNSEEN = {
 # their replies depends on which rank is fast.
 EARLIER = os.path.join(TOP, "tests", "earlier_tables")
 UNLIKE = {
-    "openpmix-4.2": {
-        "get-then-now-samenode",
-        "jobs-fence",
-        "jobs-fence-get",
-        "jobs-get-same-node",
-        "later-key-other-node",
-    },
+    "openpmix-4.2": {"get-then-now-samenode", "jobs-fence"},
     "openpmix-5.0": {"collect-mixed-one-node"},
     "slurm-24.11": {"collect-mixed-one-node", "later-key-asked-again"},
 }
