@@ -87,7 +87,7 @@ LIBRARY_pmix = PMIx
 
 $(RECORD_OUT)/pmix.i:
 	@test -n "$(PMIX_CFLAGS)" || pkg-config --exists pmix || \
-		{ echo "pkg-config doesn't find PMIx: on Debian the package is libpmix-dev"; exit 1; }
+		{ echo "pkg-config doesn't find PMIx: on Debian it takes pkg-config and libpmix-dev"; exit 1; }
 	@mkdir -p $(RECORD_OUT)
 	@echo '#include <pmix.h>' | $(CC) -E $(PMIX_INCLUDES) -x c - > $@.new
 	@mv $@.new $@
@@ -137,7 +137,7 @@ PMIX_LIBRARIES = $(if $(and $(wildcard /usr/lib/*/libpmix.so.2),$(filter -Wl$(CO
 
 run/wire_up-rank: $(wildcard run/*.c) run/rank.h
 	@test -n "$(PMIX_CFLAGS)" || pkg-config --exists pmix || \
-		{ echo "pkg-config doesn't find PMIx: on Debian the package is libpmix-dev"; exit 1; }
+		{ echo "pkg-config doesn't find PMIx: on Debian it takes pkg-config and libpmix-dev"; exit 1; }
 	$(CC) -std=gnu11 $(CFLAGS) -pthread $(PMIX_INCLUDES) -o $@.new $(filter %.c,$^) $(PMIX_LIBRARIES)
 	@mv $@.new $@
 

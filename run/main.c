@@ -108,6 +108,8 @@ int main(int count, char **words)
     start_watching();
     run_script();
     wait_for_end();
+    /* A commit of nothing shows whether the server is still there. */
+    say("ended %s", status_name(PMIx_Commit()));
     PMIx_Finalize(NULL, 0);
     return 0;
 }

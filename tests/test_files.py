@@ -9,7 +9,7 @@ from unittest import mock
 
 import support
 from wire_up_tools.failures import explain
-from wire_up_tools.files import write_whole
+from wire_up_tools.files import write_each, write_file, write_whole
 
 assert support.TOP, "it says where the package is"
 
@@ -47,6 +47,19 @@ class WriteWholeTest(unittest.TestCase):
             with self.assertRaises(OSError):
                 write_whole(self.path, "new")
         self.assertEqual((self.read(self.path), os.listdir(self.room)), ("old", ["file"]))
+
+    def test_what_is_refused_names_the_file(self) -> None:
+        """The file is the one that was asked for; others are written all the same."""
+        nowhere = os.path.join(self.room, "nowhere", "file")
+        for write in (write_file, write_whole):
+            with self.assertRaises(OSError) as refused:
+                write(nowhere, "new")
+            said = f"{nowhere}: No such file or directory"
+            self.assertEqual(said, explain(refused.exception))
+        with self.assertRaises(OSError) as refused:
+            write_each([("/dev/full", "1"), (nowhere, "2"), (self.path, "3")])
+        self.assertEqual("/dev/full: No space left on device", explain(refused.exception))
+        self.assertEqual("3", self.read(self.path))
 
     def test_a_link(self) -> None:
         """The link is replaced, and not what it leads to."""

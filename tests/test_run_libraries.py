@@ -1,13 +1,17 @@
 """What is known of libraries: the plans of the suite, the tables of what libraries did, and their
-rules, which predict it."""
+rules, which predict it. The tables are held to those that a forerunner made."""
+import os
 import unittest
 from collections.abc import Mapping
 
 import grammar
 import model
 from running import ProgramCase, text_of, written
+from support import TOP
 from test_run_parts import run
 from wire_up_tools.plan import read_plan
+from wire_up_tools.run.expected import Expected
+from wire_up_tools.run.libraries.judging import judge
 from wire_up_tools.run.libraries.predicting import Way, explain_differences, predict
 from wire_up_tools.run.libraries.rules import Rule
 from wire_up_tools.run.libraries.traits import LIBRARIES, Library
@@ -18,6 +22,25 @@ from wire_up_tools.run.tables import Recorded, read_table
 
 # Plans that differ, and that the rules of a library don't explain, by the library's name.
 UNEXPLAINED: dict[str, list[str]] = {}
+# Plans of which `--predict` says a call more than was seen, and that it is unsteady.
+UNSEEN = {
+    "slurm-24.11": [
+        "collect-after-get",
+        "get-new-key",
+        "get-stale-caller",
+        "get-stale-mate",
+        "later-key-asked-again",
+        "other-rewrite-unread-get",
+    ],
+}
+# The tables of a forerunner, and plans with which a library did something else then, since one of
+# their replies depends on which rank is fast.
+EARLIER = os.path.join(TOP, "tests", "earlier_tables")
+UNLIKE = {
+    "openpmix-4.2": {"get-then-now-samenode", "jobs-fence"},
+    "openpmix-5.0": {"collect-mixed-one-node"},
+    "slurm-24.11": {"collect-mixed-one-node", "later-key-asked-again"},
+}
 PLANS = {it.name: it for it in read_suite()}
 
 
@@ -25,6 +48,11 @@ def rules_report(plan: SuitePlan) -> Report:
     """The report of the rules, by the model of the tests."""
     scripts = grammar.read(plan.text.encode())
     return read_report(model.Run(model.Plan(scripts)).go().report().decode())
+
+
+def list_seen(recorded: Recorded) -> set[str]:
+    """The calls that a library answered otherwise, each with its reply."""
+    return {str(it) for it in recorded.differences}
 
 
 REPORTS = {name: rules_report(it) for name, it in PLANS.items()}
@@ -71,6 +99,22 @@ class Predictions(unittest.TestCase):
                 wrong = self.list_wrong(library, table.plans)
                 self.assertEqual(UNEXPLAINED.get(name, []), wrong)
 
+    def test_what_is_told(self) -> None:
+        """`--predict` tells each difference. It takes two orders: what wasn't seen it calls
+        unsteady, and the plans are listed."""
+        for library in LIBRARIES.values():
+            unseen = []
+            for name, it in read_table(library.table).plans.items():
+                if it.kind is Kind.UNSTEADY:
+                    continue
+                plan = read_plan(PLANS[name].text.encode())
+                of, seen = judge(plan, library, Expected(REPORTS[name])), list_seen(it)
+                sure = {str(p.difference) for p in of.found if p.difference.place not in of.timed}
+                told = {str(p.difference) for p in of.found}
+                self.assertTrue(sure <= seen <= told, f"{library.name} {name}")
+                unseen += [name] if told != seen else []
+            self.assertEqual(UNSEEN.get(library.name, []), sorted(unseen))
+
     def test_unsteady_plans(self) -> None:
         """Where runs differed, each reply that is predicted is the rules' or one that was seen."""
         for library in LIBRARIES.values():
@@ -103,6 +147,35 @@ class Predictions(unittest.TestCase):
         traits = LIBRARIES["openpmix-4.2"].traits
         late = predict(plan, traits, way=Way(["app:1"])).lines[-1].reply
         self.assertEqual("PMIX_ERR_NOT_FOUND", late)
+
+
+def are_alike(one: Recorded, other: Recorded) -> bool:
+    """Whether two measurements of a plan say the same."""
+    return one.kind is other.kind and list_seen(one) == list_seen(other)
+
+
+def can_be_one(one: Recorded, other: Recorded) -> bool:
+    """Whether two measurements of a plan can be of one library: in one the runs differ, and each
+    difference that the other has was seen among them."""
+    steady, unsteady = sorted((one, other), key=lambda it: it.kind is Kind.UNSTEADY)
+    return unsteady.kind is Kind.UNSTEADY and list_seen(steady) <= list_seen(unsteady)
+
+
+class Agreement(unittest.TestCase):
+    """The tables of the suite say what a forerunner of it saw, on the plans that both have."""
+
+    def test_earlier_tables(self) -> None:
+        """They are alike, but for the plans that are listed."""
+        for name, listed in UNLIKE.items():
+            with self.subTest(name):
+                earlier = read_table(os.path.join(EARLIER, f"{name}.txt")).plans
+                now = read_table(LIBRARIES[name].table).plans
+                self.assertEqual(set(), earlier.keys() - now.keys())
+                self.assertGreater(len(earlier), 95)
+                unlike = {it for it, seen in earlier.items() if not are_alike(seen, now[it])}
+                self.assertEqual(listed, unlike)
+                for it in unlike:
+                    self.assertTrue(can_be_one(earlier[it], now[it]), it)
 
 
 class CommandLine(ProgramCase):

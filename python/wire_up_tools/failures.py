@@ -11,4 +11,5 @@ class Unusable(Exception):
 
 def explain(why: OSError) -> str:
     """What the system refused, with the file that it was about."""
-    return f"{why.filename}: {why.strerror}" if why.filename else str(why)
+    said = why.strerror or str(why)
+    return f"{why.filename}: {said}" if why.filename else said

@@ -1,25 +1,56 @@
-"""Writes files whole or not at all."""
+"""Writes files: whole or not at all, or as they are."""
+import contextlib
 import os
 import sys
+from collections.abc import Iterator, Sequence
 
 STANDARD_OUTPUT = "-"
+
+
+@contextlib.contextmanager
+def naming(path: str) -> Iterator[None]:
+    """Lets what the system refuses name a file. Raises OSError."""
+    try:
+        yield
+    except OSError as why:
+        raise OSError(why.errno, why.strerror, path) from None
+
+
+def write_file(path: str, text: str) -> None:
+    """Writes a text, as UTF-8, to a file. Raises OSError, with its path."""
+    with naming(path), open(path, "w", encoding="utf-8") as to:
+        to.write(text)
 
 
 def write_whole(path: str, text: str) -> None:
     """Writes a text, as UTF-8, to a file or to standard output.
 
     A file that is there stays as it was until the new one is complete. What isn't a regular
-    file, such as a pipe or a device, is written to as it is. Raises OSError.
+    file, such as a pipe or a device, is written to as it is. Raises OSError, with the path.
     """
     data = text.encode()
-    if path == STANDARD_OUTPUT:
-        sys.stdout.buffer.write(data)
-        sys.stdout.flush()
-    elif os.path.exists(path) and not os.path.isfile(path):
-        with open(path, "wb") as to:
-            to.write(data)
-    else:
-        replace_file(path, data)
+    with naming("standard output" if path == STANDARD_OUTPUT else path):
+        if path == STANDARD_OUTPUT:
+            sys.stdout.buffer.write(data)
+            sys.stdout.flush()
+        elif os.path.exists(path) and not os.path.isfile(path):
+            with open(path, "wb") as to:
+                to.write(data)
+        else:
+            replace_file(path, data)
+
+
+def write_each(texts: Sequence[tuple[str, str]]) -> None:
+    """Writes texts, each to its path. Where one can't be written, the others are. Raises OSError
+    for the first such, once all are tried."""
+    refused: list[OSError] = []
+    for path, text in texts:
+        try:
+            write_whole(path, text)
+        except OSError as why:
+            refused.append(why)
+    if refused:
+        raise refused[0]
 
 
 def replace_file(path: str, data: bytes) -> None:

@@ -7,6 +7,7 @@ from typing import Optional
 
 from wire_up_tools.checker import Answer, Checker
 from wire_up_tools.failures import Refused
+from wire_up_tools.files import write_file
 from wire_up_tools.run.reports import Report, read_report
 
 SETTLED, FOUND = 0, 1
@@ -67,8 +68,7 @@ def expect_in_order(checker: Checker, plan: bytes, order: str) -> Expected:
     """What becomes of a plan in an order, by the rules. Raises Refused, OSError."""
     with tempfile.TemporaryDirectory(prefix="wire_up-run-") as folder:
         path = os.path.join(folder, "order")
-        with open(path, "w", encoding="utf-8") as it:
-            it.write(order)
+        write_file(path, order)
         said = hold_answered(checker.ask("follow", path, plan=plan), SETTLED)
     return Expected(read_report(said), read_order(order))
 

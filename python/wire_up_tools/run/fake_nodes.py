@@ -3,6 +3,7 @@
 A run has a network, a table of processes and a host name of its own: nothing that it starts can be
 reached from outside, and all of it ends with the first of its processes.
 """
+import contextlib
 import os
 import re
 import shutil
@@ -10,6 +11,7 @@ from collections.abc import Iterable
 from typing import Optional
 
 from wire_up_tools.failures import Refused
+from wire_up_tools.files import write_file
 
 HEAD = "wire-up-head"
 NEEDED = {"unshare": "util-linux", "ip": "iproute2", "hostname": "hostname"}
@@ -42,8 +44,7 @@ def hold_possible() -> None:
 def write_agent(folder: str) -> str:
     """Writes the remote shell into a folder, and answers its path. Raises OSError."""
     path = os.path.join(folder, "agent")
-    with open(path, "w", encoding="ascii") as it:
-        it.write(AGENT)
+    write_file(path, AGENT)
     os.chmod(path, 0o700)
     return path
 
@@ -59,10 +60,17 @@ def write_names(folder: str, hosts: Iterable[str]) -> str:
     path = os.path.join(folder, "names")
     # Addresses that are kept for documents.
     others = enumerate(it for it in dict.fromkeys(hosts) if it != HEAD)
-    with open(path, "w", encoding="ascii") as it:
-        it.write(f"127.0.0.1 {LOCAL} {HEAD}\n")
-        it.writelines(f"198.51.100.{at % 254 + 1} {host}\n" for at, host in others)
+    lines = [f"198.51.100.{at % 254 + 1} {host}\n" for at, host in others]
+    write_file(path, "".join([f"127.0.0.1 {LOCAL} {HEAD}\n", *lines]))
     return path
+
+
+def find_children(process: int) -> list[int]:
+    """The processes that a process has started; none where the kernel doesn't tell them."""
+    with contextlib.suppress(OSError):
+        with open(f"/proc/{process}/task/{process}/children", encoding="ascii") as it:
+            return [int(child) for child in it.read().split()]
+    return []
 
 
 def write_start(names: Optional[str]) -> list[str]:

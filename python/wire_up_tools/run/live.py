@@ -12,6 +12,7 @@ from dataclasses import dataclass, field
 from typing import Optional
 
 from wire_up_tools.failures import Refused
+from wire_up_tools.files import write_file
 from wire_up_tools.plan import Plan, Rank
 from wire_up_tools.run import fake_nodes
 from wire_up_tools.run.channels import Channel, Hall, Heard, open_hall
@@ -37,6 +38,10 @@ from wire_up_tools.run.turns import Turns, read_steps
 
 # How often what is waited for is looked at, and how long a launcher may take to end, in seconds.
 TICK, PATIENCE = 0.02, 5.0
+# How long after a rank its launcher ends that took it along: one whose rank died needs longer.
+SOON = 1.0
+# What a rank says at its end whose server isn't there any more.
+LOST = ("ended PMIX_ERR_UNREACH", "ended PMIX_ERR_LOST_CONNECTION", "ended PMIX_ERR_COMM_FAILURE")
 # The job of the process that starts the jobs of a plan.
 STARTER = "start"
 LINE_LENGTH = 200
@@ -105,18 +110,29 @@ class Run:
             raise Stopped
         heard = list(self.hall.hear(TICK))
         if not heard and self.process.poll() is not None:
-            raise Refused(self.explain_end())
+            raise Refused(f"{self.tell_end()} before the ranks did{self.quote()}")
         return heard
 
-    def explain_end(self) -> str:
-        """Why there are no ranks any more: how the launcher ended, and what it said first."""
+    def tell_end(self) -> str:
+        """How the launcher ended."""
         status = self.process.returncode
         how = f"with status {status}" if status >= 0 else f"by signal {-status}"
+        return f"{self.setting.launcher.name} ended {how}"
+
+    def quote(self) -> str:
+        """The first line that the launcher said, as the end of a message; nothing if it said
+        none."""
         list(self.hall.hear(TICK))
         lines = self.hall.said.decode("utf-8", "replace").split("\n")
         said = [it.strip() for it in lines if it.strip(" -=*\t\r")]
-        first = f": {said[0][:LINE_LENGTH]}" if said else ""
-        return f"{self.setting.launcher.name} ended {how} before the ranks did{first}"
+        return f": {said[0][:LINE_LENGTH]}" if said else ""
+
+    def refuse_loss(self, lost: str) -> Refused:
+        """What is raised where a process or its server is lost: its launcher took it along, or
+        it ended alone."""
+        if ends_within(self.process, SOON):
+            return Refused(f"{lost}: {self.tell_end()}{self.quote()}")
+        return Refused(f"{lost}: the library or a signal ended it")
 
     def gather(self) -> None:
         """Waits until all ranks are there. Raises Refused, Stopped."""
@@ -126,13 +142,15 @@ class Run:
                 self.meet(it)
             if time.monotonic() > until:
                 count = f"{len(self.ranks)} of {len(self.plan.ranks)} ranks"
-                raise Refused(f"only {count} came up in {self.setting.start:g} seconds")
+                within = f"in {self.setting.start:g} seconds"
+                raise Refused(f"only {count} came up {within}{self.quote()}")
 
     def meet(self, heard: Heard) -> None:
         """Takes what a process says before its script begins. Raises Refused."""
         if heard.line is None:
             if heard.channel in self.names:
-                raise Refused(f"{self.names[heard.channel]} ended before its script began")
+                name = self.names[heard.channel]
+                raise self.refuse_loss(f"{name} ended before the script of each rank began")
             return
         words = heard.line.split(" ", 6)
         if words[0] == "started" and heard.channel in self.names:
@@ -212,7 +230,7 @@ class Run:
             return
         if name not in self.ranks:
             if heard.line is None:
-                raise Refused(f"{name} ended before the ranks did")
+                raise self.refuse_loss(f"{name} ended before the ranks did")
             return
         live = self.ranks[name]
         if heard.line is not None:
@@ -220,7 +238,7 @@ class Run:
             return
         call = find_standing(live, self.plan.calls_of[name])
         at = f" at its call {call.number} {call.verb}" if call else ""
-        raise Refused(f"{name} ended{at} before the run did: the library or a signal ended it")
+        raise self.refuse_loss(f"{name} ended{at} before the run did")
 
     def run(self) -> Outcome:
         """Runs the plan to its end. Raises Refused, Stopped, OSError."""
@@ -229,10 +247,27 @@ class Run:
         self.begin()
         self.follow()
         report = make_report(self.plan, self.ranks, node_of, self.task.is_held)
-        for channel, name in self.names.items():
-            if name not in self.ranks or self.ranks[name].is_done:
-                channel.send("end")
+        self.dismiss()
         return Outcome(report, self.library, self.turns.late if self.turns else ())
+
+    def dismiss(self) -> None:
+        """Lets the ranks end that are done, and hears that each still has its server: else its last
+        replies may come of that. Raises Refused."""
+        left = {it.channel: name for name, it in self.ranks.items() if it.is_done}
+        for it in left:
+            it.send("end")
+        until = time.monotonic() + SOON
+        while left and time.monotonic() < until:
+            for heard in self.hall.hear(TICK):
+                self.hold_served(left.pop(heard.channel, ""), heard.line)
+
+    def hold_served(self, name: str, line: Optional[str]) -> None:
+        """Takes what a rank says at its end; without a name it is of another process. Raises
+        Refused if it has no server any more, or is gone."""
+        if name and line is None:
+            raise self.refuse_loss(f"{name} ended before the run did")
+        if name and line in LOST:
+            raise self.refuse_loss(f"{name} lost its PMIx server before the run ended")
 
 
 def choose_hosts(
@@ -248,14 +283,27 @@ def choose_hosts(
 
 
 def end_process(process: "subprocess.Popen[bytes]", is_fake: bool) -> None:
-    """Ends a launcher with all that it started. Among fake nodes all ends with the first process;
-    elsewhere the launcher is given time to take its daemons down."""
-    if not is_fake and not ends_within(process, PATIENCE):
+    """Ends a launcher with all that it started. Among fake nodes all ends with the first process of
+    their table, and that ends last; elsewhere the launcher is given time to take its daemons
+    down."""
+    if is_fake:
+        end_fake_nodes(process)
+    elif not ends_within(process, PATIENCE):
         process.terminate()
         ends_within(process, PATIENCE)
     with contextlib.suppress(ProcessLookupError):
         os.killpg(process.pid, signal.SIGKILL)
     process.wait()
+
+
+def end_fake_nodes(process: "subprocess.Popen[bytes]") -> None:
+    """Ends the first process of those among fake nodes, which `unshare` waits for."""
+    children = fake_nodes.find_children(process.pid)
+    for child in children:
+        with contextlib.suppress(ProcessLookupError):
+            os.kill(child, signal.SIGKILL)
+    if children:
+        ends_within(process, PATIENCE)
 
 
 def ends_within(process: "subprocess.Popen[bytes]", seconds: float) -> bool:
@@ -300,8 +348,7 @@ def make_start(task: Task, setting: Setting, folder: str, hall: Hall) -> Start:
 def start_process(task: Task, setting: Setting, folder: str, hall: Hall) -> Run:
     """Starts a run. Raises Refused, OSError."""
     start, launcher = make_start(task, setting, folder, hall), setting.launcher
-    with open(start.host_file, "w", encoding="utf-8") as it:
-        it.write(write_hosts(launcher, start))
+    write_file(start.host_file, write_hosts(launcher, start))
     before: list[str] = []
     if start.agent:
         table = fake_nodes.write_names(folder, start.hosts)

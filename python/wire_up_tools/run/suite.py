@@ -106,8 +106,7 @@ def choose_plans(names: Sequence[str]) -> list[SuitePlan]:
 
 @dataclass(frozen=True)
 class Suite:
-    """How the suite is run: how often each plan, and how many plans at a time. `library` is what is
-    known of the library, if anything is."""
+    """How the suite is run: how often each plan, and how many plans at a time."""
 
     checker: Checker
     setting: Setting
@@ -139,8 +138,8 @@ class Suite:
         return Verdict(plan, kind, seen, is_known=is_known)
 
     def judge_first(self, plans: Sequence[SuitePlan]) -> Verdict:
-        """Runs the first plan that has ranks to run. Raises Refused if it can't be run, since the
-        others can't be either."""
+        """Runs the first plan. Raises Refused if it can't be run, since the others can't be
+        either."""
         found = self.judge(plans[0])
         if found.kind is Kind.FAILED:
             raise Refused(found.why)

@@ -9,7 +9,7 @@ from typing import Optional, Union
 
 from wire_up_tools.checker import Checker, find_checker
 from wire_up_tools.failures import Refused
-from wire_up_tools.files import STANDARD_OUTPUT, write_whole
+from wire_up_tools.files import STANDARD_OUTPUT, write_each, write_whole
 from wire_up_tools.plan import Plan, read_plan
 from wire_up_tools.run import answers, fake_nodes
 from wire_up_tools.run.expected import Expected, ask_witness, expect, expect_in_order
@@ -182,11 +182,12 @@ def run_freely(asked: PlanRequest, choices: Choices, folder: str) -> int:
     outcomes: list[Outcome] = [run_plan(task, setting) for _ in range(asked.times)]
     seen = answers.count_runs(expected, outcomes)
     runs = answers.Runs(expected, seen, setting.launcher.version, setting.quiet)
+    write = answers.write_json if choices.is_json else answers.write_text
+    texts = [(STANDARD_OUTPUT, write(runs))]
     if choices.junit:
         name = os.path.basename(asked.plan)
-        write_whole(choices.junit, answers.write_junit(name, answers.list_cases(name, runs)))
-    text = answers.write_json(runs) if choices.is_json else answers.write_text(runs)
-    write_whole(STANDARD_OUTPUT, text)
+        texts.append((choices.junit, answers.write_junit(name, answers.list_cases(name, runs))))
+    write_each(texts)
     return DIFFERENT if runs.differs else SAME
 
 
@@ -218,23 +219,39 @@ def run_suite(asked: SuiteRequest, choices: Choices, folder: str) -> int:
     plans, checker = choose_plans(asked.names), choose_checker(choices, folder)
     setting = make_setting(choices, folder)
     verdicts = Suite(checker, setting, asked.times, asked.at_a_time).run(plans)
-    version, launcher = next(it.library for it in verdicts if it.library), setting.launcher
+    version = next((it.library for it in verdicts if it.library), "")
+    launcher = setting.launcher
     known = find_library(version, launcher.kind)
     result = SuiteResult(verdicts, launcher.version, asked.times, setting.quiet, known)
-    if choices.junit:
-        write_whole(choices.junit, answers.write_junit("suite", list_suite_cases(result)))
-    if asked.table:
-        day = datetime.date.today().isoformat()
-        head = {"library": known.name if known else "unknown", "version": version}
-        head.update(host=launcher.version, date=day)
-        write_whole(asked.table, write_table(head, verdicts))
-    write = write_suite_json if choices.is_json else write_suite
-    write_whole(STANDARD_OUTPUT, write(result))
+    write_each(list_texts(result, asked, choices))
     if all(it.kind is Kind.EQUAL for it in verdicts):
         return SAME
     if any(it.kind in (Kind.DIFFERENT, Kind.UNSTEADY) for it in verdicts):
         return DIFFERENT
     raise Refused("a plan couldn't be run, and no other differs")
+
+
+def list_texts(
+    result: SuiteResult, asked: SuiteRequest, choices: Choices
+) -> list[tuple[str, str]]:
+    """What is written of the suite, each with where it goes."""
+    write = write_suite_json if choices.is_json else write_suite
+    texts = [(STANDARD_OUTPUT, write(result))]
+    if choices.junit:
+        texts.append((choices.junit, answers.write_junit("suite", list_suite_cases(result))))
+    if asked.table:
+        texts.append((asked.table, write_table(make_head(result), result.verdicts)))
+    return texts
+
+
+def make_head(result: SuiteResult) -> dict[str, str]:
+    """The head of a table."""
+    return {
+        "library": result.known.name if result.known else "unknown",
+        "version": result.library,
+        "host": result.launcher,
+        "date": datetime.date.today().isoformat(),
+    }
 
 
 def show_plan(asked: ShowRequest) -> int:

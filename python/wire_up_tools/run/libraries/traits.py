@@ -126,7 +126,7 @@ OPENPMIX_5 = Traits(
 )
 OPENPMIX_7 = Traits(
     rules=COMMON | {Rule.KEPT_BY_CALLER, Rule.MIXED_COLLECT},
-    invalid="PMIX_STATUS(-33,INVALID_ARG)",
+    invalid="PMIX_STATUS(-33,PMIX_ERR_INVALID_ARG)",
     drops_repeats=True,
     is_across_jobs=False,
     unpublishes_of_others=True,
