@@ -186,11 +186,13 @@ class CasesTest(LiveTest):
         words = ["--checker", self.program or "/dev/null", "--answers", self.answers]
         ran = self.record(*words, *mpirun(of.processes, self.compile(compiled), name))
         self.assertEqual((ran.returncode, ran.stdout), (0, f"{name} done\n"), ran.stderr[:300])
-        said = "" if name == "poll" and not self.program else of.said
+        said = of.said or (of.says_both if self.program else "")
         self.assertIn(said, ran.stderr)
         self.assertTrue(said or not ran.stderr, ran.stderr[:300])
         if self.program:
-            wrong = why_wrong(self.program, self.plan, self.answers, of.findings)
+            wrong = why_wrong(
+                self.program, self.plan, self.answers, of.findings, of.is_replayed
+            )
             self.assertIsNone(wrong)
 
     def test_cases(self) -> None:

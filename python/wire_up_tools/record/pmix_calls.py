@@ -243,6 +243,21 @@ class ProcessLines:
                 self.published = [it for it in self.published if it != key]
 
 
+def note_unpublished(part: Part, notes: Notes) -> None:
+    """Notes the names that were found, and that no recorded process published."""
+    published: set[str] = set()
+    found: list[str] = []
+    for line in part.lines:
+        verb, *rest = line.words.split(" ")
+        if verb == "publish":
+            published.add(rest[0])
+        elif verb.startswith("lookup") and line.value:
+            found.append(rest[0])
+    notes.more_ordered[
+        "lookups of names that no recorded process published: whoever did isn't in the plan"
+    ] += sum(it not in published for it in found)
+
+
 @dataclass(frozen=True)
 class PmixLines:
     """The lines of calls, and what is noted of them."""
@@ -262,7 +277,7 @@ def make_lines(processes: Processes, spelling: Spelling, with_mpi: bool) -> Pmix
         lines = ProcessLines(process, processes, spelling, puts, part, notes)
         for call in of_pmix:
             lines.take(call)
-            note_directives(call.action, notes)
+            note_directives(call, notes)
         with_lines = {it.call for it in part.lines[first:]}
         noted = recording.calls if with_mpi else of_pmix
         in_plan = [
@@ -272,4 +287,5 @@ def make_lines(processes: Processes, spelling: Spelling, with_mpi: bool) -> Pmix
         ]
         note_overlaps(in_plan, notes)
         note_unawaited(in_plan, notes)
+    note_unpublished(part, notes)
     return PmixLines(part, notes)
