@@ -219,8 +219,8 @@ class CallsTest(unittest.TestCase):
         })
 
     def test_what_may_go_otherwise(self) -> None:
-        """A verdict holds only in part, if a call can give up soon, a name goes away by itself, or
-        whoever published one isn't there."""
+        """A verdict holds only in part, if a call can give up soon, or if whoever published a name
+        isn't there."""
         time, published = "pmix.timeout=number:4", "publish blocks n=text:v"
         looked = f"lookup blocks :n {WAITS},{time}"
         cases = {
@@ -231,9 +231,6 @@ class CallsTest(unittest.TestCase):
             (f"{looked}:5", "-24 -"): "",
             (f"{looked}:600", "0 n=text:v"): "",
             (f"lookup blocks :n {time}:5", "0 n=text:v"): "",
-            (f"{published} pmix.persist=number:1:1", "0"): "1 names that go away by themselves",
-            (f"{published} pmix.persist=number:1:4", "0"): "",
-            (f"{published} pmix.persist=type:30", "0"): "",
             ("lookup blocks :m -", "0 m=text:v"): "1 lookups of names that no recorded process",
             ("lookup blocks :m -", "-46 -"): "",
         }
@@ -243,6 +240,16 @@ class CallsTest(unittest.TestCase):
                 plan = write_plan_of([tape])
                 self.assertEqual(MORE_ORDERED in plan, bool(said))
                 self.assertIn(said, plan)
+
+    def test_a_name_that_goes_away(self) -> None:
+        """At its first read, if another may look it up, or with its process."""
+        for how, count, is_said in ((1, 1, False), (1, 2, True), (2, 0, True), (4, 2, False)):
+            with self.subTest(how, lookups=count):
+                tape = Tape(0).call(f"publish blocks n=text:v pmix.persist=number:1:{how}")
+                for _ in range(count):
+                    tape.call("lookup blocks :n -", "0 n=text:v")
+                plan = write_plan_of([tape])
+                self.assertEqual("1 names that go away by themselves" in plan, is_said)
 
     def test_unpublishes(self) -> None:
         everything = [("publish blocks n=text:v -", "0"), ("unpublish blocks every -", "0")]

@@ -91,8 +91,13 @@ static void keep(MPI_Request request, struct request what)
 
 bool is_open(MPI_Request request)
 {
-    struct request it = find_request(request);
-    return it.number != 0 || (it.handle && it.kind == DUPLICATE);
+    if (request == mpi.no_request)
+        return false;
+    pthread_mutex_lock(&table);
+    const struct request *it = *find_slot(request);
+    bool is_known = it && (it->number != 0 || it->kind == DUPLICATE);
+    pthread_mutex_unlock(&table);
+    return is_known;
 }
 
 /* --- what is kept --- */

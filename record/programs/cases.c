@@ -3,7 +3,7 @@
  *   wild1, wild2      a receive from any source, of which 1 or 2 is the slower sender: a race, whoever sleeps
  *   poll              a poll that succeeds, for luck: a race that only --strict shows
  *   cancelled         a receive that is cancelled too late: the same
- *   header, answer    a receive from whom a message came before, or a send to him: a race if another's message comes first, as above
+ *   header, answer    a receive from whom a message came, or a send there: the same, since another's may come first
  *   probe, matched, later, split, window, duplicate, epoch, inter, merged, jump
  *                     no race: ordered by a probe, a matched probe, a collective that doesn't block, a communicator or a window that is made,
  *                     an epoch of a window, a message after a jump out of MPI; tags: a tag for each message, received from any source

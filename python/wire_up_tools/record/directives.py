@@ -53,11 +53,13 @@ def gives_up(action: Action) -> bool:
     return 0 < (find_number(action.directives, TIMEOUT) or 0) < LONG
 
 
-def goes_away(action: Action) -> bool:
-    """Whether a name that is published goes away by itself while others may look it up."""
+def goes_away(action: Action, lookups: int) -> bool:
+    """Whether a name that is published, and looked up so often, goes away by itself while others
+    may look it up."""
     if not isinstance(action, Publish):
         return False
-    return find_number(action.directives, PERSISTENCE) in (FIRST_READ, OF_PROCESS)
+    how = find_number(action.directives, PERSISTENCE)
+    return how == OF_PROCESS or (how == FIRST_READ and lookups > 1)
 
 
 def find_ending(action: Action) -> Ending:

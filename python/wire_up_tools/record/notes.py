@@ -13,13 +13,7 @@ from wire_up_tools.record.calls import (
     Publish,
     Unpublish,
 )
-from wire_up_tools.record.directives import (
-    KNOWN,
-    find_ending,
-    gives_up,
-    goes_away,
-    stands_early,
-)
+from wire_up_tools.record.directives import KNOWN, find_ending, gives_up, stands_early
 from wire_up_tools.record.recordings import Recording
 from wire_up_tools.words import show
 
@@ -67,9 +61,6 @@ def note_directives(call: Call, notes: Notes) -> None:
     notes.more_ordered[
         "waits for less than a minute at most (pmix.timeout): in the plan they wait for an answer"
     ] += not call.has_failed and gives_up(action)
-    notes.more_ordered[
-        "names that go away by themselves (pmix.persist): in the plan they stay"
-    ] += not call.has_failed and goes_away(action)
     if isinstance(action, (Fence, Get, Publish, Lookup, Unpublish)):
         for it in action.directives:
             if it.key not in KNOWN:
