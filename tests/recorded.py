@@ -68,9 +68,6 @@ CASES = {
     "wild1": Program(3, 1, 2),
     "wild2": Program(3, 1, 2),
     "poll": Program(2, 0, 1, luck=1),
-    "cancelled": Program(2, 0, 1, luck=1),
-    "header": Program(3, 0, 1, luck=2),
-    "answer": Program(3, 0, 1, luck=2),
     "probe": Program(2, 0, 1),
     "matched": Program(2, 0, 1),
     "later": Program(2, 0, 1),
@@ -123,11 +120,17 @@ OTHER_WAYS = {
 DIRECT = {
     "partial": Program(2, 0, 1),
     "unwaited": Program(2, 0, 1, IN_PART, f"{IN_PART}{UNAWAITED}"),
-    "once": Program(2, 0, 1, IN_PART, f"{IN_PART}{GOES_AWAY}", is_replayed=False),
-    "brief": Program(2, 0, 0, IN_PART, f"{IN_PART}{SHORT_WAIT}"),
     "last": Program(2, 1, 1, IN_PART, f"{IN_PART}{UNAWAITED_LAST}"),
 }
-SHIPPED = {**CASES, **DIRECT, **OTHERS, **OTHER_WAYS}
+# Those of `luck`.
+LUCK = {
+    "cancelled": Program(2, 0, 1, luck=1),
+    "header": Program(3, 0, 1, luck=2),
+    "answer": Program(3, 0, 1, luck=2),
+    "once": Program(2, 0, 1, IN_PART, f"{IN_PART}{GOES_AWAY}", is_replayed=False),
+    "brief": Program(2, 0, 0, IN_PART, f"{IN_PART}{SHORT_WAIT}"),
+}
+SHIPPED = {**CASES, **DIRECT, **LUCK, **OTHERS, **OTHER_WAYS}
 
 
 def why_other_findings(program: str, plan: str, count: int) -> Optional[str]:

@@ -21,6 +21,7 @@ from recorded import (
     CASES,
     DIRECT,
     IN_PART,
+    LUCK,
     OTHER_WAYS,
     OTHERS,
     Program,
@@ -179,7 +180,7 @@ class CallsTest(LiveTest):
 
 
 class CasesTest(LiveTest):
-    """The small programs of `cases` and `direct`."""
+    """The small programs of `cases`, `direct` and `luck`."""
 
     def hold(self, name: str, of: Program, compiled: str = "cases") -> None:
         """Tests one of them."""
@@ -199,6 +200,11 @@ class CasesTest(LiveTest):
         for name, of in CASES.items():
             with self.subTest(name):
                 self.hold(name, of)
+
+    def test_luck(self) -> None:
+        for name, of in LUCK.items():
+            with self.subTest(name):
+                self.hold(name, of, "luck")
 
     def test_direct(self) -> None:
         for name, of in DIRECT.items():

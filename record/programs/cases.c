@@ -2,8 +2,6 @@
  *
  *   wild1, wild2      a receive from any source, of which 1 or 2 is the slower sender: a race, whoever sleeps
  *   poll              a poll that succeeds, for luck: a race that only --strict shows
- *   cancelled         a receive that is cancelled too late: the same
- *   header, answer    a receive from whom a message came, or a send there: the same, since another's may come first
  *   probe, matched, later, split, window, duplicate, epoch, inter, merged, jump
  *                     no race: ordered by a probe, a matched probe, a collective that doesn't block, a communicator or a window that is made,
  *                     an epoch of a window, a message after a jump out of MPI; tags: a tag for each message, received from any source
@@ -64,61 +62,6 @@ static void poll(void)
         if (!is_there)
             MPI_Wait(&request, MPI_STATUS_IGNORE);
     }
-}
-
-static void cancelled(void)
-{
-    MPI_Request request;
-    int is_there = 0;
-    if (rank == 1) {
-        publish("port");
-        MPI_Send(&rank, 1, MPI_INT, 0, 0, MPI_COMM_WORLD);
-    }
-    if (rank == 0) {
-        MPI_Irecv(&x, 1, MPI_INT, 1, 0, MPI_COMM_WORLD, &request);
-        for (int n = 0; n < 300; n++, usleep(1000))
-            MPI_Iprobe(1, 1, MPI_COMM_WORLD, &is_there, MPI_STATUS_IGNORE);
-        MPI_Cancel(&request);
-        MPI_Wait(&request, MPI_STATUS_IGNORE);
-        look_up("port");
-    }
-}
-
-/* Process 1 is the slower one. */
-static void header(void)
-{
-    MPI_Status first;
-    for (int n = 0; rank == 0 && n < 2; n++) {
-        MPI_Recv(&x, 1, MPI_INT, MPI_ANY_SOURCE, 1, MPI_COMM_WORLD, &first);
-        MPI_Recv(&x, 1, MPI_INT, first.MPI_SOURCE, 2, MPI_COMM_WORLD, MPI_STATUS_IGNORE);
-        if (n == 0)
-            look_up("port");
-    }
-    if (rank == 1)
-        usleep(300000);
-    if (rank == 2)
-        publish("port");
-    for (int tag = 1; rank > 0 && tag <= 2; tag++)
-        MPI_Send(&x, 1, MPI_INT, 0, tag, MPI_COMM_WORLD);
-}
-
-static void answer(void)
-{
-    MPI_Status asked;
-    for (int n = 0; rank == 0 && n < 2; n++) {
-        MPI_Recv(&x, 1, MPI_INT, MPI_ANY_SOURCE, 0, MPI_COMM_WORLD, &asked);
-        if (n == 1)
-            publish("port");
-        MPI_Send(&x, 1, MPI_INT, asked.MPI_SOURCE, 1, MPI_COMM_WORLD);
-    }
-    if (rank == 1)
-        usleep(300000);
-    if (rank > 0) {
-        MPI_Send(&x, 1, MPI_INT, 0, 0, MPI_COMM_WORLD);
-        MPI_Recv(&x, 1, MPI_INT, 0, 1, MPI_COMM_WORLD, MPI_STATUS_IGNORE);
-    }
-    if (rank == 1)
-        look_up("port");
 }
 
 static void probe(int is_matched)
@@ -302,12 +245,6 @@ int main(int count, char **words)
         wild(which[4] - '0');
     else if (!strcmp(which, "poll"))
         poll();
-    else if (!strcmp(which, "cancelled"))
-        cancelled();
-    else if (!strcmp(which, "header"))
-        header();
-    else if (!strcmp(which, "answer"))
-        answer();
     else if (!strcmp(which, "probe") || !strcmp(which, "matched"))
         probe(*which == 'm');
     else if (!strcmp(which, "later"))

@@ -3,8 +3,6 @@
  *   unwaited   process 0 publishes a name by a call that doesn't block, sends a message, and waits for the call only then: a race that
  *              the plan doesn't have, and that its head tells of
  *   partial    process 1 looks up two names, of which one isn't there: no race
- *   once       processes 0 and 1 look up a name that goes away when it is read; brief: process 1 waits for a name for ten seconds at most:
- *              races that the plan doesn't have, and that its head tells of
  *   last       process 0 publishes the name in a callback that ends with that call, so that it seems to come from PMIx itself: a race
  *   past       process 0 takes the name away by a function of a library that is opened so that it finds PMIx before the recorder; the
  *              second word is its path: a race that the plan doesn't have, and that its head tells of
@@ -73,43 +71,6 @@ static void look_up(void)
     PMIx_Lookup(&found, 1, NULL, 0);
 }
 
-/* Publishes the name so that the first lookup takes it away. */
-static void publish_once(void)
-{
-    pmix_info_t info[2];
-    pmix_persistence_t how = PMIX_PERSIST_FIRST_READ;
-    PMIX_INFO_LOAD(&info[0], "port", "text", PMIX_STRING);
-    PMIX_INFO_LOAD(&info[1], PMIX_PERSISTENCE, &how, PMIX_PERSIST);
-    PMIx_Publish(info, 2);
-}
-
-static void once(void)
-{
-    if (rank == 0)
-        publish_once();
-    MPI_Barrier(MPI_COMM_WORLD);
-    if (rank == 0)
-        usleep(300000);
-    look_up();
-}
-
-static void brief(void)
-{
-    pmix_info_t info, waits[2];
-    pmix_pdata_t found;
-    int seconds = 10;
-    if (rank == 0) {
-        PMIX_INFO_LOAD(&info, "port", "text", PMIX_STRING);
-        PMIx_Publish(&info, 1);
-    } else {
-        PMIX_INFO_LOAD(&waits[0], PMIX_WAIT, NULL, PMIX_BOOL);
-        PMIX_INFO_LOAD(&waits[1], PMIX_TIMEOUT, &seconds, PMIX_INT);
-        PMIX_PDATA_CONSTRUCT(&found);
-        strncpy(found.key, "port", PMIX_MAX_KEYLEN);
-        PMIx_Lookup(&found, 1, waits, 2);
-    }
-}
-
 static pmix_info_t port;
 
 __attribute__((optimize("O2"))) static void publish_last(pmix_status_t status, void *data)
@@ -161,10 +122,6 @@ int main(int count, char **words)
         unwaited();
     else if (!strcmp(which, "partial"))
         partial();
-    else if (!strcmp(which, "once"))
-        once();
-    else if (!strcmp(which, "brief"))
-        brief();
     else if (!strcmp(which, "last"))
         last();
     else if (!strcmp(which, "past"))
