@@ -158,8 +158,20 @@ def limits() -> Iterator[Refusal]:
     yield Refusal(f"{HEAD}many w min 6 / {reads} / {turn}", "TooMany", 8)
     calls = " / ".join(["commit"] * 32_769)
     yield Refusal(f"{HEAD}one root / {calls}", "TooMany", 32_772)
-    thirds = " / ".join(["commit"] * 10_923)
-    yield Refusal(f"{GROUP}{thirds}", "TooMany", 10_926)
+    yield from limits_of_three()
+
+
+def limits_of_three() -> Iterator[Refusal]:
+    """Patterns that pass a limit with three ranks alone."""
+    thirds = [" / ".join(["commit"] * count) for count in (10_921, 10_922, 10_923)]
+    yield Refusal(f"{GROUP}{thirds[2]}", "TooMany", 10_926)
+    yield Refusal(f"{GROUP}publish x v / {thirds[1]}", "TooMany", 10_926)
+    ring = "for w cyclic / fence self,each / end"
+    yield Refusal(f"{GROUP}{thirds[0]} / {ring}", "TooMany", 10_926)
+    job = f"pattern 1 / job {'j' * 63} / many w"
+    yield Refusal(f"{job} / publish x[self] v / publish y v", "TooLong", 4)
+    yield Refusal(f"{GROUP}put global {'b' * 60}[self] v / publish x v", "TooLong", 4)
+    yield Refusal(f"{GROUP}publish {'b' * 60}[self] v / publish x v", "TooLong", 4)
 
 
 def refusals() -> Iterator[Refusal]:
@@ -189,3 +201,5 @@ def taken() -> Iterator[str]:
     yield HEAD + " / ".join(f"one r{it}" for it in range(64))
     turn = "for some w / put local k[each] v / end"
     yield f"{GROUP}{turn} / {turn} / for some w / lookup x[each] / end"
+    # The fewest ranks with a finding, which aren't the first in the order of sizes.
+    yield f"{HEAD}many a / put global k v / put global k w / many b / publish x v"

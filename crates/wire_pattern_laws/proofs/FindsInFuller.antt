@@ -163,21 +163,18 @@ line_there pattern coding cast fuller more get role n of = record {
 }
 
 pub reads_find : ReadsFind
-reads_find pattern coding cast fuller more settled marks get role n owner key of is l found finds =
+reads_find pattern coding cast fuller more settled get role n owner key of is l found finds =
     let small = instance_of pattern coding cast in
     let large = instance_of pattern coding fuller in
     let ps = pieces pattern coding cast fuller more in
     let a = adds pattern coding cast fuller more in
-    let there = image (in_place ps) get in
     let live_there = live_into small large ps a get l in
-    let kind_there = kind_into small large ps a get (GetNow owner key) is in
-    let w = (finds_are_said large there owner key settled kind_there).something marks live_there in
-    let less = finds_less small large ps a get owner key is live_there w.0 w.1 in
-    let same = (finds_are_said small get owner key (reads_whole pattern coding cast fuller more settled) is).one l w.0 found less finds in
     record {
-      get = there;
+      get = image (in_place ps) get;
       of_line = line_there pattern coding cast fuller more get role n of;
-      is = kind_there;
+      is = kind_into small large ps a get (GetNow owner key) is;
       is_live = live_there;
-      finds = subst (λ f. Finds large there owner key f) same w.1;
+      finds = λ other f.
+          (finds_are_said small get owner key (reads_whole pattern coding cast fuller more settled) is).one l other found
+          (finds_less small large ps a get owner key is live_there other f) finds;
     }

@@ -146,11 +146,13 @@ module _ (pattern : Pattern) (coding : Coding) (bound : ℕ) (least most : ℕ �
         shrinks size (restricted w.0 cast) (omega (arith, shorter, le)) w.2)
   ]
 
-pub statuses_of_small : StatusesOfSmall
-statuses_of_small pattern coding bound least most lawful allow small cast cast_is in_order has_least s r get role n owner key of_line is a said =
-    let settled = ordered_suffice pattern coding bound least most lawful allow small cast cast_is in_order has_least in
-    let f = answer_finds (instance_of pattern coding cast) settled s r get owner key is a said in
-    shrinks pattern coding bound least most lawful allow small role n (status_of a) (length cast.roles) cast (omega arith) (record {
+-- what a live get-now finds in an instance of any size, one of its line finds in a small one
+pub finds_of_small : (pattern : Pattern) (coding : Coding) (bound : ℕ) (least most : ℕ → ℕ) → IsLawful pattern → AllowThree bound least most → SmallOnesAreSettled pattern coding bound least most
+    → (cast : Cast) → IsCastOf pattern cast → IsInOrder bound cast → HasLeast bound least cast → (get : Event) (role n owner key : ℕ) → IsOfLine pattern cast get role n
+    → kind (instance_of pattern coding cast) get ≡ Some (GetNow owner key) → Live (instance_of pattern coding cast) get → (found : Status)
+    → Finds (instance_of pattern coding cast) get owner key found → HasSmall pattern coding bound least most role n found
+finds_of_small pattern coding bound least most lawful allow small cast cast_is in_order has_least get role n owner key of_line is l found finds =
+    shrinks pattern coding bound least most lawful allow small role n found (length cast.roles) cast (omega arith) (record {
       cast_is = cast_is;
       in_order = in_order;
       has_least = has_least;
@@ -159,6 +161,12 @@ statuses_of_small pattern coding bound least most lawful allow small cast cast_i
       owner = owner;
       key = key;
       is = is;
-      is_live = f.0;
-      finds = f.1;
+      is_live = l;
+      finds = finds;
     })
+
+pub statuses_of_small : StatusesOfSmall
+statuses_of_small pattern coding bound least most lawful allow small cast cast_is in_order has_least s r get role n owner key of_line is a said =
+    let settled = ordered_suffice pattern coding bound least most lawful allow small cast cast_is in_order has_least in
+    let f = answer_finds (instance_of pattern coding cast) settled s r get owner key is a said in
+    finds_of_small pattern coding bound least most lawful allow small cast cast_is in_order has_least get role n owner key of_line is f.0 (status_of a) f.1

@@ -6,7 +6,6 @@ use Rattle.wire_runs.specs.State.{Answer, State}
 use Rattle.wire_runs.specs.Step.{IsReachable}
 use Rattle.wire_runs.specs.Order.{Live}
 use Rattle.wire_runs.specs.Races.{IsSettled}
-use Rattle.wire_runs.specs.Laws.{Marks}
 use Rattle.wire_runs.specs.Embeddings.{pair}
 use Rattle.wire_runs.specs.Patterns.{Pattern, Coding, Cast, instance_of, IsLawful, IsCastOf}
 use Rattle.wire_pattern_laws.specs.Ordered.{IsInOrder, HasLeast, HasMost, AllowThree, SmallOnesAreSettled}
@@ -45,18 +44,19 @@ StatusesOfSmall = (pattern : Pattern) (coding : Coding) (bound : ℕ) (least mos
     → (a : Answer) → slice_get (s.replies get.proc) get.at ≡ Some a
     → HasSmall pattern coding bound least most role n (status_of a)
 
--- what a get-now finds in an instance, one of its line finds where loops that only read take more turns
+-- what a get-now finds in an instance, one of its line finds, and nothing else, where loops that only read take more
+-- turns
 pub record FindsInFuller (pattern : Pattern) (coding : Coding) (fuller : Cast) (role n owner key : ℕ)
     (found : Status) : Type 0 where
   pub get : Event
   pub of_line : IsOfLine pattern fuller get role n
   pub is : kind (instance_of pattern coding fuller) get ≡ Some (GetNow owner key)
   pub is_live : Live (instance_of pattern coding fuller) get
-  pub finds : Finds (instance_of pattern coding fuller) get owner key found
+  pub finds : (other : Status) → Finds (instance_of pattern coding fuller) get owner key other → other ≡ found
 
 abbrev pub ReadsFind : Type 0
 ReadsFind = (pattern : Pattern) (coding : Coding) (cast fuller : Cast) → IsFuller pattern cast fuller
-    → IsSettled (instance_of pattern coding fuller) → Marks (instance_of pattern coding fuller)
+    → IsSettled (instance_of pattern coding fuller)
     → (get : Event) (role n owner key : ℕ) → IsOfLine pattern cast get role n
     → kind (instance_of pattern coding cast) get ≡ Some (GetNow owner key) → Live (instance_of pattern coding cast) get
     → (found : Status) → Finds (instance_of pattern coding cast) get owner key found

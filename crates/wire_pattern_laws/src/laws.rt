@@ -66,7 +66,7 @@ pub fn statuses_of_small()
     ensures { StatusesOfSmall }
 {}
 
-/// What a get-now finds, one of its line finds where loops that only read take more turns.
+/// What a get-now finds, one of its line finds, and nothing else, where loops that only read take more turns.
 pub fn reads_find()
     ensures { ReadsFind }
 {}

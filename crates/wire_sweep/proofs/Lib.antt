@@ -1,7 +1,7 @@
 mod Numbers
 mod Callers
 mod Judgement
-mod Members
+pub mod Members
 pub mod Listed
 mod Items
 pub mod Selected

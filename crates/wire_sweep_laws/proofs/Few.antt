@@ -27,7 +27,7 @@ use Rattle.wire_sweep_laws.specs.Promised.{AreFewSettled, IsAnyCast, IsSettledFo
 use Rattle.wire_sweep_laws.proofs.Turns.{turn, taken_or, may_be_left}
 
 -- the sizes of these roles, of which the first is number k
-sizes_by : (ℕ → ℕ) → ℕ → List Role → List ℕ
+unfoldable pub sizes_by : (ℕ → ℕ) → ℕ → List Role → List ℕ
 sizes_by size k [] = []
 sizes_by size k (role ∷ roles) = size k ∷ sizes_by size (suc k) roles
 
@@ -137,17 +137,17 @@ loop_of roles (Loop number group turns own_lines) over lines e = record {
 abbrev pub most_at : ℕ → ℕ
 most_at least = if nat_lt least 3 then 3 else least
 
-three : (least : ℕ) → (3 ≤ most_at least) × (least ≤ most_at least)
+pub three : (least : ℕ) → (3 ≤ most_at least) × (least ≤ most_at least)
 three least = elim (cases_lt least 3) [
   | inl lt ↦ (let e = cond-true (nat_lt least 3) 3 least (lt-ltb least 3 lt) in (omega (arith, e), omega (arith, e, lt)))
   | inr ge ↦ (let e = cond-false (nat_lt least 3) 3 least (le-ltb least 3 ge) in (omega (arith, e, ge), omega (arith, e, ge)))
 ]
 
 module _ (p : Pattern) (sound : IsSound p) (few : AreFewSettled p) (coding : Coding) (cast : Cast) (any : IsAnyCast p cast) (most : HasMost (length p.roles) (λ role. most_at (least_of p role)) cast) where
-  abbrev size : ℕ → ℕ
+  abbrev pub size : ℕ → ℕ
   size role = length (group role cast.roles)
 
-  abbrev sizes : List ℕ
+  abbrev pub sizes : List ℕ
   sizes = sizes_by size 0 p.roles
 
   are_roles : roles_from 0 sizes ≡ cast.roles
@@ -177,19 +177,19 @@ module _ (p : Pattern) (sound : IsSound p) (few : AreFewSettled p) (coding : Cod
           let h = most i there in let a = ap most_at least_is in
           let b = cond-false role.single 1 (if nat_lt role.least 3 then 3 else role.least) n in omega (arith, h, a, b)
 
-  fit : AreFewSizes p.roles sizes
+  pub fit : AreFewSizes p.roles sizes
   fit = are_sizes size 0 p.roles (λ i role is. subst (λ m. Bounded role (size m)) (none i) (bounded i role is))
     where
       none : (i : ℕ) → i ≡ 0 + i
       none i = omega arith
 
-  abbrev open_turns : List Turn
+  abbrev pub open_turns : List Turn
   open_turns = optional_turns p sizes
 
-  abbrev taken : Turn → Bool
+  abbrev pub taken : Turn → Bool
   taken t = cast.chosen t.caller t.step t.each
 
-  abbrev fuller : Cast
+  abbrev pub fuller : Cast
   fuller = cast_on sizes (chosen_by open_turns (map taken open_turns)) cast.nodes
 
   -- what the fuller cast takes of a loop
@@ -208,7 +208,7 @@ module _ (p : Pattern) (sound : IsSound p) (few : AreFewSettled p) (coding : Cod
     ]
   ]
 
-  is_fuller : IsFuller (pattern_of p) cast fuller
+  pub is_fuller : IsFuller (pattern_of p) cast fuller
   unfolding Takes
   is_fuller = record {
     roles = are_roles;

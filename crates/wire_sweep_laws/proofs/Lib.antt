@@ -1,2 +1,2 @@
 mod Turns
-mod Few
+pub mod Few

@@ -1,0 +1,7 @@
+mod Fences
+mod Spread
+mod SameNodes
+mod Calls
+mod Large
+mod Small
+mod AnySize

@@ -1,0 +1,284 @@
+-- What a get-now finds in a small instance, one of its line is answered in an instance that is judged.
+use Rattle.std.proofs.Common.{◌≡◌, ◌∙◌, ap, sym, subst, refl, ℕ, pred, ◌<◌, ◌≤◌, ◌^◌, List, Bool, true, length, map, Some, arith}
+use Rattle.std.specs.Prelude.{slice_get, Ok}
+use Rattle.std.proofs.lemmas.List.{length-map}
+use Rattle.std.proofs.lemmas.Option.{slice_get_within}
+use Rattle.wire_types.specs.declared.CallEnd.{CallEnd}
+use Rattle.wire_types.specs.declared.CallEnd.TheVariants.{Replied}
+use Rattle.wire_types.specs.declared.Reply.{Reply}
+use Rattle.wire_types.specs.declared.Status.{Status}
+use Rattle.wire_runs.specs.Plan.{Plan, GetNow, kind, process_count, node_of}
+use Rattle.wire_runs.specs.State.{Answer, IsDone}
+use Rattle.wire_runs.specs.Step.{run}
+use Rattle.wire_runs.specs.PlainRun.{plain_run}
+use Rattle.wire_runs.specs.Ends.{row, calls_of}
+use Rattle.wire_runs.specs.Races.{IsSettled}
+use Rattle.wire_runs.specs.Laws.{plain_end}
+use Rattle.wire_runs.specs.Placings.{IsPlacing, IsSettledAnywhere}
+use Rattle.wire_runs.specs.PlacingLaws.{plain_reply}
+use Rattle.wire_runs.specs.Patterns as plan
+use Rattle.wire_runs.specs.Patterns.{instance_of}
+use Rattle.wire_runs.specs.Restrictions.{on_nodes}
+use Rattle.wire_runs.proofs.Anywhere.{settled_there}
+use Rattle.wire_runs.proofs.Codings.{have_coding}
+use Rattle.wire_runs.proofs.Ends.{rows_are_whole}
+use Rattle.wire_runs.proofs.FindingsAnywhere.{placings_are}
+use Rattle.wire_runs.proofs.PlacingKeeps.{turned, kind_kept}
+use Rattle.wire_runs.proofs.PlacingReplies.{reflexive}
+use Rattle.wire_runs.proofs.PlacingRuns.{run_alike}
+use Rattle.wire_runs.proofs.PlainRun.{plain_runs}
+use Rattle.wire_runs.proofs.Renumbered.{embeds}
+use Rattle.wire_content.specs.Scripts.{Scripts, call_at}
+use Rattle.wire_content.specs.Planned.{planned_process, plan_of}
+use Rattle.wire_content.specs.Placed.{moved}
+use Rattle.wire_content.proofs.Moved.{moved_length, as_placing, node_moved}
+use Rattle.wire_content.proofs.PlannedCalls.{as_many_planned}
+use Rattle.wire_script.specs.declared.Size.TheVariants.{OfVersion}
+use Rattle.wire_script.specs.Reads.{Reads}
+use Rattle.wire_pattern.specs.Pattern.{Pattern}
+use Rattle.wire_pattern.specs.Planned.{pattern_of, least_of, steps_in}
+use Rattle.wire_pattern.specs.Instances as text
+use Rattle.wire_pattern.specs.Instances.{Cast, IsCast, cast_of, instance_text}
+use Rattle.wire_pattern_laws.specs.Finds.{status_of}
+use Rattle.wire_pattern_laws.specs.SmallReplies.{HasSmall, FindsInFuller}
+use Rattle.wire_pattern_laws.specs.StatusesTold.{FindsAlike}
+use Rattle.wire_pattern_laws.proofs.SmallFinds.{finds_are_said}
+use Rattle.wire_pattern_laws.proofs.FindsInFuller.{reads_find}
+use Rattle.wire_pattern_laws.proofs.StatusesNumbered.{renumbered_finds}
+use Rattle.wire_instances.proofs.Groups.{length_roles}
+use Rattle.wire_instance_laws.specs.Reading.{IsInstance, IsOfCast}
+use Rattle.wire_instance_laws.proofs.Read.{instances_read}
+use Rattle.wire_sweep_laws.specs.Sizes.{AreFewSizes, total_of}
+use Rattle.wire_sweep_laws.specs.Choices.{optional_turns, chosen_by, cast_on}
+use Rattle.wire_sweep_laws.specs.Promised.{IsAnyCast, AreFewSettled}
+use Rattle.wire_sweep_laws.proofs.Few as few
+use Rattle.wire_sweep_laws.proofs.Few.{most_at}
+use Rattle.wire_sweep.specs.Selections.{Selection, select, selections}
+use Rattle.wire_sweep.proofs.Members.{in_place}
+use Rattle.wire_sweep.proofs.Selected.{selection_there, selections_few}
+use Rattle.wire_sweep.proofs.Texts.{any_cast}
+use Rattle.wire_pattern_waits.specs.Places.{steps_places}
+use Rattle.wire_pattern_waits.specs.Waits.{alone}
+use Rattle.wire_pattern_waits.proofs.Answered.{row_of, places_between}
+use Rattle.wire_pattern_waits.proofs.Replied.{alone_cast}
+use Rattle.wire_pattern_answers.specs.FewPlacings.{asks_now, IsAnsweredWith}
+use Rattle.wire_pattern_answers.specs.Answers.{Answers}
+use Rattle.wire_pattern_answers.proofs.Calls.{place_in, same_call, same_place}
+use Rattle.wire_pattern_answers.proofs.Events.{row_to, row_from, said_status, end_reached, replied_done, done_replied}
+use Rattle.wire_pattern_answers.proofs.Settled.{have_least, settled_on_all}
+use Rattle.wire_answer_laws.specs.AnySize.{IsAllAnswered}
+use Rattle.wire_answer_laws.proofs.SameNodes.{agree_all, finds_there}
+use Rattle.wire_answer_laws.proofs.Spread.{HasCall}
+use Rattle.wire_answer_laws.proofs.Fences.{is_fence}
+use Rattle.wire_answer_laws.proofs.Calls.{there_is, asked_call, fences, event_call, call_stands}
+use Rattle.wire_answer_laws.proofs.Large.{instance_there}
+
+-- as much is done at the end on all nodes
+far_done : (plan other : Plan) → IsPlacing plan other → (p : ℕ) → (plain_end plan).done p ≡ (plain_end other).done p
+far_done plan other same p = ((run_alike plan other same).runs (plain_run plan)).done p ∙ ap (λ w. (run other w).done p) (run_alike plan other same).plain
+
+-- lines are counted from 1
+pub line_from_one : (p : Pattern) (cast : Cast) (v role c line : ℕ) → slice_get (steps_places cast v 0 1 (steps_in (slice_get p.roles role))) c ≡ Some line → 1 ≤ line
+line_from_one p cast v role c line at = (places_between cast v 0 1 (steps_in (slice_get p.roles role)) c line at).0
+
+module _ (p : Pattern) (all : IsAllAnswered p) (role n : ℕ) (status : Status)
+    (small : HasSmall (pattern_of p) have_coding (length p.roles) (least_of p) (λ role. most_at (least_of p role)) role n status) where
+  -- with few processes nothing is found
+  few_settled : AreFewSettled p
+  few_settled = λ sizes are bits count coding nodes.
+      let s = select sizes bits in
+      let total : total_of sizes < 2 ^ 31 = selections_few p (in_place s (selections p) (selection_there p sizes bits are count)).0 s
+      (in_place s (selections p) (selection_there p sizes bits are count)).1 all.few in
+      all.settled coding (cast_on sizes (chosen_by (optional_turns p sizes) bits) nodes)
+      (any_cast p (alone p s) (alone_cast p s all.sound are total) (have_least p.roles sizes are) nodes)
+
+  any : IsAnyCast p small.cast
+  any = record { is = small.cast_is; in_order = small.in_order; least = small.has_least }
+
+  -- the selection with the same turns, but all of loops that read
+  abbrev sizes : List ℕ
+  sizes = few.sizes p all.sound few_settled have_coding small.cast any small.has_most
+
+  abbrev bits : List Bool
+  bits = map (few.taken p all.sound few_settled have_coding small.cast any small.has_most) (optional_turns p sizes)
+
+  abbrev selection : Selection
+  selection = select sizes bits
+
+  abbrev cast : Cast
+  cast = alone p selection
+
+  fit : AreFewSizes p.roles sizes
+  fit = few.fit p all.sound few_settled have_coding small.cast any small.has_most
+
+  at : (i : ℕ) × (slice_get (selections p) i ≡ Some selection)
+  at = in_place selection (selections p) (selection_there p sizes bits fit (length-map (optional_turns p sizes) (few.taken p all.sound few_settled have_coding small.cast any small.has_most)))
+
+  is_cast : IsCast p cast
+  is_cast = alone_cast p selection all.sound fit (selections_few p at.0 selection at.1 all.few)
+
+  abbrev s : Scripts
+  s = (all.read at.0 selection at.1).0
+
+  reads : Reads OfVersion (instance_text p cast) (Ok s)
+  reads = (all.read at.0 selection at.1).1
+
+  of : IsOfCast p cast s
+  of = instances_read p cast OfVersion s all.sound is_cast reads
+
+  abbrev nodes : ℕ → ℕ
+  nodes = small.cast.nodes
+
+  abbrev fuller : plan.Cast
+  fuller = on_nodes nodes (cast_of cast)
+
+  fuller_settled : IsSettled (instance_of (pattern_of p) have_coding fuller)
+  fuller_settled = all.settled have_coding fuller (any_cast p cast is_cast (have_least p.roles sizes fit) nodes)
+
+  f : FindsInFuller (pattern_of p) have_coding fuller role n small.owner small.key status
+  f =
+      reads_find (pattern_of p) have_coding small.cast fuller (few.is_fuller p all.sound few_settled have_coding small.cast any small.has_most) fuller_settled
+      small.get role n small.owner small.key small.of_line small.is small.is_live status small.finds
+
+  -- the plan that is read, and its placing on these nodes
+  abbrev here : Plan
+  here = plan_of s
+
+  abbrev i : IsInstance p cast s have_coding nodes
+  i = of.instances have_coding nodes
+
+  everywhere : IsSettledAnywhere here
+  everywhere = settled_on_all p cast s all.settled is_cast (have_least p.roles sizes fit) of (length_roles 0 sizes)
+
+  settled_here : IsSettled here
+  settled_here = settled_there here here (reflexive here) everywhere
+
+  abbrev there : Scripts
+  there = moved s s.nodes nodes
+
+  abbrev third : Plan
+  third = plan_of there
+
+  placing : IsPlacing here third
+  placing = as_placing s s.nodes nodes
+
+  settled_third : IsSettled third
+  settled_third = settled_there here third placing everywhere
+
+  third_count : process_count third ≡ length s.processes
+  third_count = length-map there.processes (planned_process there) ∙ moved_length nodes 0 s.processes
+
+  here_count : process_count here ≡ length s.processes
+  here_count = length-map s.processes (planned_process s)
+
+  -- the get-now in both
+  abbrev owner : ℕ
+  owner = small.owner
+
+  abbrev key : ℕ
+  key = i.key small.key
+
+  kind_other : kind i.other f.get ≡ Some (GetNow owner key)
+  kind_other = (embeds (instance_of (pattern_of p) have_coding fuller) i.other i.key i.name i.renumbered).kinds_agree f.get (GetNow owner small.key) f.is
+
+  kind_here : kind here f.get ≡ Some (GetNow owner key)
+  kind_here = kind_kept i.other here (turned i.placing) f.get (GetNow owner key) refl kind_other
+
+  kind_third : kind third f.get ≡ Some (GetNow owner key)
+  kind_third = kind_kept here third placing f.get (GetNow owner key) refl kind_here
+
+  within : f.get.proc < process_count here
+  within =
+      let low = slice_get_within fuller.roles f.get.proc role f.of_line.its_role in
+      let count : length fuller.roles ≡ text.process_count cast = length_roles 0 sizes in
+      omega (arith, low, count, of.count)
+
+  abbrev call : HasCall (steps_places cast f.get.proc 0 1 (steps_in (slice_get p.roles role))) (fences p cast s of nodes f.get.proc role f.of_line.its_role) f.get.at n
+  call = event_call p cast s of nodes f.get.proc role f.of_line.its_role f.get.at n owner key f.of_line kind_here
+
+  stands : f.get.at ≡ place_in s f.get.proc call.call
+  stands = sym (call_stands p cast s of nodes f.get.proc role f.of_line.its_role f.get.at n call)
+
+  low_call : call.call < length (calls_of here f.get.proc)
+  low_call = subst (λ k. call.call < k) (length-map (calls_of here f.get.proc) is_fence) call.within
+
+  -- it has its reply where each has a node of its own
+  end_there : (end : CallEnd) × (slice_get (row here (plain_end here) f.get.proc) call.call ≡ Some end)
+  end_there =
+      there_is (row here (plain_end here) f.get.proc) call.call
+      (let whole = rows_are_whole here (plain_end here) f.get.proc (plain_run here, (plain_runs here).is_run, refl) in omega (arith, low_call, whole))
+
+  replied : (reply : Reply) × (end_there.0 ≡ Replied reply)
+  replied =
+      all.replied at.0 selection s f.get.proc call.call end_there.0 at.1 reads
+      (ap (λ ends. slice_get ends call.call) (row_of here (plain_end here) (process_count here) f.get.proc within) ∙ end_there.1)
+
+  done_here : IsDone (plain_end here) f.get
+  done_here =
+      let r = row_to here settled_here f.get.proc call.call f.get.at (GetNow owner key) within stands kind_here refl replied.0
+      (ap (λ ends. slice_get ends call.call) (row_of here (plain_end here) (process_count here) f.get.proc within) ∙ end_there.1 ∙ ap Some replied.1) in
+      replied_done here settled_here f.get r.0 r.1
+
+  -- and so on these nodes
+  abbrev said : (b : Answer) × (plain_reply third f.get ≡ Some b)
+  said = done_replied third settled_third f.get (let d = done_here in let same = far_done here third placing f.get.proc in omega (arith, d, same))
+
+  on_these : (q : ℕ) → q < process_count third → node_of i.other q ≡ node_of third q
+  on_these q lt =
+      let t = third_count in let h = here_count in
+      instance_there p cast s of nodes q (omega (arith, lt, t, h)) ∙ sym (node_moved s s.nodes nodes q (omega (arith, lt, t)))
+
+  -- with the status
+  status_is : status_of said.0 ≡ status
+  status_is =
+      let says = (finds_are_said third f.get owner key settled_third kind_third).answered (plain_end third) said.0 (end_reached third settled_third) said.1 in
+      let across : IsPlacing third i.other = (placings_are third).again here i.other ((placings_are here).back third placing) i.placing in
+      let finds = finds_there third i.other across (agree_all third i.other across.same_count on_these) f.get owner key (status_of said.0) says.1 in
+      let alike : FindsAlike (instance_of (pattern_of p) have_coding fuller) i.other f.get owner small.key key =
+      renumbered_finds (instance_of (pattern_of p) have_coding fuller) i.other i.key i.name i.renumbered f.get owner small.key f.is in
+      f.finds (status_of said.0) ((alike.finds f.is_live (status_of said.0)).1 finds)
+
+  answered_with : IsAnsweredWith there f.get.proc call.call status
+  answered_with =
+      let t = third_count in let h = here_count in
+      let r = row_from third settled_third f.get.proc call.call f.get.at (GetNow owner key) (let w = within in omega (arith, w, t, h))
+      (stands ∙ sym (same_place s s.nodes nodes f.get.proc call.call)) kind_third refl said.0 said.1 in
+      record { reply = r.0; is = r.2; has = sym (said_status third said.0 r.0 r.1) ∙ status_is }
+
+  asks : asks_now (call_at there.processes f.get.proc call.call) ≡ true
+  asks =
+      ap asks_now (same_call s s.nodes nodes f.get.proc call.call)
+      ∙ asked_call s f.get.proc call.call owner key (subst (λ k. call.call < k) (sym (as_many_planned s f.get.proc)) low_call)
+      (subst (λ k. kind here (record { proc = f.get.proc; at = k }) ≡ Some (GetNow owner key)) stands kind_here)
+
+  pub record SmallAnswer : Type 0 where
+    pub line : ℕ
+    pub same : pred line ≡ n
+    pub answers : Answers p role line status
+    pub from_one : 1 ≤ line
+
+  pub small_answer : SmallAnswer
+  small_answer = record {
+    line = call.line;
+    same = call.same;
+    answers = record {
+      number = at.0;
+      selection = selection;
+      is = at.1;
+      answers = record {
+        scripts = s;
+        reads = reads;
+        names = s.nodes;
+        nodes = nodes;
+        answered = record {
+          process = f.get.proc;
+          call = call.call;
+          has_role = f.of_line.its_role;
+          of_line = call.of_line;
+          asks = asks;
+          answered = answered_with;
+        };
+      };
+    };
+    from_one = line_from_one p cast f.get.proc role call.call call.line call.of_line;
+  }
