@@ -117,6 +117,10 @@ if (call.is_noted && requests)
 if (call.is_noted && request)
     note_freed(*request);
 """),
+    "cancel": Shape(CALL + """\
+if (call.is_noted && request)
+    note_cancel(*request);
+"""),
     "wait": Shape(WATCH_REQUEST, """\
 if (is_watched)
     note_complete(before, result, told, WAITED);

@@ -32,7 +32,7 @@ LOCAL = {
         r"Initialized|Finalized|Is_thread_main|Query_thread",
         r"Pcontrol|Wtick|Wtime",
         r"Register_datarep|Buffer_attach|(Comm|Session)_attach_buffer",
-        r"Cancel|Test_cancelled|Grequest_\w+",
+        r"Test_cancelled|Grequest_\w+",
         r"Get_hw_resource_info|Aint_(add|diff)|Remove_error_\w+|Abi_\w+",
         r"Session_(get_\w+|\w+_errhandler|set_info)",
         # It fetches a message that MPI_Mprobe received.

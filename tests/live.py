@@ -18,6 +18,7 @@ ENVIRONMENT = {**os.environ, "OMPI_ALLOW_RUN_AS_ROOT": "1", "OMPI_ALLOW_RUN_AS_R
 COMPILED = {
     "calls": ("cc", "-pthread", "calls.c"),
     "direct": ("mpicc", "-pthread", "direct.c"),
+    "luck": ("mpicc", "luck.c"),
     "sessions": ("mpicc", "-pthread", "sessions.c"),
     "plugin.so": ("mpicc", "-shared", "-fPIC", "plugin.c"),
     "pmix_plugin.so": ("cc", "-shared", "-fPIC", "pmix_plugin.c"),
@@ -28,7 +29,7 @@ COMPILED = {
 }
 SOURCES = (".c", ".f90")
 # The programs that call PMIx themselves.
-WITH_PMIX = ("calls", "direct", "sessions", "pmix_plugin.so")
+WITH_PMIX = ("calls", "direct", "luck", "sessions", "pmix_plugin.so")
 NEEDED = ("mpicc", "mpirun", "make", "cc", "pkg-config")
 # `mpirun` may mix the lines of two processes where one is long, in about one run of six.
 TRIES = 10

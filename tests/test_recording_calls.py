@@ -5,6 +5,7 @@ from dataclasses import dataclass
 from typing import Optional
 
 from tapes import Recorded, Tape, read_scripts, write_plan_of
+from wire_up_tools.words import MORE_ORDERED
 
 PUT, COMMIT, FENCE = ("put global k text:v", "0"), ("commit", "0"), ("fence blocks all -", "0")
 COLLECTS = ("fence nb job:* pmix.collect=number:1:1", "0")
@@ -216,6 +217,39 @@ class CallsTest(unittest.TestCase):
             ),
             "of no key": one("lookup nb every -", "", "1 lookups that name no key", "-27 -"),
         })
+
+    def test_what_may_go_otherwise(self) -> None:
+        """A verdict holds only in part, if a call can give up soon, or if whoever published a name
+        isn't there."""
+        time, published = "pmix.timeout=number:4", "publish blocks n=text:v"
+        looked = f"lookup blocks :n {WAITS},{time}"
+        cases = {
+            (f"fence blocks all {time}:5", "0"): "1 waits for less than a minute at most",
+            (f"fence blocks all {time}:0", "0"): "",
+            (f"fence blocks all {time}:600", "0"): "",
+            (f"{looked}:5", "0 n=text:v"): "1 waits for less than a minute at most",
+            (f"{looked}:5", "-24 -"): "",
+            (f"{looked}:600", "0 n=text:v"): "",
+            (f"lookup blocks :n {time}:5", "0 n=text:v"): "",
+            ("lookup blocks :m -", "0 m=text:v"): "1 lookups of names that no recorded process",
+            ("lookup blocks :m -", "-46 -"): "",
+        }
+        for (what, end), said in cases.items():
+            with self.subTest(what, end=end):
+                tape = Tape(0).call(f"{published} -").call(what, end)
+                plan = write_plan_of([tape])
+                self.assertEqual(MORE_ORDERED in plan, bool(said))
+                self.assertIn(said, plan)
+
+    def test_a_name_that_goes_away(self) -> None:
+        """At its first read, if another may look it up, or with its process."""
+        for how, count, is_said in ((1, 1, False), (1, 2, True), (2, 0, True), (4, 2, False)):
+            with self.subTest(how, lookups=count):
+                tape = Tape(0).call(f"publish blocks n=text:v pmix.persist=number:1:{how}")
+                for _ in range(count):
+                    tape.call("lookup blocks :n -", "0 n=text:v")
+                plan = write_plan_of([tape])
+                self.assertEqual("1 names that go away by themselves" in plan, is_said)
 
     def test_unpublishes(self) -> None:
         everything = [("publish blocks n=text:v -", "0"), ("unpublish blocks every -", "0")]

@@ -21,6 +21,7 @@ from recorded import (
     CASES,
     DIRECT,
     IN_PART,
+    LUCK,
     OTHER_WAYS,
     OTHERS,
     Program,
@@ -179,24 +180,31 @@ class CallsTest(LiveTest):
 
 
 class CasesTest(LiveTest):
-    """The small programs of `cases` and `direct`."""
+    """The small programs of `cases`, `direct` and `luck`."""
 
     def hold(self, name: str, of: Program, compiled: str = "cases") -> None:
         """Tests one of them."""
         words = ["--checker", self.program or "/dev/null", "--answers", self.answers]
         ran = self.record(*words, *mpirun(of.processes, self.compile(compiled), name))
         self.assertEqual((ran.returncode, ran.stdout), (0, f"{name} done\n"), ran.stderr[:300])
-        said = "" if name == "poll" and not self.program else of.said
+        said = of.said or (of.says_both if self.program else "")
         self.assertIn(said, ran.stderr)
         self.assertTrue(said or not ran.stderr, ran.stderr[:300])
         if self.program:
-            wrong = why_wrong(self.program, self.plan, self.answers, of.findings)
+            wrong = why_wrong(
+                self.program, self.plan, self.answers, of.findings, of.is_replayed
+            )
             self.assertIsNone(wrong)
 
     def test_cases(self) -> None:
         for name, of in CASES.items():
             with self.subTest(name):
                 self.hold(name, of)
+
+    def test_luck(self) -> None:
+        for name, of in LUCK.items():
+            with self.subTest(name):
+                self.hold(name, of, "luck")
 
     def test_direct(self) -> None:
         for name, of in DIRECT.items():

@@ -327,6 +327,52 @@ class MessagesTest(OrderTest):
                 self.assertEqual(read_scripts(plan), scripts)
 
 
+class ChosenTest(unittest.TestCase):
+    """Messages whose peer one of any source may have named: with --strict they order nothing."""
+
+    def hold(self, tapes: Recordings, is_certain: bool) -> None:
+        """Tests whether the message with tag 1 orders something with --strict; without, it does."""
+        for is_strict in (False, True):
+            plan = write_plan_of(tapes, Choices(is_strict=is_strict))
+            is_taken = is_certain or not is_strict
+            self.assertEqual("# MPI: receive, tag 1\nlookup-wait mpi." in plan, is_taken)
+            self.assertEqual("# 1 ends of requests" in plan, not is_certain)
+
+    def test_a_receive_from_whom_a_message_came(self) -> None:
+        """Not where none but one can have sent, or where it was asked for one."""
+        for size, asked, is_certain in ((3, "any", False), (3, "1", True), (2, "any", True)):
+            with self.subTest(size=size, asked=asked):
+                tapes = make_world(size)
+                for rank in range(1, size):
+                    tapes[rank].call(f"publish blocks n{rank}=text:x -").begin("send 1 0 0 4")
+                tapes[1].begin("send 1 0 1 4")
+                tapes[0].call(f"receive 1 {asked} 0", "0 1 0 4 wait")
+                tapes[0].call("receive 1 1 1", "0 1 1 4 wait")
+                tapes[0].call("lookup blocks :n1 -", "0 n1=text:x")
+                self.hold(tapes, is_certain)
+
+    def test_a_send_to_whom_a_message_came_from(self) -> None:
+        for asked, is_certain in (("any", False), ("1", True)):
+            with self.subTest(asked=asked):
+                tapes = make_world(3)
+                tapes[1].begin("send 1 0 0 4")
+                tapes[0].call(f"receive 1 {asked} 0", "0 1 0 4 wait")
+                tapes[0].call("publish blocks n=text:x -").begin("send 1 1 1 4")
+                tapes[1].call("receive 1 0 1", "0 0 1 4 wait")
+                tapes[1].call("lookup blocks :n -", "0 n=text:x")
+                self.hold(tapes, is_certain)
+
+    def test_a_message_that_came_later(self) -> None:
+        """A receive that is open while the process sends names nobody yet."""
+        tapes = make_world(3)
+        tapes[1].begin("send 1 0 0 4")
+        number = tapes[0].begin("receive 1 any 0")
+        tapes[0].call("publish blocks n=text:x -").begin("send 1 1 1 4")
+        tapes[0].end(number, "0 1 0 4 wait")
+        tapes[1].call("receive 1 0 1", "0 0 1 4 wait").call("lookup blocks :n -", "0 n=text:x")
+        self.hold(tapes, True)
+
+
 class UnseenTest(OrderTest):
     """Signs that calls of MPI weren't seen."""
 

@@ -7,7 +7,7 @@ from typing import Optional
 
 import support
 import tapes
-from recorded import BOTH_VERDICTS, SHIPPED, why_wrong
+from recorded import SHIPPED, why_wrong
 from tapes import run_recorder
 
 
@@ -31,15 +31,16 @@ class ShippedTest(unittest.TestCase):
     def hold(self, name: str, with_mpi: bool, count: int) -> None:
         """Tests the plan of a recording, with or without MPI's order."""
         is_without_doubt = name in ("plugin", "closed") and not with_mpi
-        said = "" if is_without_doubt else SHIPPED[name].says_in_part
+        of = SHIPPED[name]
+        said = "" if is_without_doubt else of.says_in_part
         words = ["-o", self.plan, "--answers", self.answers]
         words += ["--checker", self.program or "/dev/null", *([] if with_mpi else ["--no-mpi"])]
         ran = run_recorder(*words, "--from", os.path.join(tapes.SHIPPED, name))
-        says_both = name == "poll" and with_mpi and self.program
-        said += BOTH_VERDICTS if says_both else ""
+        said += of.says_both if with_mpi and self.program else ""
         self.assertEqual((ran.returncode, ran.stderr), (0, said))
         if self.program:
-            self.assertIsNone(why_wrong(self.program, self.plan, self.answers, count))
+            wrong = why_wrong(self.program, self.plan, self.answers, count, of.is_replayed)
+            self.assertIsNone(wrong)
 
     def test_all_are_known(self) -> None:
         found = [it.name for it in os.scandir(tapes.SHIPPED) if it.is_dir()]

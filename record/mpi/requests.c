@@ -12,6 +12,7 @@ struct request {
     uintptr_t handle;
     enum { RECEIVE, COLLECTIVE, DUPLICATE, PERSISTENT_SEND, PERSISTENT_RECEIVE } kind;
     unsigned long number; /* of the receive or the collective; 0 where none is open */
+    bool is_cancelled;    /* it was asked for, which may come too late */
     char *sources;        /* whose data the collective waits for; null is all */
     struct envelope message;
     long long bytes;
@@ -90,8 +91,13 @@ static void keep(MPI_Request request, struct request what)
 
 bool is_open(MPI_Request request)
 {
-    struct request it = find_request(request);
-    return it.number != 0 || (it.handle && it.kind == DUPLICATE);
+    if (request == mpi.no_request)
+        return false;
+    pthread_mutex_lock(&table);
+    const struct request *it = *find_slot(request);
+    bool is_known = it && (it->number != 0 || it->kind == DUPLICATE);
+    pthread_mutex_unlock(&table);
+    return is_known;
 }
 
 /* --- what is kept --- */
@@ -136,6 +142,18 @@ void note_freed(MPI_Request request)
     forget_request(request);
 }
 
+void note_cancel(MPI_Request request)
+{
+    pthread_mutex_lock(&table);
+    struct request *it = *find_slot(request);
+    bool is_receive = it && it->number;
+    if (is_receive)
+        it->is_cancelled = true;
+    pthread_mutex_unlock(&table);
+    if (!is_receive)
+        note_other("MPI_Cancel");
+}
+
 /* --- starts --- */
 
 /* Sets the number of the receive that a persistent request has open. */
@@ -143,8 +161,10 @@ static void set_number(MPI_Request request, unsigned long number)
 {
     pthread_mutex_lock(&table);
     struct request *it = *find_slot(request);
-    if (it)
+    if (it) {
         it->number = number;
+        it->is_cancelled = false;
+    }
     pthread_mutex_unlock(&table);
 }
 
@@ -202,6 +222,6 @@ void note_complete(MPI_Request request, int result, const MPI_Status *status, co
     else if (done.number && done.kind == COLLECTIVE)
         note_collected(done.number, result, done.sources ? done.sources : "all", how);
     else
-        note_received(done.number, result, status, how);
+        note_received(done.number, result, status, done.is_cancelled ? POLLED : how);
     free_request(gone);
 }

@@ -26,6 +26,10 @@ void forget_request(MPI_Request request);
 /* Notes that a request is freed: the end of a receive isn't seen. */
 void note_freed(MPI_Request request);
 
+/* Notes that a request is to be cancelled: whether a receive gets a message all the same is left to
+ * luck. */
+void note_cancel(MPI_Request request);
+
 /* Note that requests which were made to be started again are about to be. */
 void note_start(const struct call *call, MPI_Request request);
 void note_starts(const struct call *call, int count, const MPI_Request requests[]);

@@ -69,6 +69,7 @@ static void add_plain(struct text *to, const pmix_value_t *value)
     case PMIX_BOOL: add_signed(to, 1, value->data.flag); break;
     case PMIX_BYTE:
     case PMIX_UINT8: add_unsigned(to, 1, value->data.uint8); break;
+    case PMIX_PERSIST: add_unsigned(to, 1, value->data.persist); break;
     case PMIX_INT8: add_signed(to, 1, value->data.int8); break;
     case PMIX_UINT16: add_unsigned(to, 2, value->data.uint16); break;
     case PMIX_INT16: add_signed(to, 2, value->data.int16); break;

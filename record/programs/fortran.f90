@@ -37,9 +37,18 @@ end subroutine
 subroutine new_way(rank)
   use mpi_f08
   implicit none
-  integer :: rank, sum
+  integer :: rank, sum, x
   character(len=MPI_MAX_PORT_NAME) :: port
   port = "port"
+  x = 0
+  if (rank == 0) then
+    call MPI_Publish_name("newer", MPI_INFO_NULL, port)
+    call MPI_Send(x, 1, MPI_INTEGER, 1, 1, MPI_COMM_WORLD)
+  else if (rank == 1) then
+    call MPI_Recv(x, 1, MPI_INTEGER, 0, 1, MPI_COMM_WORLD, MPI_STATUS_IGNORE)
+    call MPI_Lookup_name("newer", MPI_INFO_NULL, port)
+  end if
+  call MPI_Barrier(MPI_COMM_WORLD)
   if (rank == 0) call MPI_Publish_name("new", MPI_INFO_NULL, port)
   call MPI_Allreduce(rank, sum, 1, MPI_INTEGER, MPI_SUM, MPI_COMM_WORLD)
   if (rank == 1) call MPI_Lookup_name("new", MPI_INFO_NULL, port)

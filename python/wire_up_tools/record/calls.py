@@ -52,6 +52,12 @@ class Value:
         return self.kind is ValueKind.TEXT and is_word(self.text, VALUE_BYTES)
 
     @property
+    def number(self) -> Optional[int]:
+        """The number that it is; None of any other kind."""
+        is_number = self.kind is ValueKind.NUMBER
+        return int(self.detail.partition(":")[2]) if is_number else None
+
+    @property
     def word(self) -> str:
         """The value as a word. What isn't text, and text that no word can be, is its size."""
         if self.kind is ValueKind.TEXT:

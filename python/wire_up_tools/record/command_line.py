@@ -74,8 +74,9 @@ OPTIONS = (
     Option(
         "--strict",
         "",
-        "takes no order from a poll that succeeded, nor from MPI_Waitany and MPI_Waitsome: "
-        "another run may find otherwise",
+        "takes no order from a poll that succeeded, from MPI_Waitany and MPI_Waitsome, nor from a "
+        "peer that a message\n"
+        "                   of any source named: another run may find otherwise",
     ),
     Option(
         "--checker",

@@ -1,4 +1,6 @@
 """What the directives of calls of PMIx say."""
+from typing import Optional
+
 from wire_up_tools.record.calls import (
     NO,
     Action,
@@ -12,6 +14,11 @@ from wire_up_tools.record.calls import (
 )
 
 COLLECT, WAIT = b"pmix.collect", b"pmix.wait"
+TIMEOUT, PERSISTENCE = b"pmix.timeout", b"pmix.persist"
+# From so many seconds on a time is as good as none: Open MPI gives ten minutes.
+LONG = 60
+# How long a name stays: until it is read, or until its process ends.
+FIRST_READ, OF_PROCESS = 1, 2
 # Directives of a get that doesn't wait.
 AT_ONCE = (b"pmix.immediate", b"pmix.optional")
 KNOWN = (COLLECT, WAIT, *AT_ONCE)
@@ -28,6 +35,31 @@ OF_GROUPS = (
 def has_directive(directives: Directives, *keys: bytes) -> bool:
     """Whether a call has one of the directives, and not as false."""
     return any(it.key in keys and it.value != NO for it in directives)
+
+
+def find_number(directives: Directives, key: bytes) -> Optional[int]:
+    """The number that a directive gives; None where it isn't there, or gives none."""
+    return next((it.value.number for it in directives if it.key == key), None)
+
+
+def gives_up(action: Action) -> bool:
+    """Whether a call waits for others, and for a short time at most."""
+    if not isinstance(action, (Fence, Get, Lookup)):
+        return False
+    if isinstance(action, Get) and has_directive(action.directives, *AT_ONCE):
+        return False
+    if isinstance(action, Lookup) and not has_directive(action.directives, WAIT):
+        return False
+    return 0 < (find_number(action.directives, TIMEOUT) or 0) < LONG
+
+
+def goes_away(action: Action, lookups: int) -> bool:
+    """Whether a name that is published, and looked up so often, goes away by itself while others
+    may look it up."""
+    if not isinstance(action, Publish):
+        return False
+    how = find_number(action.directives, PERSISTENCE)
+    return how == OF_PROCESS or (how == FIRST_READ and lookups > 1)
 
 
 def find_ending(action: Action) -> Ending:

@@ -4,8 +4,9 @@ A stream is the messages from one process with one tag to one process in one com
 don't overtake each other. Ranks are those of the communicator.
 """
 import functools
+import sys
 from collections import Counter
-from collections.abc import Iterable, Iterator, Mapping, Sequence
+from collections.abc import Iterable, Iterator, Mapping, Sequence, Set
 from dataclasses import dataclass, field
 from typing import NamedTuple, Optional, Union
 
@@ -53,6 +54,7 @@ class Ask(NamedTuple):
 
 # Most messages of a large recording are of few streams: these share what names them.
 KEPT = 1 << 12
+NONE_CHOSEN: Set[Call] = frozenset()
 share_stream, share_ask = functools.lru_cache(KEPT)(Stream), functools.lru_cache(KEPT)(Ask)
 
 
@@ -104,13 +106,16 @@ class OneStream(Mapping[Stream, Sequence[Call]]):
 @dataclass(frozen=True, eq=False)
 class Group:
     """Streams, and the receives and probes that got their messages or could have, in the order
-    in which they were posted. `lacks` says that there are others which got none."""
+    in which they were posted. `lacks` says that there are others which got none, and `chosen` has
+    calls whose peer the program may have chosen by the message that came before: the first of each
+    stream."""
 
-    __slots__ = ("streams", "asked", "lacks")
+    __slots__ = ("streams", "asked", "lacks", "chosen")
 
     streams: Mapping[Stream, Sequence[Call]]
     asked: Sequence[Got]
     lacks: bool
+    chosen: Set[Call]
 
     @property
     def receive_count(self) -> int:
@@ -231,18 +236,25 @@ def part_streams(streams: Iterable[Stream], asks: set[Ask]) -> Parts:
 @dataclass
 class Inbox:
     """What one process is sent in one communicator, by streams, and what it asked for there, in
-    the order in which that was posted. `peers` are the processes that its ranks are."""
+    the order in which that was posted. `peers` are the processes that its ranks are. Of each stream
+    `chosen_sends` and `chosen_receives` have the first call whose peer may have been chosen by a
+    message that came before."""
 
     peers: Side
     streams: dict[Stream, list[Call]] = field(default_factory=dict)
     asked: list[Union[Got, Missed]] = field(default_factory=list)
     probed: dict[Stream, Ask] = field(default_factory=dict)
+    chosen_sends: dict[Stream, Call] = field(default_factory=dict)
+    chosen_receives: dict[Stream, Call] = field(default_factory=dict)
 
-    def take_send(self, source: int, send: Send, call: Call) -> None:
+    def take_send(self, source: int, send: Send, call: Call, is_chosen: bool) -> None:
         """Takes a message that is sent to it."""
-        self.streams.setdefault(share_stream(source, send.tag), []).append(call)
+        stream = share_stream(source, send.tag)
+        self.streams.setdefault(stream, []).append(call)
+        if is_chosen:
+            self.chosen_sends.setdefault(stream, call)
 
-    def take_ask(self, asked: Union[Receive, Probe], call: Call) -> None:
+    def take_ask(self, asked: Union[Receive, Probe], call: Call, is_chosen: bool) -> None:
         """Takes a receive or a probe. A receive of just what a probe found is as free as the
         probe was."""
         ask, end = share_ask(asked.source, asked.tag), call.end
@@ -254,6 +266,8 @@ class Inbox:
             self.probed[got] = ask
         if got and isinstance(end, MessageEnd):
             self.asked.append(Got(ask, call, got, end.size))
+            if is_chosen and ask.source is not None:
+                self.chosen_receives.setdefault(got, call)
         else:
             self.asked.append(Missed(ask, call))
 
@@ -268,15 +282,47 @@ class Inbox:
         lacking = {parts.find_key(it.ask) for it in self.asked if isinstance(it, Missed)}
         joint = parts.find_joint(self.streams)
         return [
-            Group(joint.get(key) or self.find_alone(key), them, key in lacking)
+            self.make_group(joint.get(key) or self.find_alone(key), them, key in lacking)
             for key, them in asked.items()
         ]
+
+    def make_group(
+        self, streams: Mapping[Stream, Sequence[Call]], asked: Sequence[Got], lacks: bool
+    ) -> Group:
+        """A group, with those of its calls whose peer may have been chosen."""
+        chosen = {
+            first[it]
+            for first in (self.chosen_sends, self.chosen_receives)
+            for it in (streams if first else ())
+            if it in first
+        }
+        return Group(streams, asked, lacks, chosen or NONE_CHOSEN)
 
     def find_alone(self, key: Key) -> Mapping[Stream, Sequence[Call]]:
         """The stream that stands for a group of no other; none where no message fits."""
         if isinstance(key, Stream):
             return OneStream(key, self.streams[key])
         return {}
+
+
+# In a communicator of two, who isn't oneself is known.
+PAIR = 2
+
+
+class Found:
+    """Whom a process has found by messages of any source, and up to which line of its recording it
+    didn't know them. Later the program may send to them, or receive from them, since they came."""
+
+    def __init__(self) -> None:
+        self.at: dict[Process, int] = {}
+
+    def add(self, peer: Process, call: Call) -> None:
+        """Takes whom a call found."""
+        self.at.setdefault(peer, call.ends or sys.maxsize)
+
+    def has(self, peer: Optional[Process], call: Call) -> bool:
+        """Whether a process was found before a call began."""
+        return peer is not None and self.at.get(peer, sys.maxsize) < call.begins
 
 
 @dataclass
@@ -294,17 +340,25 @@ class Inboxes:
             inbox = self.found[communicator, target] = Inbox(peers)
         return inbox
 
-    def take_send(self, own: Communicator, send: Send, call: Call) -> None:
+    def take_send(self, own: Communicator, send: Send, call: Call, found: Found) -> None:
         """Takes a message that is sent, if its target is there."""
         if 0 <= send.target < len(own.peers):
-            inbox = self.find(own.identity, own.peers[send.target], own.members)
-            inbox.take_send(own.rank, send, call)
+            target = own.peers[send.target]
+            inbox = self.find(own.identity, target, own.members)
+            inbox.take_send(own.rank, send, call, found.has(target, call))
 
-    def take_ask(self, own: Communicator, asked: Union[Receive, Probe], call: Call) -> None:
-        """Takes a receive or a probe."""
+    def take_ask(
+        self, own: Communicator, asked: Union[Receive, Probe], call: Call, found: Found
+    ) -> None:
+        """Takes a receive or a probe, and whom one of any source finds."""
         is_open = isinstance(asked, Receive) and call.status is None
         self.notes.left_out["receives whose end isn't recorded"] += is_open
-        self.find(own.identity, own.members[own.rank], own.peers).take_ask(asked, call)
+        inbox, end = self.find(own.identity, own.members[own.rank], own.peers), call.end
+        source = end.source if isinstance(end, MessageEnd) else -1
+        peer = own.peers[source] if 0 <= source < len(own.peers) else None
+        inbox.take_ask(asked, call, found.has(peer, call))
+        if asked.source is None and peer and len(own.peers) > PAIR:
+            found.add(peer, call)
 
 
 def find_inboxes(processes: Processes, communicators: Communicators) -> Inboxes:
@@ -312,6 +366,7 @@ def find_inboxes(processes: Processes, communicators: Communicators) -> Inboxes:
     inboxes = Inboxes()
     for process in processes.all:
         known = communicators[process]
+        found = Found()
         for call in process.recording.calls:
             action = call.action
             if not isinstance(action, (Send, Receive, Probe)):
@@ -320,7 +375,7 @@ def find_inboxes(processes: Processes, communicators: Communicators) -> Inboxes:
             if not own:
                 inboxes.notes.left_out["messages in communicators that aren't recorded"] += 1
             elif isinstance(action, Send):
-                inboxes.take_send(own, action, call)
+                inboxes.take_send(own, action, call, found)
             else:
-                inboxes.take_ask(own, action, call)
+                inboxes.take_ask(own, action, call, found)
     return inboxes

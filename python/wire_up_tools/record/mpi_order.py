@@ -8,7 +8,7 @@
 - A collective in which all processes wait for all is a fence. Any other is names: each process
   waits for those whose data it needs.
 - An end that another run may have found open, since a poll succeeded or it was one of several,
-  orders nothing with --strict.
+  orders nothing with --strict. Nor does a message whose peer one of any source may have named.
 
 Which receive got which message is found by messages.py; where that isn't certain, nothing is
 ordered, and the head of the plan says so.
@@ -109,12 +109,15 @@ def order_pairs(
     """
     ordered, group, target, useless = Ordered(), found.group, found.target, 0
     is_all = group.message_count == group.receive_count and not group.lacks
+    is_chosen = False
     for send, got in group.pairs():
         source = found.peers[got.stream.source]
         if source is target:
             continue
-        ordered.left_to_luck += got.call.is_left_to_luck
-        if got.call.is_left_to_luck and is_strict:
+        is_chosen = is_chosen or send in group.chosen or got.call in group.chosen
+        is_luck = is_chosen or got.call.is_left_to_luck
+        ordered.left_to_luck += is_luck
+        if is_luck and is_strict:
             continue
         ordered.count += 1
         waits = bool(send.end and is_all and got.is_receive)

@@ -5,7 +5,6 @@ from collections.abc import Sequence
 from dataclasses import dataclass, field
 
 from wire_up_tools.record.calls import (
-    Action,
     Call,
     Ending,
     Fence,
@@ -14,7 +13,7 @@ from wire_up_tools.record.calls import (
     Publish,
     Unpublish,
 )
-from wire_up_tools.record.directives import KNOWN, find_ending, stands_early
+from wire_up_tools.record.directives import KNOWN, find_ending, gives_up, stands_early
 from wire_up_tools.record.recordings import Recording
 from wire_up_tools.words import show
 
@@ -56,8 +55,12 @@ def note_recording(recording: Recording, notes: Notes) -> None:
         ] += 1
 
 
-def note_directives(action: Action, notes: Notes) -> None:
+def note_directives(call: Call, notes: Notes) -> None:
     """Notes the directives of a call that a plan can't have."""
+    action = call.action
+    notes.more_ordered[
+        "waits for less than a minute at most (pmix.timeout): in the plan they wait for an answer"
+    ] += not call.has_failed and gives_up(action)
     if isinstance(action, (Fence, Get, Publish, Lookup, Unpublish)):
         for it in action.directives:
             if it.key not in KNOWN:

@@ -150,6 +150,8 @@ def find_orders(
     """What comes before what in every run, where one receive could get messages of several
     processes: each message with the receive or probe that ends after it was sent."""
     taken, counted = Taken(group.asked), Counted(group.streams, after)
+    if is_strict and group.chosen:
+        return
     for got in sorted(group.asked, key=lambda it: it.call.ends or 0):
         if is_strict and got.call.is_left_to_luck:
             continue
@@ -265,5 +267,9 @@ def note_open_groups(groups: Sequence[OpenGroup]) -> Ordered:
         "receives that could have got messages of several processes: "
         "they order what holds whichever they got"
     ] += sum(it.group.receive_count for it in groups)
-    asked = (got for it in groups for got in it.group.asked)
-    return Ordered(notes=notes, left_to_luck=sum(it.call.is_left_to_luck for it in asked))
+    luck = sum(
+        bool(it.group.chosen) or got.call.is_left_to_luck
+        for it in groups
+        for got in it.group.asked
+    )
+    return Ordered(notes=notes, left_to_luck=luck)

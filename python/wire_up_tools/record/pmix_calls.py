@@ -1,6 +1,7 @@
 """Makes lines of the calls of PMIx of each process, but for fences."""
 import re
 import sys
+from collections import Counter
 from collections.abc import Sequence
 from dataclasses import dataclass, field
 from typing import Optional, Union
@@ -22,7 +23,7 @@ from wire_up_tools.record.calls import (
     Value,
     ValueKind,
 )
-from wire_up_tools.record.directives import AT_ONCE, WAIT, has_directive
+from wire_up_tools.record.directives import AT_ONCE, WAIT, goes_away, has_directive
 from wire_up_tools.record.draft import Line, Part
 from wire_up_tools.record.names import Spelling, is_reserved_by_pmix
 from wire_up_tools.record.notes import (
@@ -243,6 +244,27 @@ class ProcessLines:
                 self.published = [it for it in self.published if it != key]
 
 
+def note_names(part: Part, notes: Notes) -> None:
+    """Notes the names that may go away by themselves, and those that were found, though no recorded
+    process published them."""
+    looked_up: Counter[str] = Counter()
+    published: dict[str, Call] = {}
+    found: list[str] = []
+    for line in part.lines:
+        verb, *rest = line.words.split(" ")
+        if verb == "publish":
+            published[rest[0]] = line.call
+        elif verb.startswith("lookup"):
+            looked_up[rest[0]] += 1
+            found += rest if line.value else ()
+    notes.more_ordered[
+        "names that go away by themselves (pmix.persist): in the plan they stay"
+    ] += sum(goes_away(it.action, looked_up[name]) for name, it in published.items())
+    notes.more_ordered[
+        "lookups of names that no recorded process published: whoever did isn't in the plan"
+    ] += sum(it not in published for it in found)
+
+
 @dataclass(frozen=True)
 class PmixLines:
     """The lines of calls, and what is noted of them."""
@@ -262,7 +284,7 @@ def make_lines(processes: Processes, spelling: Spelling, with_mpi: bool) -> Pmix
         lines = ProcessLines(process, processes, spelling, puts, part, notes)
         for call in of_pmix:
             lines.take(call)
-            note_directives(call.action, notes)
+            note_directives(call, notes)
         with_lines = {it.call for it in part.lines[first:]}
         noted = recording.calls if with_mpi else of_pmix
         in_plan = [
@@ -272,4 +294,5 @@ def make_lines(processes: Processes, spelling: Spelling, with_mpi: bool) -> Pmix
         ]
         note_overlaps(in_plan, notes)
         note_unawaited(in_plan, notes)
+    note_names(part, notes)
     return PmixLines(part, notes)

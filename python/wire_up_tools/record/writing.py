@@ -94,7 +94,7 @@ def say_mpi(plan: Plan) -> Iterator[str]:
         yield f"# `{plan.spelling.mpi_mark}`, and the fences below a line `# MPI: ..`."
     if mpi.left_to_luck:
         what = "nothing is taken from them" if choices.is_strict else TAKEN
-        why = "a poll that succeeded, one of several"
+        why = "a poll that succeeded, one of several, a peer that a message named"
         yield f"# {mpi.left_to_luck} {LEFT_TO_LUCK} ({why}): {what}."
     if mpi.verdicts:
         yield f"# {VERDICTS}{mpi.verdicts}"
