@@ -75,6 +75,12 @@ class WireUpTest(unittest.TestCase):
         self.assertEqual(labels, ["3–18 fence ×16", "1–16 fence ×16"])
         self.assertNotIn("…", drawing.draw_figure(diagram, "", "it"))
 
+    def test_barriers_in_a_row_are_one_bar(self) -> None:
+        script = "commit\n" * 15 + "# MPI: barrier\nfence all\n" * 16
+        recorded = f"# Recorded by wire_up-record on a day\n{TWO_RANKS.format(script, script)}"
+        (bar,) = make_diagram(recorded).bars
+        self.assertEqual({it.label for it in bar.marks.values()}, {"16–31 MPI_Barrier ×16"})
+
     def test_few_ranks_that_give_to_each_other_are_lanes(self) -> None:
         script = "rank n0\nput global k v\ncommit\nget a:{} k\n"
         ring = "".join(script.format((it + 1) % 4) for it in range(4))

@@ -16,10 +16,11 @@ from wire_up_tools.report.findings import PAIRS, Finding, Group, Kind
 from wire_up_tools.report.language import name_kind
 from wire_up_tools.report.library_page import list_shown, write_library
 from wire_up_tools.report.markup import escape, escape_lines
-from wire_up_tools.report.messages import explain_late, find_late, say_place
+from wire_up_tools.report.messages import explain_late, find_late
 from wire_up_tools.report.page_style import STYLE
 from wire_up_tools.report.phrases import VALUE_WIDTH, count_of, cut, describe_circle, pick
 from wire_up_tools.report.placements import Placed
+from wire_up_tools.report.places import say_around
 from wire_up_tools.report.runs import Outcome, Run, Runs
 
 # How many more causes are told in a line each, and how many steps of an order are shown.
@@ -180,16 +181,22 @@ def write_late(report: Report, finding: Finding) -> list[str]:
 def write_calls(report: Report, calls: Sequence[Call]) -> str:
     """Calls with their lines and places."""
     has_places = any(it.place for it in calls)
-    head = "<tr><th>call</th><th>in the plan</th>"
-    head += "<th>in the program</th></tr>" if has_places else "</tr>"
-    rows = []
+    heads = ["rank", "call", *["in the program"] * has_places, "in the plan"]
+    rows = ["".join(f"<th>{it}</th>" for it in heads)]
     for call in calls:
-        said = escape(say_place(report.plan, call) or words.UNKNOWN_PLACE)
-        place = f"<td>{said}</td>" if has_places else ""
-        link = link_to_call(call, f"{report.plan_name}:{call.line}")
-        named = escape(f"{call.name} {name_kind(call)}")
-        rows.append(f"<tr><td>{named}</td><td>{link}</td>{place}</tr>")
-    return f'<div class="wide" tabindex="0"><table>{head}{"".join(rows)}</table></div>'
+        cells = [escape(call.rank.name), escape(f"{call.number} {name_kind(call)}")]
+        cells += [write_place(report, call)] if has_places else []
+        cells.append(link_to_call(call, f"{report.plan_name}:{call.line}"))
+        rows.append("".join(f"<td>{it}</td>" for it in cells))
+    table = "".join(f"<tr>{it}</tr>" for it in rows)
+    return f'<div class="wide" tabindex="0"><table>{table}</table></div>'
+
+
+def write_place(report: Report, call: Call) -> str:
+    """Where in the program a call comes from, and below that who calls a helper."""
+    around = escape(say_around(report.plan, call))
+    below = f'<span class="around">{around}</span>' if around else ""
+    return f"<strong>{escape(call.place or words.UNKNOWN_PLACE)}</strong>{below}"
 
 
 def link_to_call(call: Call, said: str) -> str:
