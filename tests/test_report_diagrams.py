@@ -7,6 +7,7 @@ import report_support
 from wire_up_tools.plan import read_plan
 from wire_up_tools.report import drawing, text_drawing
 from wire_up_tools.report.diagram import LANES, ROWS, Diagram, Style
+from wire_up_tools.report.layout import lay_out
 from wire_up_tools.report.orders import find_order
 from wire_up_tools.report.wire_up_diagram import make_wire_up_diagram
 
@@ -105,7 +106,7 @@ class WireUpTest(unittest.TestCase):
         ranks[12:] = [f"{it}fence a:12,a:13\n" for it in ranks[12:]]
         diagram = make_diagram(f"rehearsal 1\n{nodes}job a\n{''.join(ranks)}")
         self.assertEqual([it.marks for it in diagram.bars], [{}])
-        self.assertNotIn('class="bar"', drawing.draw_svg(drawing.lay_out(diagram), ""))
+        self.assertNotIn('class="bar"', drawing.draw_svg(lay_out(diagram), ""))
 
 
 class DrawingTest(unittest.TestCase):
@@ -115,7 +116,7 @@ class DrawingTest(unittest.TestCase):
         for name in ("hostile", "circle", "late", "names", "star", "shapes", "cards"):
             order = find_order(read_plan(report_support.WRITTEN[name]()))
             diagram = make_wire_up_diagram(order, {it.name: None for it in order.plan.ranks})
-            svg = drawing.draw_svg(drawing.lay_out(diagram), "a <diagram>")
+            svg = drawing.draw_svg(lay_out(diagram), "a <diagram>")
             self.assertEqual(xml.etree.ElementTree.fromstring(svg).tag, "svg")
 
     def test_a_long_label_is_cut(self) -> None:

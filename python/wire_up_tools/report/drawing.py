@@ -1,6 +1,4 @@
 """Draws a diagram as SVG, with a legend of the marks that it has."""
-from collections.abc import Sequence
-
 from wire_up_tools.report.diagram import Bar, Diagram, Item, Link, Style
 from wire_up_tools.report.hovering import name_arrow, name_part, write_rules
 from wire_up_tools.report.layout import (
