@@ -31,6 +31,22 @@ function measureFigure(svg) {
     const high = Math.min(a.bottom, b.bottom) - Math.max(a.top, b.top);
     if (wide > 1 && high > 1.5) said.push(`${all[i][1]} is over ${all[j][1]}`);
   }
+  return [...said, ...findRunOver(svg, all)];
+}
+
+// The labels and the marks of other calls over which the line between two calls that race goes.
+function findRunOver(svg, all) {
+  const line = svg.querySelector(".race"), said = new Set();
+  if (!line) return said;
+  const marks = [...svg.querySelectorAll(".dot:not(.racing), .met")];
+  const taken = [...all, ...marks.map(it => [it.getBoundingClientRect(), "a call"])];
+  const onScreen = line.getScreenCTM(), half = parseFloat(getComputedStyle(line).strokeWidth) / 2;
+  for (let at = 0; at < line.getTotalLength(); at++) {
+    const {x, y} = line.getPointAtLength(at).matrixTransform(onScreen);
+    for (const [box, what] of taken)
+      if (x > box.left - half && x < box.right + half && y > box.top - half && y < box.bottom + half)
+        said.add(`the race goes over ${what}`);
+  }
   return said;
 }
 

@@ -101,14 +101,14 @@ def write_shapes() -> str:
     return "".join(f"{it}\n" for it in lines)
 
 
-def write_many_groups(keys: int, names: int) -> str:
-    """A plan in which one rank puts and publishes, and two others ask without waiting."""
+def write_many_groups(keys: int, names: int, readers: int) -> str:
+    """A plan in which one rank puts and publishes, and others ask without waiting."""
     puts = "".join(f"put global key{it} v\n" for it in range(keys))
     publishes = "".join(f"publish svc{it} v\n" for it in range(names))
     gets = "".join(f"get-now app:0 key{it}\n" for it in range(keys))
     lookups = "".join(f"lookup svc{it}\n" for it in range(names))
     owner = f"rank n0\n{puts}commit\n{publishes}"
-    return f"rehearsal 2\nnode n0\njob app\n{owner}" + f"rank n0\n{gets}{lookups}" * 2
+    return f"rehearsal 2\nnode n0\njob app\n{owner}" + f"rank n0\n{gets}{lookups}" * readers
 
 
 def write_wide() -> str:
@@ -155,6 +155,10 @@ LATE = (
     "rehearsal 1\nnode n\njob a\nrank n\nget a:0 own\npublish p 1\nrank n\nlookup-wait p\n"
     "rank n\nput global k v\nget a:1 none\nrank n\nget a:2 k\n"
 )
+FAILING = (
+    "rehearsal 1\nnode n\njob a\nrank n\n"
+    "get-now a:1 x\nget-now a:1 y\nlookup z\nrank n\nget a:0 never\n"
+)
 NAMES = (
     "rehearsal 1\nnode n\njob a\n"
     + "rank n\npublish p 1\nunpublish p\nlookup-wait p\n" * 3
@@ -167,6 +171,7 @@ WRITTEN: dict[str, Callable[[], bytes]] = {
     "hostile": lambda: HOSTILE,
     "circle": lambda: CIRCLE.encode(),
     "late": lambda: LATE.encode(),
+    "failing": lambda: FAILING.encode(),
     "names": lambda: NAMES.encode(),
     "star": lambda: STAR.encode(),
     "empty": lambda: b"rehearsal 1\n",
@@ -174,7 +179,7 @@ WRITTEN: dict[str, Callable[[], bytes]] = {
     "cards": lambda: write_cards(6, 2, 5).encode(),
     "hostile-wide": lambda: write_wide().encode(),
     "two-lanes": lambda: write_two_lanes().encode(),
-    "manygroups": lambda: write_many_groups(60, 3).encode(),
+    "manygroups": lambda: write_many_groups(500, 8, 6).encode(),
     "large": lambda: write_cards(2048, 64, 46).encode(),
     "large-fence": lambda: write_cards(2048, 64, 46, "fence all collect").encode(),
 }

@@ -116,7 +116,7 @@ class RunsTest(unittest.TestCase):
         text = f"rehearsal 1\nnode n\njob a\nrank n\n{script}" + "rank n\nfence all\n" * 99
         plan, calls = read_plan(text.encode()), read_calls(text.encode())
         kinds = [type(it).__name__ for it in plan.list_outline(plan.ranks[0])]
-        self.assertEqual(kinds, ["Call", "Call", "Run", "Call", "Call"])
+        self.assertEqual(kinds, ["Call", "Call", "Series", "Call", "Call"])
         said = [(it.name, it.words, it.line) for it in plan.calls]
         self.assertEqual(said, [(it.name, it.words, it.line) for it in calls])
         self.assertEqual(plan.call_count, len(calls))

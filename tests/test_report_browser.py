@@ -50,7 +50,8 @@ class BrowserCase(unittest.TestCase):
 @report_support.for_each_plan
 class PagesTest(BrowserCase, report_support.PlanCase):
     """A browser shows the page of each plan without a fault: no text is over another or cut for
-    nothing, the verdict is seen first, and all can be read, light and dark."""
+    nothing, no race goes over a label, the verdict is seen first, and all can be read, light and
+    dark."""
 
     def check(self, name: str) -> None:
         page = report_support.make_page(name).page
@@ -80,14 +81,19 @@ class PagesTest(BrowserCase, report_support.PlanCase):
             self.browser.take_picture(os.path.join(room, name))
 
 
-# Changes to a page, by the function that must find each, and what that must say.
-FAULTS = {
-    "measurePage(1000)": ("document.body.style.minWidth = '1500px'", "the page is"),
-    "measureColours()": ("document.querySelector('h1').style.color = '#999'", "h1 "),
-    "measureFold(700)": ("document.body.style.paddingTop = '700px'", "header h1 ends"),
-    "measureFew(9)": ("document.querySelector('svg text').style.fontSize = '8px'", "letters of"),
-    "measureFew(8)": ("document.querySelector('figure svg').style.minWidth = '1200px'", "two l"),
-}
+# Functions, with a change to a page that each must find, and what it must say.
+FAULTS = (
+    ("measurePage(1000)", "document.body.style.minWidth = '1500px'", "the page is"),
+    (
+        "measurePage(1000)",
+        "document.querySelector('.race').setAttribute('points', '16,72 125,72')",
+        "the race goes over 1 put card",
+    ),
+    ("measureColours()", "document.querySelector('h1').style.color = '#999'", "h1 "),
+    ("measureFold(700)", "document.body.style.paddingTop = '700px'", "header h1 ends"),
+    ("measureFew(9)", "document.querySelector('svg text').style.fontSize = '8px'", "letters of"),
+    ("measureFew(8)", "document.querySelector('figure svg').style.minWidth = '1200px'", "two l"),
+)
 
 
 class MeasureTest(BrowserCase):
@@ -96,11 +102,13 @@ class MeasureTest(BrowserCase):
     def test_what_is_wrong(self) -> None:
         page = report_support.make_page("early-get").page
         self.browser.resize(1000, 700)
-        for call, (change, said) in FAULTS.items():
-            self.load(page)
-            self.assertEqual(self.ask(call), [])
-            self.browser.ask(f"{change}; 0")
-            self.assertTrue(any(it.startswith(said) for it in self.ask(call)), call)
+        for call, change, said in FAULTS:
+            with self.subTest(change):
+                self.load(page)
+                self.assertEqual(self.ask(call), [])
+                self.browser.ask(f"{change}; 0")
+                found = self.ask(call)
+                self.assertTrue(any(it.startswith(said) for it in found), found)
 
 
 class PointingTest(BrowserCase):

@@ -73,9 +73,9 @@ class ManyGroupsTest(unittest.TestCase):
     def test_two_mistakes(self) -> None:
         page = report_support.read(report_support.make_page("manygroups").page)
         self.assertIn("They come from 2 mistakes.", page)
-        self.assertIn("A get-now of 60 keys (key0, key1, key2, ..) can come before", page)
-        self.assertIn("59 other keys with the same cause", page)
-        self.assertIn("A lookup of 3 names (svc0, svc1, svc2) can come before", page)
+        self.assertIn("A get-now of 500 keys (key0, key1, key2, ..) can come before", page)
+        self.assertIn("499 other keys with the same cause", page)
+        self.assertIn("A lookup of 8 names (svc0, svc1, svc2, ..) can come before", page)
 
 
 if __name__ == "__main__":

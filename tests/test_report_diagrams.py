@@ -7,6 +7,7 @@ import report_support
 from wire_up_tools.plan import read_plan
 from wire_up_tools.report import drawing, text_drawing
 from wire_up_tools.report.diagram import LANES, ROWS, Diagram, Style
+from wire_up_tools.report.layout import lay_out
 from wire_up_tools.report.orders import find_order
 from wire_up_tools.report.wire_up_diagram import make_wire_up_diagram
 
@@ -75,6 +76,12 @@ class WireUpTest(unittest.TestCase):
         self.assertEqual(labels, ["3–18 fence ×16", "1–16 fence ×16"])
         self.assertNotIn("…", drawing.draw_figure(diagram, "", "it"))
 
+    def test_barriers_in_a_row_are_one_bar(self) -> None:
+        script = "commit\n" * 15 + "# MPI: barrier\nfence all\n" * 16
+        recorded = f"# Recorded by wire_up-record on a day\n{TWO_RANKS.format(script, script)}"
+        (bar,) = make_diagram(recorded).bars
+        self.assertEqual({it.label for it in bar.marks.values()}, {"16–31 MPI_Barrier ×16"})
+
     def test_few_ranks_that_give_to_each_other_are_lanes(self) -> None:
         script = "rank n0\nput global k v\ncommit\nget a:{} k\n"
         ring = "".join(script.format((it + 1) % 4) for it in range(4))
@@ -99,7 +106,7 @@ class WireUpTest(unittest.TestCase):
         ranks[12:] = [f"{it}fence a:12,a:13\n" for it in ranks[12:]]
         diagram = make_diagram(f"rehearsal 1\n{nodes}job a\n{''.join(ranks)}")
         self.assertEqual([it.marks for it in diagram.bars], [{}])
-        self.assertNotIn('class="bar"', drawing.draw_svg(drawing.lay_out(diagram), ""))
+        self.assertNotIn('class="bar"', drawing.draw_svg(lay_out(diagram), ""))
 
 
 class DrawingTest(unittest.TestCase):
@@ -109,7 +116,7 @@ class DrawingTest(unittest.TestCase):
         for name in ("hostile", "circle", "late", "names", "star", "shapes", "cards"):
             order = find_order(read_plan(report_support.WRITTEN[name]()))
             diagram = make_wire_up_diagram(order, {it.name: None for it in order.plan.ranks})
-            svg = drawing.draw_svg(drawing.lay_out(diagram), "a <diagram>")
+            svg = drawing.draw_svg(lay_out(diagram), "a <diagram>")
             self.assertEqual(xml.etree.ElementTree.fromstring(svg).tag, "svg")
 
     def test_a_long_label_is_cut(self) -> None:

@@ -14,7 +14,7 @@ MOST = 400_000
 ELEMENTS = frozenset(
     "html head meta title style body header section div h1 h2 h3 p span a b ol ul li table tr th "
     "td details summary pre code strong figure figcaption dl dt dd svg g line circle rect polygon "
-    "text label input".split()
+    "polyline text label input".split()
 )
 GROUP_COUNT = re.compile(r'<h2>\d+\. .*<span class="count">([\d,]+) (?:race|put)')
 

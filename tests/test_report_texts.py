@@ -23,9 +23,10 @@ SAYS = {
     ),
     "closing-service": ("o 1 publish solver.port", "come from 1 mistake"),
     "recorded-ring": ("MPI_Send to 1", "MPI_Recv from 0"),
+    "ring": ("o 3 get addr <- ring:1", "o 3 get addr <- ring:2", "o 3 get addr <- ring:0"),
     "names": (
         "Only the first publish of a name holds",
-        "Put a fence between the two calls",
+        "Put a fence of both ranks between the two calls",
     ),
     "hostile": ('a&b".c:3', "The key <script>"),
     "recorded-wild1": (
@@ -34,8 +35,9 @@ SAYS = {
         "Left out: 36 gets of a wildcard rank",
         "wait for it with PMIX_WAIT",
         "A PMIx_Lookup of the name first can come before the PMIx_Publish",
-        "look_up (cases.c:30), between main (cases.c:178) and wild (cases.c:",
-        "The message that would order them is sent by app:1 afterwards (MPI_Send to 0, tag 0 at",
+        "look_up (cases.c:30), called between main (cases.c:178) and wild (cases.c:",
+        "app:1 sends a message to app:0 afterwards (MPI_Send to 0, tag 0, at wild (cases.c:39)).",
+        "Received from app:1 before the PMIx_Lookup, it would order them.",
         "MPI_Recv from 1, tag 0",
         "since it receives from any source",
     ),

@@ -14,6 +14,8 @@ FIRST_LINES = {
     "process-map": "process-map.plan: no race; 2 calls fail",
     "card-fence": "card-fence.plan: no race; 1 call fails",
     "standstill": "standstill.plan: no race; 2 ranks wait for ever",
+    "late": "late.plan: no race; 4 ranks wait for ever",
+    "failing": "failing.plan: no race; 3 calls fail, 1 rank waits for ever",
     "business-card": "business-card.plan: no race",
     "recorded-ring": "recorded-ring.plan: no race",
     "recorded-sleep": (

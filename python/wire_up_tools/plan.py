@@ -1,7 +1,7 @@
 """Reads a plan: what it declares, its calls with their places, and which calls of fences meet.
 
 A plan that is read here was taken by the checker before: nothing is judged. Of a plan with millions
-of calls only those are made that are named: many in a row that are alike stay a run of bytes.
+of calls only those are made that are named: many in a row that are alike stay a series of bytes.
 """
 import bisect
 import collections
@@ -20,7 +20,7 @@ WITHOUT_KEY = ("commit", "fence")
 WORD = re.compile(r"[^ \t]+")
 # Where a script begins, before its first line.
 RANK = re.compile(rb"\n[ \t]*rank[ \t]")
-# How many calls of a rank in a row make a run, by these verbs. A script has runs only if it has
+# How many calls of a rank in a row make a series, by these verbs. A script has one only if it has
 # none of the others: comments, words further apart, lines without words or of other kinds.
 FEWEST, ASKING = 64, (b"get", b"get-now")
 ODD = (b"#", b"\r", b"\t", b"  ", b"\n\n", b"\n ", b" \n", b"\njob ", b"\nnode ")
@@ -86,7 +86,7 @@ class Call:
 
 
 @dataclass(frozen=True, eq=False)
-class Run:
+class Series:
     """Many calls of a rank in a row, which ask other ranks for one key by one verb.
 
     They stand in these bytes of the plan, and are made when they are asked for. `first` is the
@@ -134,7 +134,7 @@ class Run:
 
 
 # What a script has in outline.
-Entry = Union[Call, Run]
+Entry = Union[Call, Series]
 
 
 @dataclass(frozen=True, eq=False)
@@ -222,7 +222,7 @@ class Scripts(Mapping[str, Sequence[Call]]):
         if name not in self.made:
             found: list[Call] = []
             for it in self.outlines[name]:
-                found += it.list_calls() if isinstance(it, Run) else [it]
+                found += it.list_calls() if isinstance(it, Series) else [it]
             self.made[name] = found
         return self.made[name]
 
@@ -239,17 +239,17 @@ class Scripts(Mapping[str, Sequence[Call]]):
         if at < 0 or number > last_of(outline[at]):
             raise LookupError(number)
         found = outline[at]
-        return found.find_call(number) if isinstance(found, Run) else found
+        return found.find_call(number) if isinstance(found, Series) else found
 
 
 def number_of(entry: Entry) -> int:
     """The number of the first call of an entry."""
-    return entry.first if isinstance(entry, Run) else entry.number
+    return entry.first if isinstance(entry, Series) else entry.number
 
 
 def last_of(entry: Entry) -> int:
     """The number of the last call of an entry."""
-    return entry.last if isinstance(entry, Run) else entry.number
+    return entry.last if isinstance(entry, Series) else entry.number
 
 
 @dataclass(frozen=True, eq=False)
@@ -284,7 +284,7 @@ class Plan:
         return self.calls_of.outlines[rank.name]
 
     def list_single(self) -> Iterator[Call]:
-        """The calls of all ranks but those of runs."""
+        """The calls of all ranks but those of series."""
         for rank in self.ranks:
             for entry in self.list_outline(rank):
                 if isinstance(entry, Call):
@@ -355,8 +355,8 @@ def read_outline(rank: Rank, data: memoryview, line: int) -> list[Entry]:
         size = sum(map(len, itertools.islice(lines, at, at + count))) + count
         said, end = lines[at].decode().split(" "), start + size
         if count >= FEWEST:
-            run = Run(rank, at + 1, line + at + 1, count, said[0], said[-1], data[start:end])
-            outline.append(run)
+            place = rank, at + 1, line + at + 1
+            outline.append(Series(*place, count, said[0], said[-1], data[start:end]))
         else:
             for it in range(at, at + count):
                 text = lines[it].decode().split(" ")

@@ -53,19 +53,19 @@ def find_causes(groups: Iterable[Group]) -> list[Cause]:
     causes = sorted(map(Cause, found.values()), key=lambda it: -it.count)
     by_kind: dict[Hashable, list[Cause]] = collections.defaultdict(list)
     for cause in causes:
-        by_kind[name_kind(cause.first)].append(cause)
+        by_kind[describe_kind(cause.first)].append(cause)
     in_turn = itertools.zip_longest(*by_kind.values())
     return [it for causes_in_turn in in_turn for it in causes_in_turn if it]
 
 
-def name_kind(finding: Finding) -> Hashable:
+def describe_kind(finding: Finding) -> Hashable:
     """What kind a finding is: also by its verbs."""
     return finding.kind, *finding.verbs
 
 
 def name_cause(finding: Finding) -> Hashable:
     """What findings of one cause have alike."""
-    kind, calls = name_kind(finding), finding.calls
+    kind, calls = describe_kind(finding), finding.calls
     if finding.kind is Kind.KEY:
         bringer = next(it for it in calls if it.verb == finding.bringer)
         return kind, bringer.place or bringer.name

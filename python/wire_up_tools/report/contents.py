@@ -22,8 +22,9 @@ from wire_up_tools.report.waits import Wait, find_circle, find_waits
 from wire_up_tools.report.wire_up_diagram import make_wire_up_diagram
 from wire_up_tools.run.libraries.judging import Judged
 
-# How many causes are told in full, and of two runs how many calls that end differently.
-CAUSES, ENDINGS = 40, 8
+# How many causes are told in full, and how many more in a line each; and of two runs how many calls
+# that end differently.
+CAUSES, MORE_CAUSES, ENDINGS = 40, 400, 8
 
 
 @dataclass(frozen=True, eq=False)

@@ -160,13 +160,13 @@ def label_call(call: Call) -> str:
 def make_bars(order: Order, lanes: Mapping[str, int], meetings: Iterable[Meeting]) -> list[Bar]:
     """The bars of fences over the lanes of their members, by the names of the ranks."""
     rows = {row_of_meeting(order, it): it for it in meetings}
-    runs: list[list[Meeting]] = []
+    in_rows: list[list[Meeting]] = []
     for row in sorted(rows):
-        if runs and is_next(runs[-1][-1], rows[row], lanes):
-            runs[-1].append(rows[row])
+        if in_rows and is_next(in_rows[-1][-1], rows[row], lanes):
+            in_rows[-1].append(rows[row])
         else:
-            runs.append([rows[row]])
-    bars = [Bar(row_of_meeting(order, it[0]), make_marks(it, lanes)) for it in runs]
+            in_rows.append([rows[row]])
+    bars = [Bar(row_of_meeting(order, it[0]), make_marks(it, lanes)) for it in in_rows]
     return [it for it in bars if it.marks]
 
 

@@ -15,14 +15,16 @@ BY_HAND = {
     "lookup": "lookup",
     "lookup_wait": "lookup-wait",
     "use_get": "Use get in place of get-now",
-    "use_wait": "wait for it, by lookup-wait in place of lookup",
+    "use_wait": "wait for it, by lookup-wait in place of lookup. This orders the two calls",
+    "fence": "a fence",
 }
 IN_PROGRAM = {
     "get_now": "PMIx_Get with PMIX_IMMEDIATE or PMIX_OPTIONAL",
     "lookup": "PMIx_Lookup",
     "lookup_wait": "PMIx_Lookup with PMIX_WAIT",
     "use_get": "Leave out PMIX_IMMEDIATE and PMIX_OPTIONAL",
-    "use_wait": "wait for it with PMIX_WAIT",
+    "use_wait": "wait for it with PMIX_WAIT, or put a barrier of both ranks between the two calls",
+    "fence": "a barrier or PMIx_Fence",
 }
 
 MEANING_OF_REWRITE = (
@@ -73,20 +75,20 @@ FIX_OF_KEY = {
         "make its rank a member, and let it ask after the fence."
     ),
     "get": (
-        "{use_get}; or let both ranks of the node meet in a fence after the get, "
+        "{use_get}; or let both ranks of the node meet in {fence} after the get, "
         "and let the reader ask after it."
     ),
     "commit": (
         "Let the reader wait for something that can't come before the commit. {use_get}; "
-        "or put a fence of both ranks between them; "
+        "or put {fence} of both ranks between them; "
         "or get another key of the same commit first."
     ),
 }
 FIX_BY_WAITING = (
-    "The name is published once and never taken away: {use_wait}. This orders the two calls."
+    "The name is published once and never taken away: {use_wait}."
 )
 FIX_BY_FENCE = (
-    "Put a fence between the two calls, of both ranks: "
+    "Put {fence} of both ranks between the two calls: "
     "the name is published more than once or taken away again, so that no wait for it orders them."
 )
 
@@ -101,9 +103,11 @@ def title(finding: Finding, abouts: Sequence[str] = ()) -> str:
     if finding.kind is Kind.REWRITE:
         return f"{what[0].upper()}{what[1:]} {'are' if has_many else 'is'} put again"
     if finding.kind is Kind.KEY:
-        bringer, get = (name_verb(it, recorded) for it in (finding.bringer, "get-now"))
-        brings = f"the {bringer} that brings {'them' if has_many else 'it'}"
-        return f"A {get} of {what} can come before {brings}"
+        bringer = name_verb(finding.bringer, recorded)
+        early = f"can come before the {bringer} that brings {'them' if has_many else 'it'}"
+        if recorded:
+            return f"A {name_verb('get', recorded)} of {what} doesn't wait, and {early}"
+        return f"A get-now of {what} {early}"
     if one in LOOKUPS and other == "publish":
         article = "the" if one == "lookup" else "a"
         return f"A {said} of {what} can come before {article} {said_too}"

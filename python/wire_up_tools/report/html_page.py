@@ -4,30 +4,28 @@ The page loads nothing and runs no script, whatever a plan holds.
 """
 import datetime
 import itertools
-from collections.abc import Iterable, Sequence
+from collections.abc import Sequence
 
 from wire_up_tools import words
 from wire_up_tools.plan import Call
 from wire_up_tools.report import explaining, verdict
 from wire_up_tools.report.causes import Cause
-from wire_up_tools.report.contents import ENDINGS, Detail, Report, WireUp
+from wire_up_tools.report.contents import ENDINGS, MORE_CAUSES, Detail, Report, WireUp
 from wire_up_tools.report.drawing import draw_figure
 from wire_up_tools.report.findings import PAIRS, Finding, Group, Kind
 from wire_up_tools.report.language import name_kind
-from wire_up_tools.report.library_page import list_shown, write_library
+from wire_up_tools.report.library_page import write_library
 from wire_up_tools.report.markup import escape, escape_lines
-from wire_up_tools.report.messages import explain_late, find_late, say_place
+from wire_up_tools.report.messages import explain_late, find_late
 from wire_up_tools.report.page_style import STYLE
 from wire_up_tools.report.phrases import VALUE_WIDTH, count_of, cut, describe_circle, pick
 from wire_up_tools.report.placements import Placed
+from wire_up_tools.report.places import say_around
+from wire_up_tools.report.plan_page import write_plan
 from wire_up_tools.report.runs import Outcome, Run, Runs
 
-# How many more causes are told in a line each, and how many steps of an order are shown.
-MORE_CAUSES, STEPS = 400, 2000
-# A plan of more lines is cut to what is named, with so many lines around it.
-WHOLE_PLAN, AROUND = 400, 2
-# How many characters of a line of the plan are shown.
-LINE_WIDTH = 160
+# How many steps of an order are shown.
+STEPS = 2000
 
 HEAD = """<!DOCTYPE html>
 <html lang="en">
@@ -180,16 +178,22 @@ def write_late(report: Report, finding: Finding) -> list[str]:
 def write_calls(report: Report, calls: Sequence[Call]) -> str:
     """Calls with their lines and places."""
     has_places = any(it.place for it in calls)
-    head = "<tr><th>call</th><th>in the plan</th>"
-    head += "<th>in the program</th></tr>" if has_places else "</tr>"
-    rows = []
+    heads = ["rank", "call", *["in the program"] * has_places, "in the plan"]
+    rows = ["".join(f"<th>{it}</th>" for it in heads)]
     for call in calls:
-        said = escape(say_place(report.plan, call) or words.UNKNOWN_PLACE)
-        place = f"<td>{said}</td>" if has_places else ""
-        link = link_to_call(call, f"{report.plan_name}:{call.line}")
-        named = escape(f"{call.name} {name_kind(call)}")
-        rows.append(f"<tr><td>{named}</td><td>{link}</td>{place}</tr>")
-    return f'<div class="wide" tabindex="0"><table>{head}{"".join(rows)}</table></div>'
+        cells = [escape(call.rank.name), escape(f"{call.number} {name_kind(call)}")]
+        cells += [write_place(report, call)] if has_places else []
+        cells.append(link_to_call(call, f"{report.plan_name}:{call.line}"))
+        rows.append("".join(f"<td>{it}</td>" for it in cells))
+    table = "".join(f"<tr>{it}</tr>" for it in rows)
+    return f'<div class="wide" tabindex="0"><table>{table}</table></div>'
+
+
+def write_place(report: Report, call: Call) -> str:
+    """Where in the program a call comes from, and below that who calls a helper."""
+    around = escape(say_around(report.plan, call))
+    below = f'<span class="around">{around}</span>' if around else ""
+    return f"<strong>{escape(call.place or words.UNKNOWN_PLACE)}</strong>{below}"
 
 
 def link_to_call(call: Call, said: str) -> str:
@@ -324,64 +328,3 @@ def write_waits(wire_up: WireUp) -> str:
     parts = [f"<section><h2>{title}</h2>"]
     parts += [f'<p class="part">In a circle: {circle}.</p>'] if circle else []
     return "\n".join([*parts, f"<ul>{rows}</ul>{more}</section>"])
-
-
-# --- the plan ---
-
-
-def write_plan(report: Report) -> str:
-    """The plan, whole where it is short, else what is named and what stands around it."""
-    lines, named = report.plan.lines, find_named(report)
-    shown = choose_lines(len(lines), named)
-    cut_to = f"cut to what is named: {len(shown):,} of {len(lines):,} lines"
-    count = f" {write_count(cut_to)}" if len(lines) > WHOLE_PLAN else ""
-    title = "The counterexample" if report.pattern else "The plan"
-    parts = [f'<section class="long"><h2>{title}{count}</h2><div class="plan mono">']
-    before = 0
-    for number in shown:
-        parts += write_left_out(number - before - 1)
-        parts.append(write_plan_line(number, lines[number - 1], number in named))
-        before = number
-    parts += write_left_out(len(lines) - before)
-    return "\n".join([*parts, "</div></section>"])
-
-
-def find_named(report: Report) -> set[int]:
-    """The lines of the plan to which the page has links."""
-    calls = [it.call for it in report.waits[:PAIRS]]
-    calls += [it.call for it in (report.wire_up.failures if report.wire_up else ())]
-    found = set(report.wire_up.diagram.lines if report.wire_up else ())
-    for detail in report.details:
-        found |= detail.diagram.lines
-        group, alike = detail.cause.group, detail.cause.groups[: PAIRS + 1]
-        findings = (*(it.first for it in alike), *group.others)
-        calls += (call for it in findings for call in it.calls)
-    for placed in report.elsewhere.placed if report.elsewhere else ():
-        calls += placed.cause.first.calls
-        found |= placed.diagram.lines
-    calls += (call for it in report.others[:MORE_CAUSES] for call in it.first.calls)
-    calls += (it for it, _ in list_shown(report.judged, report.plan)) if report.judged else ()
-    return found.union(it.line for it in calls)
-
-
-def choose_lines(count: int, named: Iterable[int]) -> Sequence[int]:
-    """The lines to show of so many: all of a short plan."""
-    if count <= WHOLE_PLAN:
-        return range(1, count + 1)
-    near = {it for line in named for it in range(line - AROUND, line + AROUND + 1)}
-    return sorted(it for it in near if 1 <= it <= count)
-
-
-def write_left_out(count: int) -> list[str]:
-    """How many lines are left out, if any."""
-    return [f'<div class="cut"><b>…</b>{count_of(count, "line")}</div>'] if count > 0 else []
-
-
-def write_plan_line(number: int, line: str, is_named: bool) -> str:
-    """A line of the plan. A long one is cut, and has its whole as a title."""
-    said = line.split()
-    kind = "said" if said and said[0].startswith("#") else ""
-    kind = "named" if is_named else kind
-    title = f' title="{escape(line)}"' if len(line) > LINE_WIDTH else ""
-    shown = f"<b>{number}</b>{escape(cut(line, LINE_WIDTH))}"
-    return f'<div id="line-{number}" class="{kind}"{title}>{shown}</div>'

@@ -1,12 +1,12 @@
 """The message that would order two calls that race, and comes too late for that."""
-import itertools
-from collections.abc import Iterable, Sequence
+from collections.abc import Sequence
 from dataclasses import dataclass
 from typing import Optional
 
 from wire_up_tools.plan import Call, Plan
 from wire_up_tools.report.findings import Finding
 from wire_up_tools.report.language import find_message, is_from_any, name_kind
+from wire_up_tools.report.places import list_later, say_at
 
 
 @dataclass(frozen=True)
@@ -34,42 +34,13 @@ def find_late(plan: Plan, finding: Finding) -> Optional[Late]:
     return None
 
 
-def list_later(plan: Plan, call: Call) -> Iterable[Call]:
-    """The calls of a rank after one of them."""
-    return itertools.islice(plan.calls_of[call.rank.name], call.number, None)
-
-
 def explain_late(late: Late) -> str:
     """How the message would order the calls, and why it doesn't."""
-    sent, received = late.sent, late.received
-    at = f" at {sent.place}" if sent.place else ""
+    sent, received, before = late.sent, late.received, name_kind(late.before)
+    sender, receiver = sent.rank.name, received.rank.name
     why = ", since it receives from any source" if is_from_any(received) else ""
     return (
-        f"The message that would order them is sent by {sent.rank.name} afterwards "
-        f"({name_kind(sent)}{at}). {late.before.rank.name} surely has it only at its call "
-        f"{received.number}, after {name_kind(late.before)}{why}."
+        f"{sender} sends a message to {receiver} afterwards ({name_kind(sent)}{say_at(sent)}). "
+        f"But {receiver} surely has it only at its call {received.number}{say_at(received)}, after "
+        f"the {before}{why}. Received from {sender} before the {before}, it would order them."
     )
-
-
-def find_places_near(plan: Plan, call: Call) -> list[Call]:
-    """The calls before and after a call of which the place is another: where a helper is called
-    from shows there."""
-    if not call.place:
-        return []
-    earlier = list(itertools.islice(plan.calls_of[call.rank.name], call.number - 1))
-    before = next((it for it in reversed(earlier) if is_else(it, call)), None)
-    after = next((it for it in list_later(plan, call) if is_else(it, call)), None)
-    return [it for it in (before, after) if it]
-
-
-def is_else(one: Call, other: Call) -> bool:
-    """Whether a call has a place that isn't that of another."""
-    return one.place is not None and one.place != other.place
-
-
-def say_place(plan: Plan, call: Call) -> str:
-    """Where in the program a call comes from, and between which places it is called."""
-    near = [it.place for it in find_places_near(plan, call)]
-    if len(near) < 2:
-        return call.place or ""
-    return f"{call.place}, between {near[0]} and {near[1]}"

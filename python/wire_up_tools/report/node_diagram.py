@@ -6,7 +6,7 @@ import bisect
 import collections
 from collections.abc import Sequence
 
-from wire_up_tools.plan import Call, Entry, Meeting, Run
+from wire_up_tools.plan import Call, Entry, Meeting, Series
 from wire_up_tools.report.diagram import (
     LANES,
     Bar,
@@ -68,7 +68,7 @@ def make_items(order: Order, lanes: dict[str, int], fences: Sequence[Row]) -> li
 
 def find_first(entry: Entry) -> tuple[Call, int]:
     """The first call of an entry, and how many it has."""
-    if isinstance(entry, Run):
+    if isinstance(entry, Series):
         return entry.find_call(entry.first), entry.count
     return entry, 1
 

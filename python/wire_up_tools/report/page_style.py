@@ -32,7 +32,7 @@ header:is(.waits,.fails,.partly){border-left-color:var(--wait)}\
 table{border-collapse:collapse;margin:.4rem 0}
 th,td{text-align:left;vertical-align:top;padding:.15rem 1.2rem .15rem 0;font-weight:400;\
 white-space:nowrap}\
-th{color:var(--soft)}
+th,.around{color:var(--soft)}.around{display:block;white-space:normal}
 @media (max-width:40rem){body{padding:.5rem}:is(header,section){padding:.6rem}\
 tr:first-child{display:none}tr{display:block;margin-bottom:.5rem}\
 td{display:block;padding:0}}
@@ -70,7 +70,7 @@ svg text.unreached{fill:var(--soft)}.never{stroke-dasharray:3 3}
 circle.racing{fill:var(--loud)}rect.waiting{fill:var(--wait);stroke:var(--ink)}
 .arrow{stroke:var(--ink);stroke-width:1.2}.tip{fill:var(--ink)}\
 figure:has(style):has(.at:is(:hover,:focus-within)) :is(.at,.way){opacity:.25}\
-.race{stroke:var(--loud);stroke-width:3.5;stroke-dasharray:7 5}
+.race{fill:none;stroke-linejoin:round;stroke:var(--loud);stroke-width:3.5;stroke-dasharray:7 5}
 @media print{:root{--paper:#fff;--card:#fff;--ink:#000;--soft:#333;--line:#999;--loud:#000;\
 --loud-ink:#000;--quiet:#000;--wait:#fff;--good:#000}
 .wide{overflow:visible;background:none}svg{max-width:100%;height:auto}.zoom{display:none}\

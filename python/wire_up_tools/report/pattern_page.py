@@ -1,11 +1,12 @@
 """Writes what is told of a pattern without findings: as a page of HTML, and as text."""
 import datetime
 
-from wire_up_tools.report.html_page import FOOT, HEAD, LINE_WIDTH, write_plan_line
+from wire_up_tools.report.html_page import FOOT, HEAD
 from wire_up_tools.report.markup import escape
 from wire_up_tools.report.page_style import STYLE
 from wire_up_tools.report.patterns import CleanPattern, Waiting, explain_clean, say_clean
 from wire_up_tools.report.phrases import count_of, cut
+from wire_up_tools.report.plan_page import LINE_WIDTH, write_plan_line
 from wire_up_tools.report.terminal_text import write_lines
 
 # How many lines of a pattern are shown.

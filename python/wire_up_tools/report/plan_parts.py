@@ -2,14 +2,14 @@
 
 A get that doesn't wait changes nothing for other calls. So where nothing is found, each call has
 the same reply in a plan without some such gets: a part has all other calls, and a part of the gets
-of each long run.
+of each long series.
 """
 import bisect
 from collections.abc import Iterator, Mapping, Sequence
 from dataclasses import dataclass
 from typing import Optional
 
-from wire_up_tools.plan import Call, Plan, Rank, Run
+from wire_up_tools.plan import Call, Plan, Rank, Series
 
 # About how many bytes of gets a part has.
 PART_BYTES = 16 << 20
@@ -53,7 +53,7 @@ def list_parts(plan: Plan, data: bytes) -> Iterator[PlanPart]:
 def count_bytes(plan: Plan) -> int:
     """How many bytes of the plan are gets that parts can leave out."""
     entries = (entry for rank in plan.ranks for entry in plan.list_outline(rank))
-    return sum(len(it.data) for it in entries if isinstance(it, Run) and it.verb == AT_ONCE)
+    return sum(len(it.data) for it in entries if isinstance(it, Series) and it.verb == AT_ONCE)
 
 
 def make_part(plan: Plan, number: int, count: int) -> PlanPart:
@@ -92,15 +92,15 @@ class Script:
             else:
                 self.add(entry.first, entry.count, self.number == 0, bytes(entry.data))
 
-    def add_cut(self, run: Run) -> None:
-        """Writes the gets of a run that belong to this part."""
-        text = bytes(run.data)
+    def add_cut(self, series: Series) -> None:
+        """Writes the gets of a series that belong to this part."""
+        text = bytes(series.data)
         start, end = (self.find_cut(text, it) for it in (self.number, self.number + 1))
         before = text.count(b"\n", 0, start)
-        self.add(run.first + before, text.count(b"\n", start, end), True, text[start:end])
+        self.add(series.first + before, text.count(b"\n", start, end), True, text[start:end])
 
     def find_cut(self, text: bytes, number: int) -> int:
-        """Where the gets of a part begin among all of a run: with a line."""
+        """Where the gets of a part begin among all of a series: with a line."""
         at = len(text) * number // self.count
         return text.rfind(b"\n", 0, at) + 1 if at < len(text) else at
 

@@ -2,7 +2,7 @@
 import itertools
 from collections.abc import Iterator, Mapping, Sequence
 
-from wire_up_tools.plan import Call, Plan, Rank, Run
+from wire_up_tools.plan import Call, Plan, Rank, Series
 from wire_up_tools.report.chains import find_chain
 from wire_up_tools.report.diagram import (
     LANES,
@@ -53,24 +53,32 @@ def make_race_diagram(finding: Finding, search: Search, order: Order) -> Diagram
 
 def list_calls(finding: Finding, search: Search, order: Order) -> list[Call]:
     """The calls to show, those first that matter most."""
-    found = [*finding.calls]
     if finding.kind is Kind.REWRITE:
-        found += list_around_rewrite(finding, order)
-    elif finding.kind is Kind.KEY:
+        found = [*finding.calls, *list_around_rewrite(finding, order)]
+    else:
+        found = [*finding.calls, *list_around_race(finding, search, order)]
+    return list(dict.fromkeys([*found, *list_near(finding, order.plan)]))
+
+
+def list_near(finding: Finding, plan: Plan) -> Iterator[Call]:
+    """The calls of a finding, with those right before and after them."""
+    for call in finding.calls:
+        start, end = max(call.number - BEFORE - 1, 0), call.number + AFTER
+        yield from plan.calls_of[call.rank.name][start:end]
+
+
+def list_around_race(finding: Finding, search: Search, order: Order) -> list[Call]:
+    """What brings what a race is about, the message that comes too late to order its calls, and the
+    chains that lead to them."""
+    found: list[Call] = []
+    if finding.kind is Kind.KEY:
         found += list_around_key(finding, order)
     else:
         found += order.uses.publishes.get(finding.about, ())[:PUBLISHES]
-    late = find_late(order.plan, finding) if finding.kind is not Kind.REWRITE else None
+    late = find_late(order.plan, finding)
     found += late.calls if late else []
-    if finding.kind is not Kind.REWRITE:
-        found += list_chain(search, order, finding.first, finding.second)
-        found += list_chain(search, order, finding.second, finding.first)
-    for call in finding.calls:
-        calls = order.plan.calls_of[call.rank.name]
-        start, end = max(call.number - BEFORE - 1, 0), call.number + AFTER
-        near = calls[start:end]
-        found += [it for it in near if it not in found]
-    return list(dict.fromkeys(found))
+    found += list_chain(search, order, finding.first, finding.second)
+    return [*found, *list_chain(search, order, finding.second, finding.first)]
 
 
 def list_around_rewrite(finding: Finding, order: Order) -> list[Call]:
@@ -86,7 +94,7 @@ def list_gets(plan: Plan, owner: str, key: str) -> Iterator[Call]:
         for entry in plan.list_outline(rank):
             if entry.verb not in ("get", "get-now") or entry.about != key:
                 continue
-            calls = entry.list_calls() if isinstance(entry, Run) else [entry]
+            calls = entry.list_calls() if isinstance(entry, Series) else [entry]
             yield from (it for it in calls if it.target == owner)
 
 

@@ -9,9 +9,10 @@ from wire_up_tools.report.findings import PAIRS, Kind
 from wire_up_tools.report.language import name_kind
 from wire_up_tools.report.library_page import say_library, write_library_text
 from wire_up_tools.report.markup import REPLACEMENT
-from wire_up_tools.report.messages import explain_late, find_late, say_place
+from wire_up_tools.report.messages import explain_late, find_late
 from wire_up_tools.report.phrases import VALUE_WIDTH, count_of, cut, describe_circle
 from wire_up_tools.report.placements import Placed
+from wire_up_tools.report.places import say_place
 from wire_up_tools.report.runs import Outcome, Run, Runs
 from wire_up_tools.report.text_drawing import draw_lines
 

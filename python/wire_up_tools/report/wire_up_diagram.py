@@ -10,7 +10,7 @@ from collections.abc import Hashable, Mapping, Sequence
 from dataclasses import dataclass
 from typing import Optional
 
-from wire_up_tools.plan import Call, Entry, Meeting, Plan, Rank, Run
+from wire_up_tools.plan import Call, Entry, Meeting, Plan, Rank, Series
 from wire_up_tools.report.diagram import (
     LANES,
     ROWS,
@@ -121,8 +121,8 @@ def find_shape(plan: Plan, rank: Rank) -> Sequence[Step]:
 
 
 def find_step(plan: Plan, entry: Entry) -> Step:
-    """What a call, or a run of them, has alike with those of other ranks of its shape."""
-    if isinstance(entry, Run):
+    """What a call, or a series of them, has alike with those of other ranks of its shape."""
+    if isinstance(entry, Series):
         return Step(entry.verb, None, re.sub(r"\d+", "#", entry.about), "other")
     call, meeting = entry, plan.meeting_of.get(entry)
     key = "" if meeting else re.sub(r"\d+", "#", call.about)
