@@ -339,13 +339,16 @@ module _ (s : Scripts) (everywhere : IsSettledAnywhere (plan_of s)) (p c : ℕ) 
 
           shown : (b : Bool) → admits (scope_of (other names nodes) owner.number stands.put) true ≡ b → IsToldByFew s p c status
           shown true is = inr (inl (subst (IsAnsweredWith (placed s []) p c) (ap shown_status is ∙ sym f) near_is))
-          shown false is = inr (inr (f, record {
-            outside = subst (IsAnsweredWith (placed s []) p c) (ap shown_status is) near_is;
-            rank = owner.number;
-            within = low;
-            found = subst (IsAnsweredWith (placed s (owner.number ∷ [])) p c) f
-                (answered_so names nodes a at (with_second s.nodes) (node_beside (owner.number ∷ [])) status (value_away ne away d delivers none f low));
-          }))
+          shown false is = inr (inr (
+            f,
+            record {
+              outside = subst (IsAnsweredWith (placed s []) p c) (ap shown_status is) near_is;
+              rank = owner.number;
+              within = low;
+              found = subst (IsAnsweredWith (placed s (owner.number ∷ [])) p c) f
+                  (answered_so names nodes a at (with_second s.nodes) (node_beside (owner.number ∷ [])) status (value_away ne away d delivers none f low));
+            },
+          ))
 
     plain_tells : (names : List (List ℕ)) (nodes : ℕ → ℕ) → IsOneANode (plan_of s) → (status : Status) → IsAnsweredWith (there names nodes) p c status → IsToldByFew s p c status
     plain_tells names nodes one status h =

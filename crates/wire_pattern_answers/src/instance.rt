@@ -202,12 +202,7 @@ fn tell_each(
 }
 
 /// Tells the answers of an instance with each of its ranks on a node of its own.
-fn tell_apart(
-    told: &mut Told,
-    alloc: Global,
-    pattern: &Pattern,
-    cast: &Cast,
-) -> Result<(), Fault>
+fn tell_apart(told: &mut Told, alloc: Global, pattern: &Pattern, cast: &Cast) -> Result<(), Fault>
     requires { IsFewCast pattern.now (cast_by cast.now) }
     ensures ok { OnOk result (AreToldToo told.old told.new
         (IsAnsweredByOne pattern.now (cast_by cast.now) (length (cast_of (cast_by cast.now)).roles))) }

@@ -30,7 +30,7 @@ pub returns-clause-ok : goal.returns-clause-ok
 returns-clause-ok c = λ role line status three.
     let end = c.loop-selection-test.false in
     let told = all_before c.args.pattern.now (λ s. AnswersIn c.args.pattern.now s role line status) c.args.all.now c.loop-selection.selection-index
-        (is_told c.loop-selection.told role line status) c.requires.all (omega (arith, end)) (c.loop-selection.invariant role line status three) in (
+    (is_told c.loop-selection.told role line status) c.requires.all (omega (arith, end)) (c.loop-selection.invariant role line status three) in (
       (λ h. let w = told.0 h in record { number = w.number; selection = w.selection; is = w.is; answers = w.holds }),
       (λ w. told.1 (record { number = w.number; selection = w.selection; is = w.is; holds = w.answers })),
     )

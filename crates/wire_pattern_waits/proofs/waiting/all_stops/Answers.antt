@@ -35,7 +35,7 @@ pub returns-clause-ok : goal.returns-clause-ok
 returns-clause-ok c = λ role line.
     let end = c.loop-selection-test.false in
     let told = all_before c.args.pattern.now (λ s. StopsIn c.args.pattern.now s role line) c.args.all.now c.loop-selection.selection-index
-        (has_line c.loop-selection.noted role line) c.requires.all (omega (arith, end)) (c.loop-selection.invariant role line) in (
+    (has_line c.loop-selection.noted role line) c.requires.all (omega (arith, end)) (c.loop-selection.invariant role line) in (
       (λ h. let w = told.0 h in record { number = w.number; selection = w.selection; is = w.is; stops = w.holds }),
       (λ w. told.1 (record { number = w.number; selection = w.selection; is = w.is; holds = w.stops })),
     )
