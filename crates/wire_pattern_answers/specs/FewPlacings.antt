@@ -24,8 +24,8 @@ pub record IsAnsweredWith (scripts : Scripts) (process call : ℕ) (status : Sta
   pub is : slice_get (slice_index_or (plain_ends scripts).rows process []) call ≡ Some (Replied reply)
   pub has : reply.status ≡ status
 
--- with all processes on one node it exists outside its scope, and with one of them on a node of its own and all others on
--- another it is answered with success
+-- with all processes on one node it exists outside its scope, and with one of them on a node of its own and all others
+-- on another it is answered with success
 pub record IsFoundOutside (scripts : Scripts) (process call : ℕ) : Type 0 where
   pub outside : IsAnsweredWith (placed scripts []) process call ExistsOutsideScope
   pub rank : ℕ

@@ -212,8 +212,8 @@ fn tell_apart(told: &mut Told, alloc: Global, pattern: &Pattern, cast: &Cast) ->
     tell_each(told, alloc, pattern, cast, count)
 }
 
-/// Tells the answers of an instance with all ranks on one node. Where that leaves it open whether a key is found outside
-/// its scope, also those with each rank on a node of its own.
+/// Tells the answers of an instance with all ranks on one node. Where that leaves it open whether a key is found
+/// outside its scope, also those with each rank on a node of its own.
 fn tell_together(
     told: &mut Told,
     alloc: Global,
