@@ -5,7 +5,9 @@ pub mod Same
 pub mod Placed
 pub mod Walks
 pub mod Noted
-pub mod Told
+pub mod ReadOnce
+pub mod Tellings
+pub mod Statuses
 pub mod Settled
 pub mod Selected
 pub mod OfLines

@@ -1,5 +1,5 @@
--- What is noted of the get-now lines of a pattern are their answers.
-use Rattle.std.proofs.Common.{◌≡◌, ◌∙◌, ap, sym, subst, refl, ℕ, List, [], ◌∷◌, map, length, true, ◌==◌, Some, eqb-true, arith}
+-- What is told of the get-now lines of a pattern are their answers.
+use Rattle.std.proofs.Common.{◌≡◌, ◌∙◌, ap, sym, subst, refl, ℕ, List, [], ◌∷◌, map, length, true, ◌==◌, Some, inl, inr, eqb-true, arith}
 use Rattle.std.specs.Prelude.{slice_get}
 use Rattle.wire_types.specs.declared.Status.{Status}
 use Rattle.wire_types.specs.declared.Status.TheVariants.{Success, NotFound, ExistsOutsideScope}
@@ -7,11 +7,11 @@ use Rattle.wire_runs.proofs.Lists.{slice_get-map_back}
 use Rattle.wire_pattern.specs.Pattern.{Pattern}
 use Rattle.wire_pattern_waits.specs.declared.CallLine.{CallLine}
 use Rattle.wire_pattern_answers.specs.declared.answers.LineAnswers.{LineAnswers}
-use Rattle.wire_pattern_answers.specs.declared.notes.Note.{Note}
+use Rattle.wire_pattern_answers.specs.declared.told.Told.{Told}
 use Rattle.wire_pattern_answers.specs.FewPlacings.{IsOfThree}
 use Rattle.wire_pattern_answers.specs.Answers.{Answers, AreOfLine, AreAnswers}
 use Rattle.wire_pattern_answers.specs.Lines.{get_now_lines}
-use Rattle.wire_pattern_answers.specs.Notes.{AreNoted, noted_of}
+use Rattle.wire_pattern_answers.specs.Notes.{AreTold, told_of}
 
 -- an empty list
 pub no_lines : (lines : List CallLine) (count : ℕ) → count ≡ length lines → (count == 0) ≡ true → [] ≡ lines
@@ -25,23 +25,23 @@ none_are p none = record { lines = none; each = λ n answers at. none_there n an
     none_there : (n : ℕ) (answers : LineAnswers) → slice_get [] n ≡ Some answers → AreOfLine p answers
     none_there n answers at = cc
 
-lines_kept : (notes : List Note) (lines : List CallLine) → map (λ (answers : LineAnswers). answers.line) (map (noted_of notes) lines) ≡ lines
-lines_kept notes [] = refl
-lines_kept notes (line ∷ lines) = ap (λ ls. line ∷ ls) (lines_kept notes lines)
+lines_kept : (told : Told) (lines : List CallLine) → map (λ (answers : LineAnswers). answers.line) (map (told_of told) lines) ≡ lines
+lines_kept told [] = refl
+lines_kept told (line ∷ lines) = ap (λ ls. line ∷ ls) (lines_kept told lines)
 
-pub answers_are : (p : Pattern) (notes : List Note) (lines : List CallLine) (all : List LineAnswers) → all ≡ map (noted_of notes) lines → lines ≡ get_now_lines p
-    → AreNoted notes (Answers p) → ((role line : ℕ) (status : Status) → Answers p role line status → IsOfThree status) → AreAnswers p all
-answers_are p notes lines all by are told three = record {
-  lines = ap (map (λ (answers : LineAnswers). answers.line)) by ∙ lines_kept notes lines ∙ are;
+pub answers_are : (p : Pattern) (told : Told) (lines : List CallLine) (all : List LineAnswers) → all ≡ map (told_of told) lines → lines ≡ get_now_lines p
+    → AreTold told (Answers p) → ((role line : ℕ) (status : Status) → Answers p role line status → IsOfThree status) → AreAnswers p all
+answers_are p told lines all by are those three = record {
+  lines = ap (map (λ (answers : LineAnswers). answers.line)) by ∙ lines_kept told lines ∙ are;
   each = λ n answers at.
-      let v = slice_get-map_back (noted_of notes) lines n answers (ap (λ xs. slice_get xs n) (sym by) ∙ at) in
+      let v = slice_get-map_back (told_of told) lines n answers (ap (λ xs. slice_get xs n) (sym by) ∙ at) in
       subst (AreOfLine p) v.2 (of_line v.0);
 }
   where
-    of_line : (line : CallLine) → AreOfLine p (noted_of notes line)
+    of_line : (line : CallLine) → AreOfLine p (told_of told line)
     of_line line = record {
-      success = told line.role line.number Success;
-      not_found = told line.role line.number NotFound;
-      outside = told line.role line.number ExistsOutsideScope;
+      success = those line.role line.number Success (inl refl);
+      not_found = those line.role line.number NotFound (inr (inl refl));
+      outside = those line.role line.number ExistsOutsideScope (inr (inr refl));
       no_other = three line.role line.number;
     }

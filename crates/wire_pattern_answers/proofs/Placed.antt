@@ -1,9 +1,9 @@
 -- A get-now is answered on all nodes as it is on a few placings.
-use Rattle.std.proofs.Common.{◌≡◌, ◌∙◌, ap, sym, subst, refl, ℕ, ◌<◌, ◌≤◌, List, [], ◌∷◌, Bool, true, false, length, Option, Some, None, inl, inr, arith, eq-eqb, ne_eqb, eqb-true}
+use Rattle.std.proofs.Common.{◌≡◌, ◌∙◌, ap, sym, subst, refl, ℕ, suc, ◌+◌, ◌<◌, ◌≤◌, ◌⊎◌, List, [], ◌∷◌, Bool, true, false, length, Option, Some, None, inl, inr, arith, eq-eqb, ne_eqb, eqb-true, zero-add}
 use Rattle.std.specs.Prelude.{slice_get, nat_lt, codes, ◌==◌, if◌then◌else◌}
 use Rattle.std.specs.Str.{bytes_eq}
 use Rattle.std.proofs.Math.Bool.{beq}
-use Rattle.std.proofs.lemmas.Bool.{cond-true, cond-false, or_cases, cases_Bool, cases_lt, true≢false}
+use Rattle.std.proofs.lemmas.Bool.{cond-true, cond-false, or_cases, cases_Bool, cases_eq, cases_lt, true≢false}
 use Rattle.std.proofs.lemmas.List.{length-map}
 use Rattle.std.proofs.lemmas.Option.{slice_get_within, slice_get_past}
 use Rattle.wire_types.specs.declared.Call.{Call}
@@ -12,19 +12,21 @@ use Rattle.wire_types.specs.declared.Proc.{Proc}
 use Rattle.wire_types.specs.declared.Reply.{Reply}
 use Rattle.wire_types.specs.declared.Status.{Status}
 use Rattle.wire_types.specs.Replies.{bare}
-use Rattle.wire_types.specs.declared.Status.TheVariants.{NotFound}
+use Rattle.wire_types.specs.declared.Status.TheVariants.{Success, NotFound}
 use Rattle.wire_types.specs.Said.{is_reserved}
 use Rattle.wire_runs.specs.Plan as runs
-use Rattle.wire_runs.specs.Plan.{Plan, Event, Kind, kind, kind_at, kinds, process_count, node_of, same_node}
+use Rattle.wire_runs.specs.Plan.{Plan, Event, Kind, kind, kind_at, kinds, process_count, node_of, same_node, admits}
 use Rattle.wire_runs.specs.Fences.{is_member}
 use Rattle.wire_runs.specs.State.{Answer}
 use Rattle.wire_runs.specs.Step.{run}
 use Rattle.wire_runs.specs.PlainRun.{plain_run}
 use Rattle.wire_runs.specs.Ends.{calls_of}
-use Rattle.wire_runs.specs.Races.{IsSettled}
+use Rattle.wire_runs.specs.Order.{Before}
+use Rattle.wire_runs.specs.Puts.{scope_of}
+use Rattle.wire_runs.specs.Races.{Delivery, IsOf, Delivers, ComesSurely, IsSettled}
 use Rattle.wire_runs.specs.Laws.{plain_end}
 use Rattle.wire_runs.specs.Placings.{IsPlacing, IsSettledAnywhere}
-use Rattle.wire_runs.specs.PlacingLaws.{plain_reply}
+use Rattle.wire_runs.specs.PlacingLaws.{IsOneANode, plain_reply}
 use Rattle.wire_runs.proofs.Anywhere.{settled_there, to_process, owner_within}
 use Rattle.wire_runs.proofs.FindingsAnywhere.{placings_are}
 use Rattle.wire_runs.proofs.PlacingRuns.{run_alike}
@@ -32,15 +34,16 @@ use Rattle.wire_content.specs.Process.{Process}
 use Rattle.wire_content.specs.Reserved.{reserved_reply}
 use Rattle.wire_content.specs.Scripts.{Scripts, text_at, call_at, calls_in}
 use Rattle.wire_content.specs.Planned.{reply_of_key, planned_call, planned_process, plan_of}
-use Rattle.wire_content.specs.Placed.{moved, with_second, node_beside, placed}
-use Rattle.wire_content.proofs.Moved.{moved_length, as_placing, node_moved, placed_alone}
-use Rattle.wire_pattern_laws.specs.Finds.{status_of, found_status, shown_status, near_nothing, near_value, Finds, from_own, from_near, from_far, far_nothing, far_value, SaysWhatItFinds}
+use Rattle.wire_content.specs.Placed.{moved_from, moved, with_second, node_beside, placed}
+use Rattle.wire_content.proofs.Moved.{on_node, moved_length, as_placing, node_moved, placed_alone}
+use Rattle.wire_pattern_laws.specs.Finds.{status_of, found_status, shown_status, FindsNear, near_nothing, near_value, Finds, from_own, from_near, from_far, far_nothing, far_value, SaysWhatItFinds}
+use Rattle.wire_pattern_laws.proofs.FindsByOrder.{absent}
 use Rattle.wire_pattern_laws.proofs.SmallFinds.{finds_are_said}
-use Rattle.wire_pattern_answers.specs.FewPlacings.{asks_now, IsAnsweredWith, IsApart, FewPlacingsTell, IsOfThree, ThreeStatuses}
+use Rattle.wire_pattern_answers.specs.FewPlacings.{asks_now, IsAnsweredWith, IsFoundOutside, FewPlacingsTell, IsOfThree, ThreeStatuses}
 use Rattle.wire_pattern_answers.proofs.Rows.{reply_count}
 use Rattle.wire_pattern_answers.proofs.Calls.{first_kind, kind_there, place_in, same_call, same_place, planned_there}
 use Rattle.wire_pattern_answers.proofs.Events.{kinds_are, said_status, end_reached, replied_done, answer_is, done_replied, row_to, row_from}
-use Rattle.wire_pattern_answers.proofs.Same.{own_there, near_there, nothing_there, value_there}
+use Rattle.wire_pattern_answers.proofs.Same.{own_there, near_there, nothing_there, value_there, IsCommitted, brought_is_committed}
 
 alike : (b : Bool) (x y u v : Reply) → x.status ≡ u.status → y.status ≡ v.status → (if b then x else y).status ≡ (if b then u else v).status
 alike true x y u v h k = h
@@ -93,22 +96,43 @@ key_three s owner key =
 far_done : (plan other : Plan) → IsPlacing plan other → (p : ℕ) → (plain_end plan).done p ≡ (plain_end other).done p
 far_done plan other same p = ((run_alike plan other same).runs (plain_run plan)).done p ∙ ap (λ w. (run other w).done p) (run_alike plan other same).plain
 
-alone_member : (rank m : ℕ) → is_member (rank ∷ []) m ≡ true → rank ≡ m
-alone_member rank m h = elim (or_cases (rank == m) false h) [ inl e ↦ eqb-true rank m e | inr f ↦ absurd (true≢false (sym f)) ]
-
 its_member : (rank : ℕ) → is_member (rank ∷ []) rank ≡ true
 its_member rank = rw (eq-eqb rank rank refl) refl
 
 no_member : (rank m : ℕ) → (rank ≡ m → ⊥) → is_member (rank ∷ []) m ≡ false
 no_member rank m ne = rw (ne_eqb rank m ne) refl
 
-first_side : (b : Bool) → beq b true ≡ true → b ≡ true
-first_side true h = refl
-first_side false h = h
-
 no_node : (plan : Plan) (q : ℕ) → process_count plan ≤ q → node_of plan q ≡ 0
 unfolding node_of
 no_node plan q past = ap runs.process_node (slice_get_past plan.processes q past)
+
+-- the node on which a process stands
+abbrev pub node_in : Option Process → ℕ
+node_in None = 0
+node_in (Some process) = process.node
+
+abbrev pub own_nodes : Scripts → ℕ → ℕ
+own_nodes s q = node_in (slice_get s.processes q)
+
+moved_itself : (n : ℕ) (ps : List Process) (nodes : ℕ → ℕ) → ((q : ℕ) (process : Process) → slice_get ps q ≡ Some process → nodes (n + q) ≡ process.node) → moved_from n nodes ps ≡ ps
+moved_itself n [] nodes on = refl
+moved_itself n (process ∷ ps) nodes on =
+    let first : n ≡ n + 0 = omega arith in
+    let here : nodes n ≡ process.node = ap nodes first ∙ on 0 process refl in
+    let later : (q : ℕ) (one : Process) → slice_get ps q ≡ Some one → nodes ((n + 1) + q) ≡ one.node = λ q one is. let e : (n + 1) + q ≡ n + suc q = omega arith in ap nodes e ∙ on (suc q) one is in
+    ap (λ m. on_node m process ∷ moved_from (n + 1) nodes ps) here ∙ ap (λ qs. process ∷ qs) (moved_itself (n + 1) ps nodes later)
+
+-- scripts, with each process where it stands
+pub itself : (s : Scripts) → s ≡ moved s s.nodes (own_nodes s)
+itself s = ap (λ ps. record s { processes = ps }) (sym (moved_itself 0 s.processes (own_nodes s) (λ q process is. ap (own_nodes s) (zero-add q) ∙ ap node_in is)))
+
+-- what a few placings tell
+abbrev IsToldByFew : Scripts → ℕ → ℕ → Status → Type 0
+IsToldByFew s p c status = IsAnsweredWith s p c status ⊎ (IsAnsweredWith (placed s []) p c status ⊎ ((status ≡ Success) × IsFoundOutside s p c))
+
+-- with each process on a node of its own, whoever is on one's node is oneself
+alone_there : (plan : Plan) → IsOneANode plan → (p m : ℕ) → p < process_count plan → m < process_count plan → node_of plan m ≡ node_of plan p → m ≡ p
+alone_there plan one p m low_p low_m on = elim (cases_eq m p) [ inl e ↦ e | inr ne ↦ absurd (true≢false (sym (eq-eqb _ _ on) ∙ one m p low_m low_p ne)) ]
 
 module _ (s : Scripts) (everywhere : IsSettledAnywhere (plan_of s)) (p c : ℕ) (owner : Proc) (key : ℕ) (is : call_at s.processes p c ≡ Some (GetNow owner key)) where
   abbrev x : Event
@@ -211,14 +235,21 @@ module _ (s : Scripts) (everywhere : IsSettledAnywhere (plan_of s)) (p c : ℕ) 
     says : (names : List (List ℕ)) (nodes : ℕ → ℕ) → SaysWhatItFinds (other names nodes) x owner.number key
     says names nodes = finds_are_said (other names nodes) x owner.number key (settled names nodes) (kind_asked names nodes)
 
-    module _ (names : List (List ℕ)) (nodes : ℕ → ℕ) (a : Answer) (at : plain_reply (other names nodes) x ≡ Some a) (ranks : List ℕ) where
+    same : (names : List (List ℕ)) (nodes : ℕ → ℕ) (names' : List (List ℕ)) (nodes' : ℕ → ℕ) → IsPlacing (other names nodes) (other names' nodes')
+    same names nodes names' nodes' =
+        (placings_are (other names nodes)).again (plan_of s) (other names' nodes') ((placings_are (plan_of s)).back (other names nodes) (placing names nodes)) (placing names' nodes')
+
+    -- it is answered on other nodes with what it finds there
+    answered_so : (names : List (List ℕ)) (nodes : ℕ → ℕ) (a : Answer) → plain_reply (other names nodes) x ≡ Some a → (names' : List (List ℕ)) (nodes' : ℕ → ℕ) (t : Status)
+        → Finds (other names' nodes') x owner.number key t → IsAnsweredWith (there names' nodes') p c t
+    answered_so names nodes a at names' nodes' t finds =
+        let b = answered_too asked kind_asked (λ n m. refl) names nodes a at names' nodes' in
+        let said_b = (says names' nodes').answered (plain_end (other names' nodes')) b.0 (end_reached (other names' nodes') (settled names' nodes')) b.1 in
+        from_event asked kind_asked (λ n m. refl) names' nodes' b.0 t b.1 ((says names' nodes').one said_b.0 (status_of b.0) t said_b.1 finds)
+
+    module _ (ranks : List ℕ) where
       abbrev few : Plan
       few = other (with_second s.nodes) (node_beside ranks)
-
-      same : IsPlacing (other names nodes) few
-      same =
-          (placings_are (other names nodes)).again (plan_of s) few ((placings_are (plan_of s)).back (other names nodes) (placing names nodes))
-          (placing (with_second s.nodes) (node_beside ranks))
 
       few_count : process_count few ≡ length s.processes
       few_count = count (with_second s.nodes) (node_beside ranks)
@@ -233,70 +264,97 @@ module _ (s : Scripts) (everywhere : IsSettledAnywhere (plan_of s)) (p c : ℕ) 
       absent_node : (q : ℕ) → length s.processes ≤ q → node_of few q ≡ 0
       absent_node q past = let n = few_count in no_node few q (omega (arith, n, past))
 
-      -- it is answered there with what it finds there
-      answered_so : Finds few x owner.number key (status_of a) → IsAnsweredWith (placed s ranks) p c (status_of a)
-      answered_so finds =
-          let b = answered_too asked kind_asked (λ n m. refl) names nodes a at (with_second s.nodes) (node_beside ranks) in
-          let said_b = (says (with_second s.nodes) (node_beside ranks)).answered (plain_end few) b.0 (end_reached few (settled (with_second s.nodes) (node_beside ranks))) b.1 in
-          from_event asked kind_asked (λ n m. refl) (with_second s.nodes) (node_beside ranks) b.0 (status_of a) b.1
-          ((says (with_second s.nodes) (node_beside ranks)).one said_b.0 (status_of b.0) (status_of a) said_b.1 finds)
+    all_together : (q : ℕ) → node_of (few []) q ≡ 0
+    all_together q = elim (cases_lt q (length s.processes)) [ inl low ↦ node_is [] q low | inr past ↦ absent_node [] q past ]
 
-    module _ (names : List (List ℕ)) (nodes : ℕ → ℕ) (a : Answer) (at : plain_reply (other names nodes) x ≡ Some a) where
-      abbrev Tells : Type 0
-      Tells = (ranks : List ℕ) × IsApart (length s.processes) ranks × IsAnsweredWith (placed s ranks) p c (status_of a)
+    module _ (names : List (List ℕ)) (nodes : ℕ → ℕ) (a : Answer) (at : plain_reply (other names nodes) x ≡ Some a) (one : IsOneANode (plan_of s)) where
+      abbrev status : Status
+      status = status_of a
 
-      on_few : (ranks : List ℕ) → IsApart (length s.processes) ranks → Finds (few names nodes a at ranks) x owner.number key (status_of a) → Tells
-      on_few ranks apart finds = (ranks, apart, answered_so names nodes a at ranks finds)
+      abbrev here : Plan
+      here = other s.nodes (own_nodes s)
 
-      all_together : (q : ℕ) → node_of (few names nodes a at []) q ≡ 0
-      all_together q = elim (cases_lt q (length s.processes)) [ inl low ↦ node_is names nodes a at [] q low | inr past ↦ absent_node names nodes a at [] q past ]
+      one_here : IsOneANode here
+      one_here = subst (λ t. IsOneANode (plan_of t)) (itself s) one
 
-      own_apart : (owner.number ≡ p → ⊥) → same_node (few names nodes a at (p ∷ [])) owner.number p ≡ false
-      own_apart ne = elim (cases_lt owner.number (length s.processes)) [
-        | inl low ↦ beside names nodes a at (p ∷ []) owner.number p low process_within
-            ∙ ap (λ b. beq b (is_member (p ∷ []) p)) (no_member p owner.number (λ e. ne (sym e))) ∙ ap (beq false) (its_member p)
-        | inr past ↦ ne_eqb _ _ (λ e.
-            let none = absent_node names nodes a at (p ∷ []) owner.number past in
-            let one = node_is names nodes a at (p ∷ []) p process_within ∙ ap (λ (b : Bool). if b then 1 else 0) (its_member p) in
-            omega (arith, none, one, e))
-      ]
+      found_here : Finds here x owner.number key status → IsAnsweredWith s p c status
+      found_here finds = subst (λ t. IsAnsweredWith t p c status) (sym (itself s)) (answered_so names nodes a at s.nodes (own_nodes s) status finds)
 
-      tells : Finds (other names nodes) x owner.number key (status_of a) → Tells
-      tells (from_own e f) = on_few [] (inl refl) (own_there (other names nodes) (few names nodes a at []) (same names nodes a at []) x owner.number key (status_of a) e f)
-      tells (from_near ne near f) =
-          on_few [] (inl refl) (near_there (other names nodes) (few names nodes a at []) (same names nodes a at []) x owner.number key (status_of a) ne
+      found_together : (t : Status) → Finds (few []) x owner.number key t → IsAnsweredWith (placed s []) p c t
+      found_together t finds = answered_so names nodes a at (with_second s.nodes) (node_beside []) t finds
+
+      near_together : (t : Status) → (p ≡ owner.number → ⊥) → FindsNear (other names nodes) x owner.number key t → IsAnsweredWith (placed s []) p c t
+      near_together t ne f =
+          found_together t (near_there (other names nodes) (few []) (same names nodes (with_second s.nodes) (node_beside [])) x owner.number key t ne
           (eq-eqb _ _ (all_together owner.number ∙ sym (all_together p))) f)
-      tells (from_far ne away (far_nothing none f)) =
+
+      -- what comes to no process of its node comes to none alone
+      nothing_here : (p ≡ owner.number → ⊥) → (ComesSurely (other names nodes) owner.number key (node_of (other names nodes) p) x → ⊥) → status ≡ NotFound → Finds here x owner.number key status
+      nothing_here ne none f =
+          let n = count s.nodes (own_nodes s) in
+          let w = process_within in
+          elim (cases_lt owner.number (process_count here)) [
+            | inl low ↦ nothing_there (other names nodes) here (same names nodes s.nodes (own_nodes s)) x owner.number key status ne
+                (one_here owner.number p low (omega (arith, n, w)) (λ e. ne (sym e))) (λ m low_m on. alone_there here one_here p m (omega (arith, n, w)) low_m on) none f
+            | inr past ↦ absent here x owner.number key status ne past f
+          ]
+
+      -- what some other process brings comes to all but the owner
+      value_away : (ne : p ≡ owner.number → ⊥) (away : same_node (other names nodes) owner.number p ≡ false) (d : Delivery) → Delivers (other names nodes) owner.number key (node_of (other names nodes) p) d
+          → ((z : Event) → IsOf (other names nodes) d z → Before (other names nodes) x z → ⊥) → status ≡ Success
+          → owner.number < length s.processes → Finds (few (owner.number ∷ [])) x owner.number key status
+      value_away ne away d delivers none f low =
           let not_owner : owner.number ≡ p → ⊥ = λ e. ne (sym e) in
-          on_few (p ∷ []) (inr (p, process_within, refl)) (nothing_there (other names nodes) (few names nodes a at (p ∷ [])) (same names nodes a at (p ∷ [])) x owner.number key (status_of a) ne
-          (own_apart not_owner) (λ m low on.
-          let n = few_count names nodes a at (p ∷ []) in
-          let together = beside names nodes a at (p ∷ []) m p (omega (arith, n, low)) process_within in
-          sym (alone_member p m (first_side (is_member (p ∷ []) m) (ap (beq (is_member (p ∷ []) m)) (sym (its_member p)) ∙ sym together ∙ eq-eqb _ _ on)))) none f)
-      tells (from_far ne away (far_value d delivers none f)) =
-          let not_owner : owner.number ≡ p → ⊥ = λ e. ne (sym e) in
+          value_there (other names nodes) (few (owner.number ∷ [])) (same names nodes (with_second s.nodes) (node_beside (owner.number ∷ []))) x owner.number key status ne
+          (beside (owner.number ∷ []) owner.number p low process_within
+          ∙ ap (λ b. beq b (is_member (owner.number ∷ []) p)) (its_member owner.number) ∙ ap (beq true) (no_member owner.number p not_owner))
+          away
+          (λ m low_m other_one.
+          let n = few_count (owner.number ∷ []) in
+          eqb-true _ _ (beside (owner.number ∷ []) m p (omega (arith, n, low_m)) process_within
+          ∙ ap (λ b. beq b (is_member (owner.number ∷ []) p)) (no_member owner.number m (λ e. other_one (sym e))) ∙ ap (beq false) (no_member owner.number p not_owner)))
+          d delivers none f
+
+      owner_low : (away : same_node (other names nodes) owner.number p ≡ false) (d : Delivery) → Delivers (other names nodes) owner.number key (node_of (other names nodes) p) d → owner.number < length s.processes
+      owner_low away d delivers =
           let m = to_process (other names nodes) owner.number key (node_of (other names nodes) p) d (λ e. true≢false (sym (eq-eqb _ _ e) ∙ away)) delivers in
           let within_other = owner_within (other names nodes) owner.number key m.0 d m.1 in
           let n_other = count names nodes in
-          let low_owner : owner.number < length s.processes = omega (arith, within_other, n_other) in
-          on_few (owner.number ∷ []) (inr (owner.number, low_owner, refl))
-          (value_there (other names nodes) (few names nodes a at (owner.number ∷ [])) (same names nodes a at (owner.number ∷ [])) x owner.number key (status_of a) ne
-          (beside names nodes a at (owner.number ∷ []) owner.number p low_owner process_within
-          ∙ ap (λ b. beq b (is_member (owner.number ∷ []) p)) (its_member owner.number) ∙ ap (beq true) (no_member owner.number p not_owner))
-          away
-          (λ m low other_one.
-          let n = few_count names nodes a at (owner.number ∷ []) in
-          eqb-true _ _ (beside names nodes a at (owner.number ∷ []) m p (omega (arith, n, low)) process_within
-          ∙ ap (λ b. beq b (is_member (owner.number ∷ []) p)) (no_member owner.number m (λ e. other_one (sym e))) ∙ ap (beq false) (no_member owner.number p not_owner)))
-          d delivers none f)
+          omega (arith, within_other, n_other)
 
-    plain_tells : (names : List (List ℕ)) (nodes : ℕ → ℕ) (status : Status) → IsAnsweredWith (there names nodes) p c status
-        → (ranks : List ℕ) × IsApart (length s.processes) ranks × IsAnsweredWith (placed s ranks) p c status
-    plain_tells names nodes status h =
+      tells : Finds (other names nodes) x owner.number key status → IsToldByFew s p c status
+      tells (from_own e f) = inr (inl (found_together status (own_there (other names nodes) (few []) (same names nodes (with_second s.nodes) (node_beside [])) x owner.number key status e f)))
+      tells (from_near ne near f) = inr (inl (near_together status ne f))
+      tells (from_far ne away (far_nothing none f)) = inl (found_here (nothing_here ne none f))
+      tells (from_far ne away (far_value d delivers none f)) = shown (admits (scope_of (other names nodes) owner.number stands.put) true) refl
+        where
+          stands : IsCommitted (other names nodes) x owner.number key
+          stands = brought_is_committed (other names nodes) (settled names nodes) x owner.number key away d delivers none
+
+          low : owner.number < length s.processes
+          low = owner_low away d delivers
+
+          near_is : IsAnsweredWith (placed s []) p c (shown_status (admits (scope_of (other names nodes) owner.number stands.put) true))
+          near_is = near_together _ ne (near_value stands.at stands.put stands.stores stands.is_live stands.not_before stands.put_is refl)
+
+          shown : (b : Bool) → admits (scope_of (other names nodes) owner.number stands.put) true ≡ b → IsToldByFew s p c status
+          shown true is = inr (inl (subst (IsAnsweredWith (placed s []) p c) (ap shown_status is ∙ sym f) near_is))
+          shown false is = inr (inr (
+            f,
+            record {
+              outside = subst (IsAnsweredWith (placed s []) p c) (ap shown_status is) near_is;
+              rank = owner.number;
+              within = low;
+              found = subst (IsAnsweredWith (placed s (owner.number ∷ [])) p c) f
+                  (answered_so names nodes a at (with_second s.nodes) (node_beside (owner.number ∷ [])) status (value_away ne away d delivers none f low));
+            },
+          ))
+
+    plain_tells : (names : List (List ℕ)) (nodes : ℕ → ℕ) → IsOneANode (plan_of s) → (status : Status) → IsAnsweredWith (there names nodes) p c status → IsToldByFew s p c status
+    plain_tells names nodes one status h =
         let a = to_event asked kind_asked (λ n m. refl) names nodes status h in
         let finds = ((says names nodes).answered (plain_end (other names nodes)) a.0 (end_reached (other names nodes) (settled names nodes)) a.1).1 in
-        let t = tells names nodes a.0 a.1 finds in
-        (t.0, t.1, subst (IsAnsweredWith (placed s t.0) p c) a.2 t.2)
+        subst (IsToldByFew s p c) a.2 (tells names nodes a.0 a.1 one finds)
 
     plain_one : (names : List (List ℕ)) (nodes : ℕ → ℕ) (status : Status) → IsAnsweredWith (there names nodes) p c status → IsOfThree status
     plain_one names nodes status h =
@@ -310,11 +368,10 @@ module _ (s : Scripts) (everywhere : IsSettledAnywhere (plan_of s)) (p c : ℕ) 
     | inr plain ↦ plain_one plain names nodes status h
   ]
 
-  pub call_tells : (names : List (List ℕ)) (nodes : ℕ → ℕ) (status : Status) → IsAnsweredWith (there names nodes) p c status
-      → (ranks : List ℕ) × IsApart (length s.processes) ranks × IsAnsweredWith (placed s ranks) p c status
-  call_tells names nodes status h = elim (cases_Bool (is_reserved (text_at s.keys key))) [
-    | inl reserved ↦ ([], inl refl, reserved_tells reserved names nodes status h)
-    | inr plain ↦ plain_tells plain names nodes status h
+  pub call_tells : (names : List (List ℕ)) (nodes : ℕ → ℕ) → IsOneANode (plan_of s) → (status : Status) → IsAnsweredWith (there names nodes) p c status → IsToldByFew s p c status
+  call_tells names nodes one status h = elim (cases_Bool (is_reserved (text_at s.keys key))) [
+    | inl reserved ↦ inr (inl (reserved_tells reserved names nodes status h))
+    | inr plain ↦ plain_tells plain names nodes one status h
   ]
 
 -- a call that asks is a get-now
@@ -332,8 +389,8 @@ get_now (Some (Unpublish name)) other_call = absurd (true≢false (sym other_cal
 get_now (Some UnpublishAll) other_call = absurd (true≢false (sym other_call))
 
 pub few_placings_tell : FewPlacingsTell
-few_placings_tell s everywhere names nodes p c asks status h =
-    let g = get_now (call_at s.processes p c) asks in call_tells s everywhere p c g.0 g.1 g.2 names nodes status h
+few_placings_tell s everywhere one names nodes p c asks status h =
+    let g = get_now (call_at s.processes p c) asks in call_tells s everywhere p c g.0 g.1 g.2 names nodes one status h
 
 pub three_statuses : ThreeStatuses
 three_statuses s everywhere names nodes p c asks status h =

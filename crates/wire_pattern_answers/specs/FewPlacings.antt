@@ -7,6 +7,7 @@ use Rattle.wire_types.specs.declared.Reply.{Reply}
 use Rattle.wire_types.specs.declared.Status.{Status}
 use Rattle.wire_types.specs.declared.Status.TheVariants.{Success, NotFound, ExistsOutsideScope}
 use Rattle.wire_runs.specs.Placings.{IsSettledAnywhere}
+use Rattle.wire_runs.specs.PlacingLaws.{IsOneANode}
 use Rattle.wire_content.specs.Scripts.{Scripts, call_at}
 use Rattle.wire_content.specs.Planned.{plan_of}
 use Rattle.wire_content.specs.Placed.{moved, placed}
@@ -23,17 +24,24 @@ pub record IsAnsweredWith (scripts : Scripts) (process call : ℕ) (status : Sta
   pub is : slice_get (slice_index_or (plain_ends scripts).rows process []) call ≡ Some (Replied reply)
   pub has : reply.status ≡ status
 
--- the ranks that have a node of their own, together: none, or one of so many
-abbrev pub IsApart : ℕ → List ℕ → Type 0
-IsApart count ranks = (ranks ≡ []) ⊎ ((rank : ℕ) × (rank < count) × (ranks ≡ rank ∷ []))
+-- with all processes on one node it exists outside its scope, and with one of them on a node of its own and all others
+-- on another it is answered with success
+pub record IsFoundOutside (scripts : Scripts) (process call : ℕ) : Type 0 where
+  pub outside : IsAnsweredWith (placed scripts []) process call ExistsOutsideScope
+  pub rank : ℕ
+  pub within : rank < length scripts.processes
+  pub found : IsAnsweredWith (placed scripts (rank ∷ [])) process call Success
 
--- where nothing is found on any nodes: with whatever status a get-now is answered on some nodes, it is answered with
--- all processes on one node, or with one of them on a node of its own and all others on another
+-- where nothing is found on any nodes, and each process has a node of its own: with whatever status a get-now is
+-- answered on some nodes, it is answered there, or with all processes on one node; or the status is success, and it is
+-- found outside its scope
 abbrev pub FewPlacingsTell : Type 0
-FewPlacingsTell = (s : Scripts) → IsSettledAnywhere (plan_of s) → (names : List (List ℕ)) (nodes : ℕ → ℕ)
+FewPlacingsTell = (s : Scripts) → IsSettledAnywhere (plan_of s) → IsOneANode (plan_of s)
+    → (names : List (List ℕ)) (nodes : ℕ → ℕ)
     → (process call : ℕ) → asks_now (call_at s.processes process call) ≡ true → (status : Status)
     → IsAnsweredWith (moved s names nodes) process call status
-    → (ranks : List ℕ) × IsApart (length s.processes) ranks × IsAnsweredWith (placed s ranks) process call status
+    → IsAnsweredWith s process call status ⊎ (IsAnsweredWith (placed s []) process call status
+    ⊎ ((status ≡ Success) × IsFoundOutside s process call))
 
 abbrev pub IsOfThree : Status → Type 0
 IsOfThree status = (status ≡ Success) ⊎ ((status ≡ NotFound) ⊎ (status ≡ ExistsOutsideScope))

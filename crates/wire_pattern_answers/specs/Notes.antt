@@ -1,5 +1,5 @@
 -- Which statuses are noted of call lines: for private contracts alone.
-use Rattle.std.specs.Prelude.{◌≡◌, ◌↔◌, ℕ, suc, ◌==◌, ◌&&◌, Bool, true, List, [], ◌∷◌, ◌++◌, Ok, slice_get}
+use Rattle.std.specs.Prelude.{◌≡◌, ◌↔◌, ◌⊎◌, ◌<◌, ℕ, suc, ◌==◌, ◌&&◌, not, Bool, true, false, List, [], ◌∷◌, ◌++◌, length, Ok, slice_get}
 use Rattle.std.specs.List.{list_any}
 use Rattle.wire_types.specs.declared.Call.{Call}
 use Rattle.wire_types.specs.declared.Call.TheVariants.{GetNow}
@@ -13,13 +13,15 @@ use Rattle.wire_script.specs.declared.Size.TheVariants.{OfVersion}
 use Rattle.wire_script.specs.Reads.{Reads}
 use Rattle.wire_pattern.specs.Pattern.{Pattern}
 use Rattle.wire_pattern.specs.Planned.{steps_in}
-use Rattle.wire_pattern.specs.Instances.{Cast, instance_text}
+use Rattle.wire_pattern.specs.Instances.{Cast, cast_of, instance_text}
 use Rattle.wire_pattern_waits.specs.declared.CallLine.{CallLine}
+use Rattle.wire_pattern_waits.specs.LineSets.{has_line}
 use Rattle.wire_pattern_waits.specs.Places.{steps_places}
 use Rattle.wire_pattern_answers.specs.declared.answers.LineAnswers.{LineAnswers}
 use Rattle.wire_pattern_answers.specs.declared.notes.Note.{Note}
+use Rattle.wire_pattern_answers.specs.declared.told.Told.{Told}
 use Rattle.wire_pattern_answers.specs.Answers.{IsAnswered}
-use Rattle.wire_pattern_answers.specs.FewPlacings.{IsApart}
+use Rattle.wire_pattern_answers.specs.FewPlacings.{IsOfThree}
 
 -- the place of a status among all
 abbrev pub place_of : Status → ℕ
@@ -59,22 +61,71 @@ notes_from p cast s v (role ∷ roles) (row ∷ rows) =
 abbrev pub AreNoted : List Note → (ℕ → ℕ → Status → Type 0) → Type 0
 AreNoted notes those = (role line : ℕ) (status : Status) → (is_noted notes role line status ≡ true) ↔ those role line status
 
--- with these ranks of the cast's instance on a node of their own and all others on another, a get-now of this line is
--- answered with the status
+-- in the instance of the cast, its processes where they stand, a get-now of this line is answered with the status
+pub record IsAnsweredThere (p : Pattern) (cast : Cast) (role line : ℕ) (status : Status) : Type 0 where
+  pub scripts : Scripts
+  pub reads : Reads OfVersion (instance_text p cast) (Ok scripts)
+  pub answered : IsAnswered p cast scripts role line status
+
+-- so it is with these ranks on a node of their own and all others on another
 pub record IsAnsweredApart (p : Pattern) (cast : Cast) (ranks : List ℕ) (role line : ℕ) (status : Status) : Type 0 where
   pub scripts : Scripts
   pub reads : Reads OfVersion (instance_text p cast) (Ok scripts)
   pub answered : IsAnswered p cast (placed scripts ranks) role line status
 
--- so it is with none, or with one of the first so many
-abbrev pub IsAnsweredByFew : Pattern → Cast → ℕ → ℕ → ℕ → Status → Type 0
-IsAnsweredByFew p cast count role line status = (ranks : List ℕ) × IsApart count ranks × IsAnsweredApart p cast ranks role line status
+-- so it is with one of the first so many
+abbrev pub IsAnsweredByOne : Pattern → Cast → ℕ → ℕ → ℕ → Status → Type 0
+IsAnsweredByOne p cast count role line status = (rank : ℕ) × (rank < count) × IsAnsweredApart p cast (rank ∷ []) role line status
 
--- what is noted of a line
-abbrev pub noted_of : List Note → CallLine → LineAnswers
-noted_of notes line = record {
+-- whether one of the three statuses is told of a line; no other one is
+abbrev pub is_told : Told → ℕ → ℕ → Status → Bool
+is_told told role line Success = has_line told.success role line
+is_told told role line NotFound = has_line told.not_found role line
+is_told told role line ExistsOutsideScope = has_line told.outside role line
+is_told told role line _ = false
+
+-- of the three statuses exactly these are told
+abbrev pub AreTold : Told → (ℕ → ℕ → Status → Type 0) → Type 0
+AreTold told those = (role line : ℕ) (status : Status) → IsOfThree status → (is_told told role line status ≡ true) ↔ those role line status
+
+-- those that were told, and these
+abbrev pub AreToldToo : Told → Told → (ℕ → ℕ → Status → Type 0) → Type 0
+AreToldToo before after those = AreTold after (λ role line status. (is_told before role line status ≡ true) ⊎ those role line status)
+
+-- whether a note says that a key exists outside its scope, at a line of which success isn't told
+abbrev pub is_outside : Status → Bool
+is_outside ExistsOutsideScope = true
+is_outside _ = false
+
+abbrev pub is_open_note : Told → Note → Bool
+is_open_note told note = is_outside note.status && not (has_line told.success note.role note.line)
+
+abbrev pub is_open : Told → List Note → Bool
+is_open told notes = list_any (is_open_note told) notes
+
+-- what was told, and of an instance what is said with all ranks on one node. What exists outside its scope there, and is
+-- found with one rank on a node of its own, is told as success
+pub record AreToldTogether (p : Pattern) (cast : Cast) (before after : Told) : Type 0 where
+  pub stays : (role line : ℕ) (status : Status) → IsOfThree status → is_told before role line status ≡ true
+      → is_told after role line status ≡ true
+  pub together : (role line : ℕ) (status : Status) → IsOfThree status → IsAnsweredApart p cast [] role line status
+      → is_told after role line status ≡ true
+  pub outside : (role line : ℕ) → IsAnsweredApart p cast [] role line ExistsOutsideScope
+      → IsAnsweredByOne p cast (length (cast_of cast).roles) role line Success → is_told after role line Success ≡ true
+  pub only : (role line : ℕ) (status : Status) → IsOfThree status → is_told after role line status ≡ true
+      → (is_told before role line status ≡ true) ⊎ ((ranks : List ℕ) × IsAnsweredApart p cast ranks role line status)
+
+-- and what is said with its processes where they stand
+pub record AreToldByFew (p : Pattern) (cast : Cast) (before after : Told) : Type 0 where
+  pub between : Told
+  pub there : AreToldToo before between (IsAnsweredThere p cast)
+  pub together : AreToldTogether p cast between after
+
+-- what is told of a line
+abbrev pub told_of : Told → CallLine → LineAnswers
+told_of told line = record {
   line = line;
-  success = is_noted notes line.role line.number Success;
-  not_found = is_noted notes line.role line.number NotFound;
-  outside = is_noted notes line.role line.number ExistsOutsideScope;
+  success = has_line told.success line.role line.number;
+  not_found = has_line told.not_found line.role line.number;
+  outside = has_line told.outside line.role line.number;
 }

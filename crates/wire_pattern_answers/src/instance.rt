@@ -12,41 +12,41 @@ ghost use Rattle.wire_sweep.specs.Judged.{IsFewCast, IsJudgeFault};
 ghost use Rattle.wire_pattern_waits.specs.Places.{steps_places};
 ghost use Rattle.wire_pattern_answers.specs.Answers.{IsAnswered};
 ghost use Rattle.wire_pattern_answers.specs.Notes as spec;
-ghost use Rattle.wire_pattern_answers.specs.Notes.{AreNoted, IsAnsweredApart, IsAnsweredByFew};
+ghost use Rattle.wire_pattern_answers.specs.Notes.{AreNoted, IsAnsweredThere, IsAnsweredApart, IsAnsweredByOne, AreToldToo};
+ghost use Rattle.wire_pattern_answers.specs.Notes.{AreToldTogether, AreToldByFew};
 
-use crate::notes::{Note, add_notes, note_all};
+use crate::notes::{Note, add_notes};
+use crate::told::Told;
 use std::alloc::{AllocError, Global};
 use wire_content::Scripts;
 use wire_core::plain_outcome;
 use wire_instances::Cast;
 use wire_pattern::Pattern;
-use wire_pattern_waits::{places_of, process_roles};
+use wire_pattern_waits::{Caller, places_of, process_roles};
 use wire_plan::Plan;
 use wire_script::reads_once;
 use wire_sweep::instance_scripts;
 use wire_types::{CallEnd, Fault, Proc};
 
-/// Adds the notes of a process of this role, by what became of its calls.
+/// Adds the notes of a process of these scripts, by what became of its calls.
 fn add_process(
     out: &mut Vec<Note>,
     alloc: Global,
-    pattern: &Pattern,
-    cast: &Cast,
+    caller: &Caller,
     scripts: &Scripts,
-    process: u32,
-    role: u32,
     row: &[CallEnd],
 ) -> Result<(), AllocError>
-    requires { IsCast pattern.now (cast_by cast.now) }
-    ensures { OnOk result (out.new.items ≡ out.old.items ++ spec.process_notes role row.now
-        (calls_in (slice_get scripts.now.processes process))
-        (steps_places (cast_by cast.now) process 0 1 (steps_in (slice_get pattern.now.roles role)))) }
+    requires { IsCast caller.now.pattern.now (cast_by caller.now.cast.now) }
+    ensures { OnOk result (out.new.items ≡ out.old.items ++ spec.process_notes caller.now.role row.now
+        (calls_in (slice_get scripts.now.processes caller.now.process))
+        (steps_places (cast_by caller.now.cast.now) caller.now.process 0 1
+        (steps_in (slice_get caller.now.pattern.now.roles caller.now.role)))) }
 {
-    let Some(script) = scripts.processes().get(process as usize) else {
+    let Some(script) = scripts.processes().get(caller.process as usize) else {
         return Ok(());
     };
-    let places = places_of(alloc, pattern, cast, process, role)?;
-    add_notes(out, role, row, script.calls(), places.as_slice())
+    let places = places_of(alloc, caller)?;
+    add_notes(out, caller.role, row, script.calls(), places.as_slice())
 }
 
 /// The notes of all processes of scripts, by what became of their calls.
@@ -67,17 +67,13 @@ fn notes_by(
         let Some(row) = rows.get(number) else {
             return Ok(notes);
         };
-        let process = number as u32;
-        add_process(
-            &mut notes,
-            alloc,
+        let caller = Caller {
             pattern,
             cast,
-            scripts,
-            process,
-            *role,
-            row.as_slice(),
-        )?;
+            process: number as u32,
+            role: *role,
+        };
+        add_process(&mut notes, alloc, &caller, scripts, row.as_slice())?;
     }
     Ok(notes)
 }
@@ -114,6 +110,19 @@ fn notes_of(
     let notes = notes_on(alloc, pattern, cast, &plan);
     drop(plan);
     notes
+}
+
+/// The notes of an instance with its processes where they stand.
+fn notes_there(alloc: Global, pattern: &Pattern, cast: &Cast) -> Result<Vec<Note>, Fault>
+    requires { IsFewCast pattern.now (cast_by cast.now) }
+    ensures ok { IfOk result (λ v. AreNoted v.items (IsAnsweredThere pattern.now (cast_by cast.now))) }
+    ensures err { IfErr result (λ e. IsJudgeFault pattern.now e) }
+{
+    reads_once();
+    let (text, scripts) = instance_scripts(alloc, pattern, cast)?;
+    drop(text);
+    let notes = notes_of(alloc, pattern, cast, scripts)?;
+    Ok(notes)
 }
 
 /// The notes of an instance with these ranks on a node of their own, and all others on another.
@@ -164,34 +173,79 @@ fn notes_together(alloc: Global, pattern: &Pattern, cast: &Cast) -> Result<Vec<N
     placed_notes(alloc, pattern, cast, ranks.as_slice())
 }
 
-/// The notes of an instance with all ranks on one node, and with each of the first so many on a node of its own.
-pub(crate) fn notes_by_few(
-    alloc: Global,
-    pattern: &Pattern,
-    cast: &Cast,
-    count: u32,
-) -> Result<Vec<Note>, Fault>
-    requires { IsFewCast pattern.now (cast_by cast.now) }
-    ensures ok { IfOk result (λ v. AreNoted v.items (IsAnsweredByFew pattern.now (cast_by cast.now) count)) }
-    ensures err { IfErr result (λ e. IsJudgeFault pattern.now e) }
-{
-    let mut noted = notes_together(alloc, pattern, cast)?;
-    for rank in 0..count {
-        let notes = notes_apart(alloc, pattern, cast, rank)?;
-        note_all(&mut noted, notes.as_slice())?;
-    }
-    Ok(noted)
-}
-
 /// How many processes an instance has.
-pub(crate) fn process_count(
-    alloc: Global,
-    pattern: &Pattern,
-    cast: &Cast,
-) -> Result<u32, AllocError>
+fn process_count(alloc: Global, pattern: &Pattern, cast: &Cast) -> Result<u32, AllocError>
     requires { IsCast pattern.now (cast_by cast.now) }
     ensures { IfOk result (λ n. n ≡ length (cast_of (cast_by cast.now)).roles) }
 {
     let roles = process_roles(alloc, pattern, cast)?;
     Ok(roles.len() as u32)
+}
+
+/// Tells the answers of an instance with each of its first ranks, so many, on a node of its own.
+fn tell_each(
+    told: &mut Told,
+    alloc: Global,
+    pattern: &Pattern,
+    cast: &Cast,
+    count: u32,
+) -> Result<(), Fault>
+    requires { IsFewCast pattern.now (cast_by cast.now) }
+    ensures ok { OnOk result (AreToldToo told.old told.new (IsAnsweredByOne pattern.now (cast_by cast.now) count)) }
+    ensures err { IfErr result (λ e. IsJudgeFault pattern.now e) }
+{
+    for rank in 0..count {
+        let notes = notes_apart(alloc, pattern, cast, rank)?;
+        told.add_all(alloc, notes.as_slice())?;
+    }
+    Ok(())
+}
+
+/// Tells the answers of an instance with each of its ranks on a node of its own.
+fn tell_apart(told: &mut Told, alloc: Global, pattern: &Pattern, cast: &Cast) -> Result<(), Fault>
+    requires { IsFewCast pattern.now (cast_by cast.now) }
+    ensures ok { OnOk result (AreToldToo told.old told.new
+        (IsAnsweredByOne pattern.now (cast_by cast.now) (length (cast_of (cast_by cast.now)).roles))) }
+    ensures err { IfErr result (λ e. IsJudgeFault pattern.now e) }
+{
+    let count = process_count(alloc, pattern, cast)?;
+    tell_each(told, alloc, pattern, cast, count)
+}
+
+/// Tells the answers of an instance with all ranks on one node. Where that leaves it open whether a key is found
+/// outside its scope, also those with each rank on a node of its own.
+fn tell_together(
+    told: &mut Told,
+    alloc: Global,
+    pattern: &Pattern,
+    cast: &Cast,
+) -> Result<(), Fault>
+    requires { IsFewCast pattern.now (cast_by cast.now) }
+    ensures ok { OnOk result (AreToldTogether pattern.now (cast_by cast.now) told.old told.new) }
+    ensures err { IfErr result (λ e. IsJudgeFault pattern.now e) }
+{
+    let notes = notes_together(alloc, pattern, cast)?;
+    told.add_all(alloc, notes.as_slice())?;
+    if !told.is_open(notes.as_slice()) {
+        return Ok(());
+    }
+    tell_apart(told, alloc, pattern, cast)?;
+    Ok(())
+}
+
+/// Tells the answers of an instance: with its processes where they stand, and with all of them on one node.
+pub(crate) fn tell_instance(
+    told: &mut Told,
+    alloc: Global,
+    pattern: &Pattern,
+    cast: &Cast,
+) -> Result<(), Fault>
+    requires { IsFewCast pattern.now (cast_by cast.now) }
+    ensures ok { OnOk result (AreToldByFew pattern.now (cast_by cast.now) told.old told.new) }
+    ensures err { IfErr result (λ e. IsJudgeFault pattern.now e) }
+{
+    let notes = notes_there(alloc, pattern, cast)?;
+    told.add_all(alloc, notes.as_slice())?;
+    tell_together(told, alloc, pattern, cast)?;
+    Ok(())
 }

@@ -3,7 +3,8 @@
 ghost use Rattle.wire_pattern_answers.specs.FewPlacings.{FewPlacingsTell, ThreeStatuses};
 
 /// With whatever status a get-now of a plan that is settled on all nodes is answered on some of them, it is answered
-/// with all processes on one node, or with one of them on a node of its own and all others on another.
+/// with each process on a node of its own, or with all on one node. Or it is success: then with all on one node it
+/// exists outside its scope, and it is found with one process on a node of its own and all others on another.
 pub fn few_placings_tell()
     ensures { FewPlacingsTell }
 {}

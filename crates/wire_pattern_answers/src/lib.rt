@@ -8,6 +8,7 @@ mod lines;
 mod notes;
 mod sweep;
 mod text;
+mod told;
 
 pub use answers::LineAnswers;
 pub use sweep::find_answers;

@@ -1,7 +1,6 @@
-//! Which statuses are noted of call lines.
+//! Which statuses the get-nows of processes are answered with.
 
-ghost use Rattle.std.specs.Prelude.{◌≡◌, ◌++◌, ◌||◌, ℕ, OnOk, slice_get};
-ghost use Rattle.wire_types.specs.declared.Status.{Status as StatusSpec};
+ghost use Rattle.std.specs.Prelude.{◌≡◌, ◌++◌, OnOk};
 ghost use Rattle.wire_pattern_answers.specs.Notes as spec;
 
 use std::alloc::AllocError;
@@ -14,53 +13,6 @@ pub(crate) struct Note {
     pub(crate) role: u32,
     pub(crate) line: usize,
     pub(crate) status: Status,
-}
-
-/// The place of a status among all.
-fn place_of(status: Status) -> u32
-    ensures { result ≡ spec.place_of status }
-{
-    match status {
-        Status::Success => 0,
-        Status::NotFound => 1,
-        Status::ExistsOutsideScope => 2,
-        Status::DuplicateKey => 3,
-        Status::BadParam => 4,
-    }
-}
-
-/// Whether a note says what another says.
-fn is_same(note: Note, other: Note) -> bool
-    ensures { result ≡ spec.is_at other.role other.line other.status note }
-{
-    note.role == other.role
-        && note.line == other.line
-        && place_of(note.status) == place_of(other.status)
-}
-
-/// Whether a note is among these.
-pub(crate) fn is_noted(notes: &[Note], note: Note) -> bool
-    ensures { result ≡ spec.is_noted notes.now note.role note.line note.status }
-{
-    for other in notes {
-        if is_same(*other, note) {
-            return true;
-        }
-    }
-    false
-}
-
-/// Notes what isn't noted yet.
-pub(crate) fn note_all(noted: &mut Vec<Note>, notes: &[Note]) -> Result<(), AllocError>
-    ensures { OnOk result ((role line : ℕ) (status : StatusSpec) → spec.is_noted noted.new.items role line status
-        ≡ spec.is_noted noted.old.items role line status || spec.is_noted notes.now role line status) }
-{
-    for note in notes {
-        if !is_noted(noted.as_slice(), *note) {
-            noted.push(*note)?;
-        }
-    }
-    Ok(())
 }
 
 /// Adds the note of a call of the line with this number, if it is a get-now that is answered.

@@ -2,6 +2,8 @@ pub mod Walks
 pub mod Noted
 pub mod Listed
 pub mod Told
+pub mod Flags
+pub mod Judged
 pub mod Answered
 pub mod Replied
 pub mod Leads

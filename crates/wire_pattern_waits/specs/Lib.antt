@@ -1,3 +1,4 @@
+pub mod LineSets
 pub mod Lines
 pub mod Places
 pub mod Stops

@@ -3,6 +3,7 @@
 #![tactic(auto)]
 
 pub mod laws;
+mod line_set;
 mod lines;
 mod listing;
 mod places;
@@ -10,8 +11,9 @@ mod stops;
 mod text;
 mod waiting;
 
+pub use line_set::LineSet;
 pub use lines::{CallLine, verbs_of};
-pub use places::places_of;
+pub use places::{Caller, places_of};
 pub use stops::process_roles;
 pub use text::{write_number, write_role, write_waits};
 pub use waiting::waiting_lines;

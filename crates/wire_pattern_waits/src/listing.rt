@@ -2,24 +2,20 @@
 
 ghost use Rattle.std.specs.Prelude.{◌≡◌, ◌++◌, ◌∷◌, [], OnOk, IfOk, filter, map};
 ghost use Rattle.wire_pattern.specs.Shown.{step_by};
+ghost use Rattle.wire_pattern_waits.specs.LineSets.{has_line};
 ghost use Rattle.wire_pattern_waits.specs.Lines as spec;
 ghost use Rattle.wire_pattern_waits.specs.Lines.{verbs_in};
-ghost use Rattle.wire_pattern_waits.specs.Stops.{is_noted};
 
+use crate::line_set::LineSet;
 use crate::lines::{CallLine, verbs_of};
-use crate::stops::{Stop, is_noted};
 use std::alloc::{AllocError, Global};
 use wire_pattern::{Pattern, Step};
 
 /// Adds the call line of this number if it is noted.
-fn add_line(out: &mut Vec<CallLine>, noted: &[Stop], line: CallLine) -> Result<(), AllocError>
-    ensures { OnOk result (out.new.items ≡ out.old.items ++ filter (λ c. is_noted noted.now c.role c.number) (line ∷ [])) }
+fn add_line(out: &mut Vec<CallLine>, noted: &LineSet, line: CallLine) -> Result<(), AllocError>
+    ensures { OnOk result (out.new.items ≡ out.old.items ++ filter (λ c. has_line noted.now c.role c.number) (line ∷ [])) }
 {
-    let stop = Stop {
-        role: line.role,
-        line: line.number,
-    };
-    if is_noted(noted, stop) {
+    if noted.has(line.role, line.number) {
         out.push(line)?;
     }
     Ok(())
@@ -29,12 +25,12 @@ fn add_line(out: &mut Vec<CallLine>, noted: &[Stop], line: CallLine) -> Result<(
 fn add_script(
     out: &mut Vec<CallLine>,
     alloc: Global,
-    noted: &[Stop],
+    noted: &LineSet,
     role: u32,
     steps: &[Step],
 ) -> Result<(), AllocError>
     ensures { OnOk result (out.new.items ≡ out.old.items
-        ++ filter (λ c. is_noted noted.now c.role c.number) (spec.numbered role 1 (verbs_in (map step_by steps.now)))) }
+        ++ filter (λ c. has_line noted.now c.role c.number) (spec.numbered role 1 (verbs_in (map step_by steps.now)))) }
 {
     let verbs = verbs_of(alloc, steps)?;
     for (index, verb) in verbs.iter().enumerate() {
@@ -52,9 +48,9 @@ fn add_script(
 pub(crate) fn noted_lines(
     alloc: Global,
     pattern: &Pattern,
-    noted: &[Stop],
+    noted: &LineSet,
 ) -> Result<Vec<CallLine>, AllocError>
-    ensures { IfOk result (λ v. v.items ≡ filter (λ c. is_noted noted.now c.role c.number) (spec.call_lines pattern.now)) }
+    ensures { IfOk result (λ v. v.items ≡ filter (λ c. has_line noted.now c.role c.number) (spec.call_lines pattern.now)) }
 {
     let mut lines = Vec::new(alloc);
     for (number, role) in pattern.roles().iter().enumerate() {

@@ -40,31 +40,37 @@ fn add_turns(
     Ok(())
 }
 
-/// Who makes the calls of a script, in which instance.
+/// Who makes the calls of a script: a process of an instance, by its number, and the number of its role.
 #[derive(Clone, Copy)]
-struct Caller<'a> {
-    pattern: &'a Pattern,
-    cast: &'a Cast,
-    process: u32,
+pub struct Caller<'a> {
+    pub pattern: &'a Pattern,
+    pub cast: &'a Cast,
+    pub process: u32,
+    pub role: u32,
 }
 
-/// Appends for each call of a step, of which the number in the script is given, the number of its line. The first line
-/// of the step has this number.
+/// Where a step stands in its script: its own number, and that of its first line.
+#[derive(Clone, Copy)]
+struct Place {
+    index: usize,
+    first: usize,
+}
+
+/// Appends for each call of a step, which stands at this place, the number of its line.
 fn add_step(
     out: &mut Vec<usize>,
     alloc: Global,
     caller: &Caller,
-    index: usize,
-    first: usize,
+    place: Place,
     step: &Step,
 ) -> Result<(), AllocError>
     requires cast { IsCast caller.now.pattern.now (cast_by caller.now.cast.now) }
-    requires fits { first + line_count (step_by step.now) < 2 ^ 64 }
+    requires fits { place.first + line_count (step_by step.now) < 2 ^ 64 }
     ensures { OnOk result (out.new.items ≡ out.old.items
-        ++ spec.step_places (cast_by caller.now.cast.now) caller.now.process index first (step_by step.now)) }
+        ++ spec.step_places (cast_by caller.now.cast.now) caller.now.process place.index place.first (step_by step.now)) }
 {
     match step {
-        Step::Once(_) => Ok(out.push(first)?),
+        Step::Once(_) => Ok(out.push(place.first)?),
         Step::Loop {
             number: _,
             group,
@@ -73,11 +79,11 @@ fn add_step(
         } => {
             let round = Round {
                 caller: caller.process,
-                step: index,
+                step: place.index,
                 turns: *turns,
             };
             let taken = turns_of(alloc, caller.pattern, caller.cast, round, *group)?;
-            add_turns(out, taken.as_slice(), first, lines.len())
+            add_turns(out, taken.as_slice(), place.first, lines.len())
         }
     }
 }
@@ -111,32 +117,21 @@ fn add_steps(
     let mut first = 1;
     for (index, step) in steps.iter().enumerate() {
         let behind = number_behind(first, step)?;
-        add_step(out, alloc, caller, index, first, step)?;
+        add_step(out, alloc, caller, Place { index, first }, step)?;
         first = behind;
     }
     Ok(())
 }
 
-/// For each call of a process of this role the number of its line in the role's script.
-pub fn places_of(
-    alloc: Global,
-    pattern: &Pattern,
-    cast: &Cast,
-    process: u32,
-    role: u32,
-) -> Result<Vec<usize>, AllocError>
-    requires { IsCast pattern.now (cast_by cast.now) }
-    ensures { IfOk result (λ v. v.items
-        ≡ spec.steps_places (cast_by cast.now) process 0 1 (steps_in (slice_get pattern.now.roles role))) }
+/// For each call of a process the number of its line in its role's script.
+pub fn places_of(alloc: Global, caller: &Caller) -> Result<Vec<usize>, AllocError>
+    requires { IsCast caller.now.pattern.now (cast_by caller.now.cast.now) }
+    ensures { IfOk result (λ v. v.items ≡ spec.steps_places (cast_by caller.now.cast.now) caller.now.process 0 1
+        (steps_in (slice_get caller.now.pattern.now.roles caller.now.role))) }
 {
     let mut places = Vec::new(alloc);
-    let caller = Caller {
-        pattern,
-        cast,
-        process,
-    };
-    if let Some(role) = pattern.roles().get(role as usize) {
-        add_steps(&mut places, alloc, &caller, role.steps.as_slice())?;
+    if let Some(role) = caller.pattern.roles().get(caller.role as usize) {
+        add_steps(&mut places, alloc, caller, role.steps.as_slice())?;
     }
     Ok(places)
 }

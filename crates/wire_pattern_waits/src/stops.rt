@@ -8,11 +8,13 @@ ghost use Rattle.wire_core.specs.EndsAfter.{plain_ends};
 ghost use Rattle.wire_pattern.specs.Instances.{IsCast, cast_of};
 ghost use Rattle.wire_pattern.specs.Planned.{steps_in};
 ghost use Rattle.wire_instances.specs.Shown.{cast_by};
+ghost use Rattle.wire_pattern_waits.specs.LineSets.{has_line};
 ghost use Rattle.wire_pattern_waits.specs.Places.{steps_places};
 ghost use Rattle.wire_pattern_waits.specs.Stops as spec;
 ghost use Rattle.wire_pattern_waits.specs.Stops.{Stops};
 
-use crate::places::places_of;
+use crate::line_set::LineSet;
+use crate::places::{Caller, places_of};
 use std::alloc::{AllocError, Global};
 use wire_content::Scripts;
 use wire_core::plain_outcome;
@@ -22,7 +24,7 @@ use wire_plan::Plan;
 use wire_types::{CallEnd, Fault, Outcome};
 
 /// A call line at which a process stands: the number of its role, and its own in the role's script, from 1.
-#[derive(Clone, Copy, PartialEq, Eq)]
+#[derive(Clone, Copy)]
 pub(crate) struct Stop {
     pub(crate) role: u32,
     pub(crate) line: usize,
@@ -70,25 +72,23 @@ fn add_stops(
     Ok(())
 }
 
-/// Adds the stops of a process of this role, by what became of its calls.
+/// Adds the stops of a process, by what became of its calls.
 fn add_process(
     out: &mut Vec<Stop>,
     alloc: Global,
-    pattern: &Pattern,
-    cast: &Cast,
-    process: u32,
-    role: u32,
+    caller: &Caller,
     row: &[CallEnd],
 ) -> Result<(), AllocError>
-    requires { IsCast pattern.now (cast_by cast.now) }
-    ensures { OnOk result (out.new.items ≡ out.old.items ++ spec.process_stops role row.now
-        (steps_places (cast_by cast.now) process 0 1 (steps_in (slice_get pattern.now.roles role)))) }
+    requires { IsCast caller.now.pattern.now (cast_by caller.now.cast.now) }
+    ensures { OnOk result (out.new.items ≡ out.old.items ++ spec.process_stops caller.now.role row.now
+        (steps_places (cast_by caller.now.cast.now) caller.now.process 0 1
+        (steps_in (slice_get caller.now.pattern.now.roles caller.now.role)))) }
 {
     if !is_stopped(row) {
         return Ok(());
     }
-    let places = places_of(alloc, pattern, cast, process, role)?;
-    add_stops(out, role, row, places.as_slice())
+    let places = places_of(alloc, caller)?;
+    add_stops(out, caller.role, row, places.as_slice())
 }
 
 /// The role of each process.
@@ -120,16 +120,13 @@ fn stops_by(
         let Some(row) = rows.get(number) else {
             return Ok(stops);
         };
-        let process = number as u32;
-        add_process(
-            &mut stops,
-            alloc,
+        let caller = Caller {
             pattern,
             cast,
-            process,
-            *role,
-            row.as_slice(),
-        )?;
+            process: number as u32,
+            role: *role,
+        };
+        add_process(&mut stops, alloc, &caller, row.as_slice())?;
     }
     Ok(stops)
 }
@@ -162,27 +159,17 @@ pub(crate) fn stops_of(
     Ok(stops)
 }
 
-/// Whether a stop is among these.
-pub(crate) fn is_noted(stops: &[Stop], stop: Stop) -> bool
-    ensures { result ≡ spec.is_noted stops.now stop.role stop.line }
-{
-    for other in stops {
-        if *other == stop {
-            return true;
-        }
-    }
-    false
-}
-
-/// Notes stops that aren't noted yet.
-pub(crate) fn note_stops(noted: &mut Vec<Stop>, stops: &[Stop]) -> Result<(), AllocError>
-    ensures { OnOk result ((role line : ℕ) → spec.is_noted noted.new.items role line
-        ≡ spec.is_noted noted.old.items role line || spec.is_noted stops.now role line) }
+/// Notes the lines of stops.
+pub(crate) fn note_stops(
+    noted: &mut LineSet,
+    alloc: Global,
+    stops: &[Stop],
+) -> Result<(), AllocError>
+    ensures { OnOk result ((role line : ℕ) → has_line noted.new role line
+        ≡ has_line noted.old role line || spec.is_noted stops.now role line) }
 {
     for stop in stops {
-        if !is_noted(noted.as_slice(), *stop) {
-            noted.push(*stop)?;
-        }
+        noted.insert(alloc, stop.role, stop.line)?;
     }
     Ok(())
 }

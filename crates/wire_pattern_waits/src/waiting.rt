@@ -1,6 +1,7 @@
 //! The call lines of a pattern at which something waits.
 
 ghost use Rattle.std.specs.Prelude.{◌≡◌, ◌↔◌, ◌<◌, ◌^◌, [], ℕ, true, IfOk, IfErr, map};
+ghost use Rattle.wire_pattern_waits.specs.LineSets.{has_line};
 ghost use Rattle.wire_pattern_waits.specs.Stops as spec;
 ghost use Rattle.wire_pattern_waits.specs.Waits.{StopsIn, Waits, AreWaiting, AllReplied};
 ghost use Rattle.wire_sweep.specs.Judged.{IsJudgeFault};
@@ -9,6 +10,7 @@ ghost use Rattle.wire_sweep.specs.Shown.{selection_by};
 ghost use Rattle.wire_sweep_laws.specs.Sizes as counted;
 ghost use Rattle.wire_sweep_laws.specs.Sizes.{AreFewSizes};
 
+use crate::line_set::LineSet;
 use crate::lines::CallLine;
 use crate::listing::noted_lines;
 use crate::stops::{Stop, note_stops, stops_of};
@@ -36,16 +38,16 @@ fn stops_in(alloc: Global, pattern: &Pattern, selection: &Selection) -> Result<V
 }
 
 /// Notes the stops of the instances of all selections of a pattern.
-fn all_stops(alloc: Global, pattern: &Pattern, all: &[Selection]) -> Result<Vec<Stop>, Fault>
+fn all_stops(alloc: Global, pattern: &Pattern, all: &[Selection]) -> Result<LineSet, Fault>
     requires all { map selection_by all.now ≡ selections pattern.now }
     requires few { counted.total_of (most_sizes pattern.now.roles) < 2 ^ 31 }
-    ensures ok { IfOk result (λ v. (role line : ℕ) → (spec.is_noted v.items role line ≡ true) ↔ Waits pattern.now role line) }
+    ensures ok { IfOk result (λ v. (role line : ℕ) → (has_line v role line ≡ true) ↔ Waits pattern.now role line) }
     ensures err { IfErr result (λ e. IsJudgeFault pattern.now e) }
 {
-    let mut noted = Vec::new(alloc);
+    let mut noted = LineSet::new(alloc);
     for selection in all {
         let stops = stops_in(alloc, pattern, selection)?;
-        note_stops(&mut noted, stops.as_slice())?;
+        note_stops(&mut noted, alloc, stops.as_slice())?;
     }
     Ok(noted)
 }
@@ -64,6 +66,6 @@ pub fn waiting_lines(alloc: Global, pattern: &Pattern) -> Result<Vec<CallLine>, 
     instances_read();
     let all = all_selections(alloc, pattern)?;
     let noted = all_stops(alloc, pattern, all.as_slice())?;
-    let lines = noted_lines(alloc, pattern, noted.as_slice())?;
+    let lines = noted_lines(alloc, pattern, &noted)?;
     Ok(lines)
 }

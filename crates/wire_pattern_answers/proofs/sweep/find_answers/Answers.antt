@@ -1,6 +1,6 @@
 use Rattle.std.proofs.Common.{◌≡◌, ◌∙◌, ap, map, sym, subst, length, vec_len, arith}
 use Rattle.wire_pattern_answers.specs.Answers.{AreAnswers}
-use Rattle.wire_pattern_answers.specs.Notes.{noted_of}
+use Rattle.wire_pattern_answers.specs.Notes.{told_of}
 use Rattle.wire_pattern_answers.proofs.OfLines.{no_lines, none_are, answers_are}
 use Rattle.wire_pattern_answers.proofs.Three.{answers_three}
 use Rattle.wire_pattern_answers.proofs.sweep.find_answers.Goals as goal
@@ -14,8 +14,7 @@ returns-then-is_empty-clause-ok c =
 
 pub returns-clause-ok : goal.returns-clause-ok
 returns-clause-ok c =
-    answers_are c.args.pattern.now c.in_ok-notes.notes.items c.in_ok-lines.lines.items c.in_ok-answers.answers.items
-    (c.in_ok-answers.ensures ∙ ap (λ ns. map (noted_of ns) c.as_slice-3.result.now) c.as_slice-2.ensures.value
-    ∙ ap (map (noted_of c.in_ok-notes.notes.items)) c.as_slice-3.ensures.value)
-    c.in_ok-lines.ensures c.in_ok-notes.ensures.ok
+    answers_are c.args.pattern.now c.in_ok-told.told c.in_ok-lines.lines.items c.in_ok-answers.answers.items
+    (c.in_ok-answers.ensures ∙ ap (map (told_of c.in_ok-told.told)) c.as_slice-2.ensures.value)
+    c.in_ok-lines.ensures c.in_ok-told.ensures.ok
     (answers_three c.args.pattern.now c.roles-roles.ensures.sound c.instances_read.ensures c.three_statuses.ensures c.requires.settled c.requires.few)
