@@ -9,3 +9,4 @@ pub mod Found
 pub mod Ranked
 pub mod NodeLines
 pub mod Casts
+pub mod Leasts

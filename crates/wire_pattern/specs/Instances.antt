@@ -1,5 +1,5 @@
 -- An instance of a pattern, as the lines of a plan.
-use Rattle.std.specs.Prelude.{◌≡◌, ◌<◌, ◌^◌, nat_lt, sum_by, ℕ, zero, suc, ◌==◌, ◌&&◌, Bool, true, List, [], ◌∷◌, ◌++◌, map, flat_map, codes, decimal}
+use Rattle.std.specs.Prelude.{◌≡◌, ◌<◌, ◌≤◌, ◌^◌, nat_lt, sum_by, ℕ, zero, suc, ◌==◌, ◌&&◌, Bool, true, List, [], ◌∷◌, ◌++◌, map, flat_map, codes, decimal}
 use Rattle.std.specs.Prelude.{Option, Some, None, slice_get, slice_index_or, replicate, take, count_by, length, if◌then◌else◌}
 use Rattle.std.specs.List.{join_with_byte, list_all}
 use Rattle.wire_types.specs.Said as said
@@ -41,6 +41,10 @@ pub record IsCast (p : Pattern) (cast : Cast) : Type 0 where
   pub below : list_all (λ n. nat_lt n cast.node_count) cast.nodes ≡ true
   pub few : process_count cast < 2 ^ 31
   pub few_nodes : cast.node_count < 2 ^ 31
+
+-- each role has its least number of processes at least
+abbrev pub HaveLeast : List Role → List ℕ → Type 0
+HaveLeast roles sizes = (r : ℕ) (role : Role) (size : ℕ) → slice_get roles r ≡ Some role → slice_get sizes r ≡ Some size → role.least ≤ size
 
 abbrev pub is_taken : List (Turn × Bool) → Turn → Bool
 is_taken [] turn = true
