@@ -20,6 +20,8 @@ MOST_NODES, MOST_RANKS = 64, 512
 TEAM = as_lines(
     "pattern 1/job app/one root/put global k v/commit/many team min 2/get root k".split("/")
 )
+# Two groups, on the lines 3 and 5.
+TEAMS = as_lines("pattern 1/job app/many first/commit/many second/commit".split("/"))
 LONG_KEY = as_lines(["pattern 1", "job " + "j" * 58, "many w", "put global k[self] v"])
 
 
@@ -86,6 +88,10 @@ def refusals() -> Runs:
     yield refusal(["--ranks", "workers=200"], pattern_text(CARDS), "TooMany", 9)
     many = ["--ranks", "workers=66", "--per-node", "1"]
     yield refusal(many, pattern_text(CARDS), "TooMany", 4)
+    # The first rank on the node past the limit is the rank 128.
+    for first, line in ((128, 5), (129, 3)):
+        words = ["--ranks", f"first={first},second=9", "--per-node", "2"]
+        yield refusal(words, TEAMS, "TooMany", line)
     yield refusal(["--ranks", "w=11"], LONG_KEY, "TooLong", 4)
 
 

@@ -10,7 +10,7 @@ use Rattle.wire_content.specs.Canonical.{keep_said}
 use Rattle.wire_script.specs.FirstPass.{Name, number_or_count}
 use Rattle.wire_pattern.specs.Pattern.{JobLine, Pattern}
 use Rattle.wire_pattern.specs.Planned.{steps_in}
-use Rattle.wire_pattern.specs.Instances.{Cast, cast_of, job_in, number_in, node_name, nodes_said, process_said, members_said, jobs_said, steps_lines, members_lines, jobs_lines, nodes_lines, instance_lines}
+use Rattle.wire_pattern.specs.Instances.{Cast, cast_of, job_in, number_in, node_name, nodes_said, process_said, members_said, jobs_said, steps_lines, members_lines, jobs_lines, node_line, nodes_lines, instance_lines}
 use Rattle.wire_instance_laws.proofs.Roles.{RolesRise}
 use Rattle.wire_instance_laws.specs.Lined.{line_in}
 use Rattle.wire_instance_laws.proofs.Made.{Turned, in_steps, said_by, steps_are_said, number_by, steps_are_numbered}
@@ -105,7 +105,7 @@ module _ (p : Pattern) (cast : Cast) where
 
   abbrev pub marked_nodes : ℕ → ℕ → List Marked
   marked_nodes n zero = []
-  marked_nodes n (suc k) = (number_in (slice_get p.roles (slice_index_or (cast_of cast).roles n 0)), Node (node_name n)) ∷ marked_nodes (suc n) k
+  marked_nodes n (suc k) = (node_line p n (cast_of cast).roles cast.nodes, Node (node_name n)) ∷ marked_nodes (suc n) k
 
   abbrev pub marked_keep : Bool → List Marked
   marked_keep true = (0, Keep) ∷ []
@@ -179,9 +179,9 @@ module _ (p : Pattern) (cast : Cast) where
       ap (λ t. job.number ∷ t)
       (map-append first (marked_members n 0 (cast_of cast).roles) (marked_jobs (suc n) jobs) ∙ (λ i. number_members n 0 (cast_of cast).roles i ++ number_jobs (suc n) jobs i))
 
-  number_nodes : (n k : ℕ) → map first (marked_nodes n k) ≡ nodes_lines p (cast_of cast).roles n k
+  number_nodes : (n k : ℕ) → map first (marked_nodes n k) ≡ nodes_lines p cast n k
   number_nodes n zero = refl
-  number_nodes n (suc k) = ap (λ t. number_in (slice_get p.roles (slice_index_or (cast_of cast).roles n 0)) ∷ t) (number_nodes (suc n) k)
+  number_nodes n (suc k) = ap (λ t. node_line p n (cast_of cast).roles cast.nodes ∷ t) (number_nodes (suc n) k)
 
   number_keep : (b : Bool) → map first (marked_keep b) ≡ (if b then 0 ∷ [] else [])
   number_keep true = refl

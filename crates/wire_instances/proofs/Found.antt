@@ -36,7 +36,7 @@ no_name p jobs n is h =
     past_end (x ∷ xs) zero h = absurd (h (omega arith))
     past_end (x ∷ xs) (suc i) h = past_end xs i (λ l. h (omega (arith, l)))
 
-lt_from : (a b : ℕ) → nat_lt a b ≡ true → a < b
+pub lt_from : (a b : ℕ) → nat_lt a b ≡ true → a < b
 lt_from a b h = grind (arith, nat_tests)
 
 to_lt : (a b : ℕ) → a < b → nat_lt a b ≡ true
@@ -51,7 +51,7 @@ roles_below m n [] h = refl
 roles_below m n (size ∷ sizes) h =
     all_append (λ r. nat_lt r m) (replicate size n) (roles_from (suc n) sizes) (all_copies (λ r. nat_lt r m) size n (to_lt n m (omega (arith, h)))) (roles_below m (suc n) sizes (omega (arith, h)))
 
-at_all : (p : ℕ → Bool) (xs : List ℕ) (i : ℕ) → list_all p xs ≡ true → i < length xs → p (slice_index_or xs i 0) ≡ true
+pub at_all : (p : ℕ → Bool) (xs : List ℕ) (i : ℕ) → list_all p xs ≡ true → i < length xs → p (slice_index_or xs i 0) ≡ true
 at_all p (x ∷ xs) zero h l = (and_parts (p x) (list_all p xs) h).0
 at_all p (x ∷ xs) (suc i) h l = at_all p xs i (and_parts (p x) (list_all p xs) h).1 (omega (arith, l))
 at_all p [] i h l = absurd (omega (arith, l))

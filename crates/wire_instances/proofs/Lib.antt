@@ -7,4 +7,6 @@ pub mod Nodal
 pub mod Takes
 pub mod Found
 pub mod Ranked
+pub mod NodeLines
 pub mod Casts
+pub mod Leasts

@@ -18,12 +18,12 @@ use Rattle.wire_pattern.specs.Pattern.{Pattern}
 use Rattle.wire_pattern.specs.Planned.{steps_in}
 use Rattle.wire_pattern.specs.Shown.{line_by, step_by, role_by, job_by, item_by}
 use Rattle.wire_pattern.specs.Instances.{Cast, cast_of, call_said, turns_said, steps_said, step_said, process_said, members_said, jobs_said, nodes_said, node_name, job_in}
-use Rattle.wire_pattern.specs.Instances.{step_lines, steps_lines, members_lines, jobs_lines, nodes_lines, number_in, roles_from, process_item, process_text, items_said}
+use Rattle.wire_pattern.specs.Instances.{step_lines, steps_lines, members_lines, jobs_lines, number_in, roles_from, process_item, process_text, items_said}
 use Rattle.wire_instances.specs.Tables.{first_of}
 use Rattle.wire_instances.specs.Written.{calls_text, role_said, role_lines, ended_text}
 use Rattle.wire_instances.proofs.Ranges.{opened}
 use Rattle.wire_instances.proofs.Texts.{moved, opened_list, calls_append, items_append}
-use Rattle.wire_instances.proofs.Members.{said_role, said_none, lines_role, lines_none, said_process, lines_process, said_node, lines_node}
+use Rattle.wire_instances.proofs.Members.{said_role, said_none, lines_role, lines_none, said_process, lines_process, said_node}
 
 -- a mapped list, opened
 opened_map : {A B : Type 0} (f : A → B) (xs : List A) (i : ℕ) (x : A) → i < length xs → x ≡ get_or xs i x → map f (drop i xs) ≡ f x ∷ map f (drop (i + 1) xs)
@@ -217,9 +217,3 @@ job_numbers p cast js n d old mid now all is h at first second inv =
     (second ∙ ap (λ t. t ++ members) first ∙ append_assoc old (d.number ∷ []) members)
     (ap (jobs_lines p cast n) (jobs_opened p.jobs js n d is h at)
     ∙ ap (λ m. (d.number ∷ members) ++ jobs_lines p cast m (drop (n + 1) p.jobs)) (sym (add-one n))) inv
-
-pub node_numbers : (p : Pattern) (roles : List ℕ) (n end : ℕ) (old now all : List ℕ) → n < end
-    → now ≡ old ++ number_in (slice_get p.roles (slice_index_or roles n 0)) ∷ []
-    → old ++ nodes_lines p roles n (end - n) ≡ all → now ++ nodes_lines p roles (n + 1) (end - (n + 1)) ≡ all
-node_numbers p roles n end old now all h more inv =
-    moved old now (number_in (slice_get p.roles (slice_index_or roles n 0)) ∷ []) (nodes_lines p roles (n + 1) (end - (n + 1))) _ all more (lines_node p roles n end h) inv

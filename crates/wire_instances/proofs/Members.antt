@@ -5,7 +5,7 @@ use Rattle.std.proofs.lemmas.List.Sums.{sum_by_more}
 use Rattle.wire_types.specs.Said as said
 use Rattle.wire_pattern.specs.Pattern.{Pattern}
 use Rattle.wire_pattern.specs.Planned.{steps_in}
-use Rattle.wire_pattern.specs.Instances.{Cast, process_said, members_said, members_lines, number_in, steps_lines, roles_from, job_in, nodes_said, nodes_lines, node_name}
+use Rattle.wire_pattern.specs.Instances.{Cast, process_said, members_said, members_lines, number_in, steps_lines, roles_from, job_in, nodes_said, node_name}
 use Rattle.wire_instances.specs.Tables.{first_of}
 use Rattle.wire_instances.specs.Written.{role_said, role_lines}
 use Rattle.wire_instances.proofs.Texts.{opened_list, get_or_same}
@@ -103,8 +103,3 @@ lines_process p cast role v end h =
 
 pub said_node : (n end : ℕ) → n < end → nodes_said n (end - n) ≡ said.Node (node_name n) ∷ nodes_said (n + 1) (end - (n + 1))
 said_node n end h = ap (nodes_said n) (fewer n end h) ∙ ap (λ w. said.Node (node_name n) ∷ nodes_said w (end - (n + 1))) (sym (add-one n))
-
-pub lines_node : (p : Pattern) (roles : List ℕ) (n end : ℕ) → n < end
-    → nodes_lines p roles n (end - n) ≡ (number_in (slice_get p.roles (slice_index_or roles n 0)) ∷ []) ++ nodes_lines p roles (n + 1) (end - (n + 1))
-lines_node p roles n end h =
-    ap (nodes_lines p roles n) (fewer n end h) ∙ ap (λ w. number_in (slice_get p.roles (slice_index_or roles n 0)) ∷ nodes_lines p roles w (end - (n + 1))) (sym (add-one n))

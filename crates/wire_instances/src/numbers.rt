@@ -18,7 +18,7 @@ use wire_pattern::{Line, Pattern, Role, Step};
 use wire_types::Fault;
 
 /// For each line of the instance's text the number of the line of the pattern's file that it comes from, in order: of a
-/// node and a process the line of the role, where a node goes by the process of its number; of the header 0.
+/// process the line of its role, of a node that of its first process, of the header 0.
 pub fn instance_lines(alloc: Global, pattern: &Pattern, cast: &Cast) -> Result<Vec<u64>, AllocError>
     requires { IsCast pattern.now (cast_by cast.now) }
     ensures { IfOk result (λ lines. lines.items ≡ spec.instance_lines pattern.now (cast_by cast.now)) }
@@ -193,13 +193,27 @@ fn role_line(frame: &Frame, process: u32) -> u64
     }
 }
 
+/// For each node the line of the role of its first process; 0 where no process is on it.
+fn node_lines(alloc: Global, frame: &Frame) -> Result<Vec<u64>, AllocError>
+    ensures count { IfOk result (λ lines. length lines.items ≡ frame.now.cast.node_count) }
+    ensures lines { IfOk result (λ lines. (n : ℕ) → n < frame.now.cast.node_count → slice_index_or lines.items n 0
+        ≡ spec.node_line frame.now.pattern n (cast_of frame.now.cast).roles frame.now.cast.nodes) }
+{
+    let nodes = &frame.cast().nodes;
+    let mut lines = vec![in alloc; 0u64; nodes.count as usize]?;
+    let mut process = nodes.of.len();
+    'processes: while process > 0 {
+        process -= 1;
+        lines[nodes.of[process] as usize] = role_line(frame, process as u32);
+    }
+    Ok(lines)
+}
+
 /// Appends the numbers of the lines of the nodes.
 fn add_nodes(out: &mut Vec<u64>, frame: &Frame) -> Result<(), AllocError>
-    ensures { OnOk result (out.new.items ≡ out.old.items ++ spec.nodes_lines frame.now.pattern (cast_of frame.now.cast).roles
+    ensures { OnOk result (out.new.items ≡ out.old.items ++ spec.nodes_lines frame.now.pattern frame.now.cast
         0 frame.now.cast.node_count) }
 {
-    for node in 0..frame.cast().nodes.count {
-        out.push(role_line(frame, node))?;
-    }
-    Ok(())
+    let lines = node_lines(*out.allocator(), frame)?;
+    out.extend_from_slice(lines.as_slice())
 }

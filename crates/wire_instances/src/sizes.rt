@@ -3,6 +3,7 @@
 ghost use Rattle.std.specs.Prelude.{◌≡◌, ◌≤◌, ◌<◌, ◌^◌, ℕ, true, false, map, sum_by, length, IfOk, IfErr, IfSome};
 ghost use Rattle.std.specs.Prelude.{MatchOption};
 ghost use Rattle.std.specs.Str.{bytes_eq};
+ghost use Rattle.wire_pattern.specs.Instances.{HaveLeast};
 ghost use Rattle.wire_pattern.specs.Shown.{role_by};
 ghost use Rattle.wire_instances.specs.Asked as spec;
 ghost use Rattle.wire_instances.specs.Asked.{asked_by, IsPassed};
@@ -96,6 +97,7 @@ pub fn sizes_asked(
         (λ v. spec.are_fit pattern.now.roles (map asked_by asked.now) ≡ true)) }
     ensures sizes { IfOk result (λ o. IfSome o (λ v. v.items ≡ map (spec.size_asked (map asked_by asked.now)) pattern.now.roles)) }
     ensures cast { IfOk result (λ o. IfSome o (λ v. AreSizes pattern.now.roles v.items)) }
+    ensures least { IfOk result (λ o. IfSome o (λ v. HaveLeast pattern.now.roles v.items)) }
 {
     let roles = pattern.roles();
     if !are_fit(roles, asked) {

@@ -1,5 +1,5 @@
 -- An instance of a pattern, as the lines of a plan.
-use Rattle.std.specs.Prelude.{◌≡◌, ◌<◌, ◌^◌, nat_lt, sum_by, ℕ, zero, suc, ◌==◌, ◌&&◌, Bool, true, List, [], ◌∷◌, ◌++◌, map, flat_map, codes, decimal}
+use Rattle.std.specs.Prelude.{◌≡◌, ◌<◌, ◌≤◌, ◌^◌, nat_lt, sum_by, ℕ, zero, suc, ◌==◌, ◌&&◌, Bool, true, List, [], ◌∷◌, ◌++◌, map, flat_map, codes, decimal}
 use Rattle.std.specs.Prelude.{Option, Some, None, slice_get, slice_index_or, replicate, take, count_by, length, if◌then◌else◌}
 use Rattle.std.specs.List.{join_with_byte, list_all}
 use Rattle.wire_types.specs.Said as said
@@ -41,6 +41,10 @@ pub record IsCast (p : Pattern) (cast : Cast) : Type 0 where
   pub below : list_all (λ n. nat_lt n cast.node_count) cast.nodes ≡ true
   pub few : process_count cast < 2 ^ 31
   pub few_nodes : cast.node_count < 2 ^ 31
+
+-- each role has its least number of processes at least
+abbrev pub HaveLeast : List Role → List ℕ → Type 0
+HaveLeast roles sizes = (r : ℕ) (role : Role) (size : ℕ) → slice_get roles r ≡ Some role → slice_get sizes r ≡ Some size → role.least ≤ size
 
 abbrev pub is_taken : List (Turn × Bool) → Turn → Bool
 is_taken [] turn = true
@@ -164,7 +168,7 @@ abbrev pub instance_text : Pattern → Cast → List ℕ
 instance_text p cast = flat_map line_text (instance_said p cast)
 
 -- for each line of the text the line of the pattern's file that it comes from: of a call its own, of a job and a rank
--- that of the job and the role. The node of number n has the line of the role of process n, and the header has 0
+-- that of the job and the role, of a node that of the role of its first process. The header has 0
 
 abbrev pub step_lines : Cast → ℕ → ℕ → Step → List ℕ
 step_lines cast v i (Once line) = line.number ∷ []
@@ -188,10 +192,17 @@ abbrev pub jobs_lines : Pattern → Cast → ℕ → List JobLine → List ℕ
 jobs_lines p cast n [] = []
 jobs_lines p cast n (job ∷ jobs) = job.number ∷ (members_lines p cast n 0 (cast_of cast).roles ++ jobs_lines p cast (suc n) jobs)
 
-abbrev pub nodes_lines : Pattern → List ℕ → ℕ → ℕ → List ℕ
-nodes_lines p roles n zero = []
-nodes_lines p roles n (suc count) = number_in (slice_get p.roles (slice_index_or roles n 0)) ∷ nodes_lines p roles (suc n) count
+-- the line of the role of the first process on the node n, where these are the roles and the nodes of processes; 0 where
+-- no process is on it
+abbrev pub node_line : Pattern → ℕ → List ℕ → List ℕ → ℕ
+node_line p n (role ∷ roles) (node ∷ nodes) = if node == n then number_in (slice_get p.roles role) else node_line p n roles nodes
+node_line p n _ _ = 0
+
+-- the lines of so many nodes, the first of them with the number n
+abbrev pub nodes_lines : Pattern → Cast → ℕ → ℕ → List ℕ
+nodes_lines p cast n zero = []
+nodes_lines p cast n (suc count) = node_line p n (cast_of cast).roles cast.nodes ∷ nodes_lines p cast (suc n) count
 
 abbrev pub instance_lines : Pattern → Cast → List ℕ
 instance_lines p cast =
-    0 ∷ ((if p.keeps then 0 ∷ [] else []) ++ (nodes_lines p (cast_of cast).roles 0 cast.node_count ++ jobs_lines p cast 0 p.jobs))
+    0 ∷ ((if p.keeps then 0 ∷ [] else []) ++ (nodes_lines p cast 0 cast.node_count ++ jobs_lines p cast 0 p.jobs))

@@ -173,6 +173,7 @@ pub record IsSound (p : Pattern) : Type 0 where
   pub job_names : list_all (λ j. is_plain_name j.name) p.jobs ≡ true
   pub jobs_apart : AreApart (map (λ j. j.name) p.jobs)
   pub role_names : list_all (λ r. is_plain_name r.name) p.roles ≡ true
+  pub roles_apart : AreApart (map (λ r. r.name) p.roles)
   pub in_jobs : list_all (λ r. nat_lt r.job (length p.jobs)) p.roles ≡ true
   pub together : (r s : ℕ) → r ≤ s → s < length p.roles → job_in (slice_get p.roles r) ≤ job_in (slice_get p.roles s)
   pub least : (r : ℕ) (role : Role) → slice_get p.roles r ≡ Some role → HasLeast role

@@ -138,16 +138,19 @@ plain name bare short =
     rw (a, b) short
 
 fit_role : (d : Declared) (line : ℕ) (name : Name) (single : Bool) (least : ℕ) → IsFit d → 0 < length d.jobs → length d.roles < role_limit
-    → is_role_name name ≡ true → is_short_name name ≡ true → (nat_le least 9 && (not single || least == 1)) ≡ true → IsFit (with_role d line name single least)
-fit_role d line name single least f some room named short few =
+    → is_role_name name ≡ true → is_short_name name ≡ true → is_among (role_names d) name ≡ false → (nat_le least 9 && (not single || least == 1)) ≡ true
+    → IsFit (with_role d line name single least)
+fit_role d line name single least f some room named short new few =
     let role : RoleLines = record { job = length d.jobs - 1; name = name; single = single; least = least; number = line; steps = [] } in
     let job_below : nat_lt (length d.jobs - 1) (length d.jobs) ≡ true = lt-ltb (length d.jobs - 1) (length d.jobs) (omega arith) in
+    let names : map (λ (r : RoleLines). r.name) (d.roles ++ role ∷ []) ≡ role_names d ++ name ∷ [] = map-append (λ (r : RoleLines). r.name) d.roles (role ∷ []) in
     record {
       few_jobs = f.few_jobs;
       few_roles = omega (arith, length-append d.roles (role ∷ []));
       named_jobs = f.named_jobs;
-      apart = f.apart;
-      named_roles = rw (map-append (λ (r : RoleLines). r.name) d.roles (role ∷ [])) (all_more is_plain_name (role_names d) name f.named_roles (plain name (and_left _ _ named) short));
+      jobs_apart = f.jobs_apart;
+      named_roles = rw names (all_more is_plain_name (role_names d) name f.named_roles (plain name (and_left _ _ named) short));
+      roles_apart = subst AreApart (sym names) (apart_more (role_names d) name f.roles_apart new);
       in_jobs = rw (map-append (λ (r : RoleLines). r.job) d.roles (role ∷ [])) (all_more (λ j. nat_lt j (length d.jobs)) (role_jobs d) (length d.jobs - 1) f.in_jobs job_below);
       rising = rw (map-append (λ (r : RoleLines). r.job) d.roles (role ∷ [])) (rising_more 0 (length d.jobs - 1) (role_jobs d) f.rising (omega arith) (below_most (length d.jobs) (role_jobs d) f.in_jobs));
       least = all_more has_least d.roles role f.least few;
@@ -161,8 +164,9 @@ fit_step d s o f fit lines = record {
   few_jobs = f.few_jobs;
   few_roles = (let e = length_step d.roles s in let h = f.few_roles in omega arith);
   named_jobs = f.named_jobs;
-  apart = f.apart;
+  jobs_apart = f.jobs_apart;
   named_roles = rw (map_step (λ (r : RoleLines). r.name) (λ r steps. refl) d.roles s) f.named_roles;
+  roles_apart = subst AreApart (sym (map_step (λ (r : RoleLines). r.name) (λ r steps. refl) d.roles s)) f.roles_apart;
   in_jobs = rw (map_step (λ (r : RoleLines). r.job) (λ r steps. refl) d.roles s) f.in_jobs;
   rising = rw (map_step (λ (r : RoleLines). r.job) (λ r steps. refl) d.roles s) f.rising;
   least = all_step has_least (λ r steps. refl) d.roles s f.least;
@@ -185,8 +189,9 @@ fit_call d (Some l) line call e f lawful right =
       few_jobs = f.few_jobs;
       few_roles = f.few_roles;
       named_jobs = f.named_jobs;
-      apart = f.apart;
+      jobs_apart = f.jobs_apart;
       named_roles = f.named_roles;
+      roles_apart = f.roles_apart;
       in_jobs = f.in_jobs;
       rising = f.rising;
       least = f.least;
@@ -201,8 +206,9 @@ fit_after d line Keep lawful place short new room f = record {
   few_jobs = f.few_jobs;
   few_roles = f.few_roles;
   named_jobs = f.named_jobs;
-  apart = f.apart;
+  jobs_apart = f.jobs_apart;
   named_roles = f.named_roles;
+  roles_apart = f.roles_apart;
   in_jobs = f.in_jobs;
   rising = f.rising;
   least = f.least;
@@ -218,8 +224,9 @@ fit_after d line (Job name) lawful place short new room f =
       few_jobs = omega arith;
       few_roles = f.few_roles;
       named_jobs = rw names (all_more is_plain_name (job_names d) name f.named_jobs (plain name lawful short));
-      apart = subst AreApart (sym names) (apart_more (job_names d) name f.apart new);
+      jobs_apart = subst AreApart (sym names) (apart_more (job_names d) name f.jobs_apart new);
       named_roles = f.named_roles;
+      roles_apart = f.roles_apart;
       in_jobs = rw more (below_more (length d.jobs) (role_jobs d) f.in_jobs);
       rising = f.rising;
       least = f.least;
@@ -227,16 +234,17 @@ fit_after d line (Job name) lawful place short new room f =
       open_lines = f.open_lines;
     }
 fit_after d line (Single name) lawful place short new room f =
-    fit_role d line name true 1 f (ltb-true 0 (length d.jobs) (and_left _ _ place)) (ltb-true (length d.roles) role_limit room) lawful short refl
+    fit_role d line name true 1 f (ltb-true 0 (length d.jobs) (and_left _ _ place)) (ltb-true (length d.roles) role_limit room) lawful short new refl
 fit_after d line (Many name least) lawful place short new room f =
     let few : nat_le least 9 ≡ true = and_right _ _ lawful in
-    fit_role d line name false least f (ltb-true 0 (length d.jobs) (and_left _ _ place)) (ltb-true (length d.roles) role_limit (and_left _ _ room)) (and_left _ _ lawful) short (rw few refl)
+    fit_role d line name false least f (ltb-true 0 (length d.jobs) (and_left _ _ place)) (ltb-true (length d.roles) role_limit (and_left _ _ room)) (and_left _ _ lawful) short new (rw few refl)
 fit_after d line (Begin turns group) lawful place short new room f = record {
   few_jobs = f.few_jobs;
   few_roles = f.few_roles;
   named_jobs = f.named_jobs;
-  apart = f.apart;
+  jobs_apart = f.jobs_apart;
   named_roles = f.named_roles;
+  roles_apart = f.roles_apart;
   in_jobs = f.in_jobs;
   rising = f.rising;
   least = f.least;
@@ -270,8 +278,9 @@ fit_nothing = record {
   few_jobs = omega arith;
   few_roles = omega arith;
   named_jobs = refl;
-  apart = λ m n lm ln e. absurd (omega arith);
+  jobs_apart = λ m n lm ln e. absurd (omega arith);
   named_roles = refl;
+  roles_apart = λ m n lm ln e. absurd (omega arith);
   in_jobs = refl;
   rising = refl;
   least = refl;

@@ -8,6 +8,7 @@ use Rattle.wire_types.specs.declared.Fault.{Fault}
 use Rattle.wire_types.specs.declared.Fault.TheVariants.{BadLine, UnknownName, NotMember}
 use Rattle.wire_types.specs.Said.{is_word}
 use Rattle.wire_lines.proofs.Colon.{and_left, and_right}
+use Rattle.wire_content.specs.Apart.{AreApart}
 use Rattle.wire_runs.specs.Patterns.{Who, Only, Turns}
 use Rattle.wire_script.specs.Reads.{first_of}
 use Rattle.wire_pattern.specs.Pattern.{Item, One, Group, Job, Call, Line, Step, Once, Loop, Role, JobLine, Pattern}
@@ -225,6 +226,10 @@ jobs_mapped : (d : Declared) (rs : List RoleLines) → map (λ (r : Role). r.job
 jobs_mapped d [] = refl
 jobs_mapped d (r ∷ rs) = ap (λ t. r.job ∷ t) (jobs_mapped d rs)
 
+names_mapped : (d : Declared) (rs : List RoleLines) → map (λ (r : Role). r.name) (map (role_of d) rs) ≡ map (λ (r : RoleLines). r.name) rs
+names_mapped d [] = refl
+names_mapped d (r ∷ rs) = ap (λ t. r.name ∷ t) (names_mapped d rs)
+
 least_of : (single : Bool) (least : ℕ) → (nat_le least 9 && (not single || least == 1)) ≡ true → (single ≡ true → least ≡ 1) × (least ≤ 9)
 least_of single least h = (λ is. eqb-true least 1 (go single is (and_right _ _ h)), leb-true least 9 (and_left _ _ h))
   where
@@ -238,8 +243,9 @@ declared_sound d f none =
     let n = first_none _ _ none in
     record {
       job_names = all_of (λ (j : JobLine). j.name) is_plain_name d.jobs ∙ f.named_jobs;
-      jobs_apart = f.apart;
+      jobs_apart = f.jobs_apart;
       role_names = sym (all_of (role_of d) (λ (r : Role). is_plain_name r.name) d.roles) ∙ all_of (λ (r : RoleLines). r.name) is_plain_name d.roles ∙ f.named_roles;
+      roles_apart = subst AreApart (sym (names_mapped d d.roles)) f.roles_apart;
       in_jobs = sym (all_of (role_of d) (λ (r : Role). nat_lt r.job (length d.jobs)) d.roles) ∙ all_of (λ (r : RoleLines). r.job) (λ j. nat_lt j (length d.jobs)) d.roles ∙ f.in_jobs;
       together = λ r s le lt. rising_get 0 p.roles r s (ap (are_rising 0) (jobs_mapped d d.roles) ∙ f.rising) le lt;
       least = λ r role e. (let got = got_mapped (role_of d) d.roles r role e in

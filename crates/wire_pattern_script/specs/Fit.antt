@@ -41,8 +41,9 @@ pub record IsFit (d : Declared) : Type 0 where
   pub few_jobs : length d.jobs ≤ job_limit
   pub few_roles : length d.roles ≤ role_limit
   pub named_jobs : list_all is_plain_name (job_names d) ≡ true
-  pub apart : AreApart (job_names d)
+  pub jobs_apart : AreApart (job_names d)
   pub named_roles : list_all is_plain_name (role_names d) ≡ true
+  pub roles_apart : AreApart (role_names d)
   pub in_jobs : list_all (λ j. nat_lt j (length d.jobs)) (role_jobs d) ≡ true
   pub rising : are_rising 0 (role_jobs d) ≡ true
   pub least : list_all has_least d.roles ≡ true

@@ -1,19 +1,16 @@
 -- The text of an instance with any number of processes: what it reads as is settled where all instances are.
-use Rattle.std.specs.Prelude.{◌≡◌, ◌≤◌, ℕ, List, Some, Ok, slice_get}
+use Rattle.std.specs.Prelude.{ℕ, Ok}
 use Rattle.wire_content.specs.Scripts.{Scripts}
 use Rattle.wire_content.specs.Planned.{plan_of}
 use Rattle.wire_runs.specs.Races.{IsSettled}
 use Rattle.wire_runs.specs.Laws.{HasOneEnd}
 use Rattle.wire_script.specs.declared.limits.Size.{Size}
 use Rattle.wire_script.specs.Reads.{Reads}
-use Rattle.wire_pattern.specs.Pattern.{Pattern, Role}
+use Rattle.wire_pattern.specs.Pattern.{Pattern}
 use Rattle.wire_pattern.specs.Lawful.{IsSound}
 use Rattle.wire_pattern.specs.Instances.{Cast, IsCast, instance_text}
+pub use Rattle.wire_pattern.specs.Instances.{HaveLeast}
 use Rattle.wire_sweep_laws.specs.Promised.{IsSettledForAll}
-
--- each role has its least number of processes at least
-abbrev pub HaveLeast : List Role → List ℕ → Type 0
-HaveLeast roles sizes = (r : ℕ) (role : Role) (size : ℕ) → slice_get roles r ≡ Some role → slice_get sizes r ≡ Some size → role.least ≤ size
 
 -- where nothing is found for any number of processes, nothing is found in what the text of an instance reads as, and
 -- every interleaving of it that can't go on ends in one state

@@ -1,12 +1,9 @@
-use Rattle.std.proofs.Common.{◌∙◌, ◌++◌, ◌∷◌, [], ◌<◌, ap, arith}
-use Rattle.wire_pattern.specs.Instances.{cast_of}
-use Rattle.wire_instances.proofs.Loops.{node_numbers}
+use Rattle.wire_instances.proofs.NodeLines.{all_lines, lines_added}
 use Rattle.wire_instances.proofs.numbers.add_nodes.Goals as goal
 
-pub loop-node-preserved : goal.loop-node-preserved
-loop-node-preserved c =
+pub returns : goal.returns
+returns c =
     let f = c.args.frame.now in
-    let count = ap (λ k. k.node_count) c.cast.ensures.value in
-    let there : c.loop-node.node < f.cast.node_count = omega (arith, count, c.loop-node-test.true) in
-    node_numbers f.pattern (cast_of f.cast).roles c.loop-node.node f.cast.node_count c.loop-node.out.items c.push.new.self.items _ there
-    (c.in_ok-push.ensures.items ∙ ap (λ k. c.loop-node.out.items ++ k ∷ []) c.role_line.ensures) c.loop-node.invariant
+    let lines = c.in_ok-lines.lines.items in
+    lines_added c.extend_from_slice.result c.args.out.now.items c.extend_from_slice.new.self.items _ c.as_slice.result.now lines c.extend_from_slice.ensures.items c.as_slice.ensures.value
+    (all_lines f.pattern f.cast lines f.cast.node_count c.in_ok-lines.ensures.count c.in_ok-lines.ensures.lines)
