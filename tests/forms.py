@@ -31,6 +31,22 @@ def found_as_json(findings: bytes) -> bytes:
     return one_line({"findings": findings.decode().splitlines()[:-1]})
 
 
+def pattern_as_json(verdict: bytes) -> bytes:
+    """What `check --pattern` writes, as JSON."""
+    lines = verdict.splitlines(True)
+    if lines[0].startswith(b"#"):
+        plan = b"".join(it for it in lines if not it.startswith(b"# ")).decode()
+        said = [it.decode()[2:-1] for it in lines[1:] if it.startswith(b"# ")]
+        ranks = int(lines[0].split()[2])
+        return one_line({"counterexample": plan, "findings": said[:-1], "ranks": ranks})
+    told: dict[str, Any] = {"findings": [], "waits": []}
+    told["for"] = lines[0].decode().split(" for ")[1].strip()
+    for line in lines[1:]:
+        words = line.decode().strip()
+        told.setdefault(words.split(" ")[0], []).append(words)
+    return one_line(told)
+
+
 def place_of(proc: str, number: str) -> dict[str, Any]:
     return {"call": int(number), "proc": proc}
 

@@ -339,10 +339,10 @@ def placings_that_fail(room: str) -> Runs:
 def misused_patterns(file: str) -> Runs:
     """What doesn't go with `--pattern`."""
     usage = b"wire_up: usage --pattern\n"
-    for option in ("--anywhere", "--same", "--lines", "--json", "--large", "--explain"):
+    for option in ("--anywhere", "--same", "--lines", "--large", "--explain"):
         words = ["check", option, "--pattern", file]
         yield Run(f"check with --pattern and {option}", words, status=5, said=usage)
-        words = ["check", "--pattern", "--answers", option, file]
+        words = ["check", "--pattern", "--answers", "--json", option, file]
         yield Run(f"check with --answers and {option}", words, status=5, said=usage)
     for option in ("--answers", "--complete"):
         words = ["check", option, "--anywhere", file]

@@ -1,6 +1,7 @@
 """Patterns: the reference by the examples, by faults and by the model of plans, and `check
 --pattern` of the built program beside the reference."""
 import glob
+import json
 import os
 import random
 import tempfile
@@ -14,6 +15,7 @@ import pattern_reference
 import pattern_soaking
 import random_patterns
 import support
+from forms import one_line, pattern_as_json
 from pattern_plan import Plan, Verdict, answered
 from pattern_soaking import Instance
 from running import ProgramCase, Run, Runs, as_lines, start
@@ -180,6 +182,50 @@ class Program(ProgramCase):
 
     def test_examples(self) -> None:
         self.hold_all(self.runs_of_examples())
+
+    def runs_as_json(self) -> Runs:
+        """The examples as JSON. With `--answers` there is a list of these, if nothing is found."""
+        words = ["check", "--pattern", "--json"]
+        for it in examples(".verdict"):
+            verdict, path = text_at(f"{it}.verdict"), f"{it}.pattern"
+            status = int(verdict.startswith(b"#"))
+            lines = verdict.splitlines(True)
+            short = b"".join(line for line in lines if not line.startswith(b"answers "))
+            wrote = pattern_as_json(short)
+            yield Run(f"{it} as JSON", [*words, path], status=status, wrote=wrote)
+            told: dict[str, object] = {} if status else {"answers": []}
+            told.update(json.loads(pattern_as_json(verdict)))
+            wrote = one_line(told)
+            asked = ["--answers", path]
+            yield Run(f"{it} with answers, as JSON", [*words, *asked], status=status, wrote=wrote)
+        for it in examples(".fault"):
+            said = text_at(f"{it}.fault")
+            yield Run(f"{it} as JSON", [*words, f"{it}.pattern"], status=2, said=said)
+
+    def test_examples_as_json(self) -> None:
+        self.hold_all(self.runs_as_json())
+
+    def test_json_is_a_plan(self) -> None:
+        """The string of a counterexample is the very text of its plan, and `check` finds in it what
+        is told. A key and a value may have quotes and backslashes."""
+        root, key = "pattern 1 / job app / one root", '"a\\'
+        given = pattern_faults.text_of(
+            f'{root} / put global {key} \\"# / commit / many w / get-now root {key}'
+        )
+        plain = start(self.program, Run("plain", ["check", "--pattern"], given))
+        ran = start(self.program, Run("as JSON", ["check", "--pattern", "--json"], given))
+        told = json.loads(ran.stdout)
+        self.assertEqual((1, pattern_as_json(plain.stdout)), (ran.returncode, ran.stdout))
+        plan = told["counterexample"].encode()
+        found = one_line({"findings": told["findings"]})
+        self.hold(Run("the plan", ["check", "--json"], plan, status=1, wrote=found))
+
+    def test_complete_as_json(self) -> None:
+        """`--complete` changes the status alone."""
+        path = os.path.join(FOLDER, "node-local.pattern")
+        words = ["check", "--pattern", "--complete", "--json", path]
+        wrote = pattern_as_json(pattern_reference.CLEAN + b"\n")
+        self.hold(Run("answers that fail, as JSON", words, status=1, wrote=wrote))
 
     def test_faults(self) -> None:
         for it in pattern_faults.refusals():

@@ -18,7 +18,7 @@ use wire_commands::{
 use wire_pattern_commands::{Expansion, Spread, Told, check_pattern, expand_pattern};
 use wire_sched::OpenGate;
 use wire_script::Size;
-use wire_types::{Fault, FromRead, Sink, Source};
+use wire_types::{Fault, Form, FromRead, Sink, Source};
 
 /// The exit status of what was done, where nothing is to be told by it.
 pub const DONE: u8 = 0;
@@ -155,7 +155,8 @@ fn check<S: Source, W: Sink>(
         Judged::Anywhere => check_placements(rt, rt.alloc(), manner, reader, writer),
         Judged::Same => check_replies(rt, rt.alloc(), manner, reader, writer),
         Judged::Pattern(options) => {
-            check_pattern(rt, rt.alloc(), told_of(options), reader, writer)
+            let told = told_of(options, manner.form);
+            check_pattern(rt, rt.alloc(), told, reader, writer)
         }
     }
 }
@@ -176,11 +177,12 @@ fn probe<R: Read>(reader: &mut FromRead<R>) -> Result<(), Fault> {
     }
 }
 
-/// What `check` is to tell of a pattern besides its verdict.
-fn told_of(options: PatternOptions) -> Told {
+/// What `check` is to tell of a pattern besides its verdict, and in which form.
+fn told_of(options: PatternOptions, form: Form) -> Told {
     Told {
         answers: options.answers,
         complete: options.complete,
+        json: form.is_json(),
     }
 }
 

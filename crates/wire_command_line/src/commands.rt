@@ -53,7 +53,7 @@ const ANSWERS: Argument<'static> = Argument {
 const ALL_SUCCEED: Argument<'static> = Argument {
     name: "complete",
     kind: Kind::Flag,
-    help: "With --pattern: ends with status 1 if one of these statuses isn't PMIX_SUCCESS",
+    help: "With --pattern: ends with status 1 unless each get-now is answered, and with PMIX_SUCCESS alone",
 };
 
 /// The limits are lifted.

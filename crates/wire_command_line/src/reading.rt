@@ -110,7 +110,7 @@ fn has_other(found: &ArgMatches<'_>) -> bool
 {
     is_set(found, "anywhere")
         || is_set(found, "same")
-        || has_form(found)
+        || is_set(found, "lines")
         || is_set(found, "large")
         || is_set(found, "explain")
 }

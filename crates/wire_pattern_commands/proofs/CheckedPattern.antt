@@ -15,7 +15,7 @@ use Rattle.wire_commands.specs.declared.ended.Ended.{Ended}
 use Rattle.wire_commands.specs.declared.ended.Ended.TheVariants.{Clean, Found}
 use Rattle.wire_commands.proofs.FileFaults as files
 use Rattle.wire_pattern_commands.specs.CheckPattern.{BreaksOffPatternVerdict, EndsInOneStateForAll, IsPatternVerdict, StopsBeforePattern, WritesPatternVerdict}
-use Rattle.wire_pattern_commands.specs.declared.check.Told.{Told}
+use Rattle.wire_pattern_commands.specs.declared.told.Told.{Told}
 use Rattle.wire_pattern_commands.specs.Read.{HasNoPattern, ReadAsPattern}
 use Rattle.wire_pattern_commands.proofs.PatternFaults.{read_before}
 

@@ -6,3 +6,6 @@ pub mod PatternFaults
 pub mod PatternCame
 pub mod Expanded
 pub mod CheckedPattern
+pub mod StringsBack
+mod InstancesShown
+mod ShownJson

@@ -22,9 +22,10 @@ use Rattle.wire_pattern_waits.specs.Waits.{AreWaiting}
 use Rattle.wire_pattern_answers.specs.declared.answers.LineAnswers.{LineAnswers}
 use Rattle.wire_pattern_answers.specs.Lines.{answers_text}
 use Rattle.wire_pattern_answers.specs.Answers.{AreAnswers}
-use Rattle.wire_pattern_commands.specs.declared.check.Told.{Told}
+use Rattle.wire_pattern_commands.specs.declared.told.Told.{Told}
 use Rattle.wire_commands.specs.Ending.{ended_of}
 use Rattle.wire_sweep.specs.Judged.{IsCounterexample, IsSweepFault}
+use Rattle.wire_pattern_commands.specs.PatternJson.{json_counterexample, json_settled}
 use Rattle.wire_pattern_commands.specs.Read.{ReadAsPattern, RefusesPattern}
 use Rattle.wire_commands.specs.declared.ended.Ended.{Ended}
 use Rattle.wire_commands.specs.declared.ended.Ended.TheVariants.{Clean, Found}
@@ -45,18 +46,32 @@ abbrev pub counterexample_text : List ℕ → Scripts → List Finding → List 
 counterexample_text text scripts found =
     head_line (length scripts.processes) ++ text ++ flat_map (finding_comment scripts) found ++ codes "# " ++ count_line (length found)
 
+-- the same in the form that is asked for: the text, or JSON
+abbrev pub counterexample_form : Bool → List ℕ → Scripts → List Finding → List ℕ
+counterexample_form json text scripts found = if json then json_counterexample text scripts found else counterexample_text text scripts found
+
+-- that nothing is found, a line for each call line at which something waits, and where that is asked for a line for each
+-- get-now
+abbrev pub settled_text : Bool → Pattern → List CallLine → List LineAnswers → List ℕ
+settled_text asked p lines answers = settled_line ++ (waits_text p lines ++ (if asked then answers_text p answers else []))
+
+-- the same in the form that is asked for
+abbrev pub settled_form : Told → Pattern → List CallLine → List LineAnswers → List ℕ
+settled_form told p lines answers =
+    if told.json then json_settled told.answers p lines answers else settled_text told.answers p lines answers
+
 -- whether a get-now line is answered with success, and with nothing else
 abbrev pub succeeds : LineAnswers → Bool
 succeeds answers = answers.success && (not answers.not_found && not answers.outside)
 
--- that nothing is found, a line for each call line at which something waits, and where that is asked for a line for each
--- get-now. Where `complete` is asked for, the command ends with the count of the get-now lines that don't succeed
+-- it is said that nothing is found, where something waits, and if that is asked for how each get-now is answered. Where
+-- `complete` is asked for, the command ends with the count of the get-now lines that don't succeed
 pub record IsSettledSaid (p : Pattern) (told : Told) (text : List ℕ) (ended : Ended) : Type 0 where
   pub lines : List CallLine
   pub waiting : AreWaiting p lines
   pub answers : List LineAnswers
   pub answered : told.answers || told.complete ≡ true → AreAnswers p answers
-  pub is : text ≡ settled_line ++ (waits_text p lines ++ (if told.answers then answers_text p answers else []))
+  pub is : text ≡ settled_form told p lines answers
   pub ends : ended ≡ (if told.complete then ended_of (count_by (λ a. not (succeeds a)) answers) else Clean)
 
 -- nothing is found, whatever the number of processes, and then each instance has one end
@@ -66,17 +81,17 @@ pub record IsSettledText (p : Pattern) (told : Told) (text : List ℕ) (ended : 
   pub said : IsSettledSaid p told text ended
 
 -- an instance with its findings
-pub record IsUnsettledText (p : Pattern) (text : List ℕ) (ended : Ended) : Type 0 where
+pub record IsUnsettledText (p : Pattern) (told : Told) (text : List ℕ) (ended : Ended) : Type 0 where
   pub cast : Cast
   pub plan_text : List ℕ
   pub scripts : Scripts
   pub found : List Finding
   pub shows : IsCounterexample p cast plan_text scripts found
   pub ends : ended ≡ Found (length found)
-  pub is : text ≡ counterexample_text plan_text scripts found
+  pub is : text ≡ counterexample_form told.json plan_text scripts found
 
 abbrev pub IsPatternVerdict : Pattern → Told → List ℕ → Ended → Type 0
-IsPatternVerdict p told text ended = IsSettledText p told text ended ⊎ IsUnsettledText p text ended
+IsPatternVerdict p told text ended = IsSettledText p told text ended ⊎ IsUnsettledText p told text ended
 
 -- all of the verdict of what was to come went out
 pub record WritesPatternVerdict (told : Told) (coming : Option (List ℕ)) (ended : Ended) (old new : Option (List ℕ)) : Type 0 where

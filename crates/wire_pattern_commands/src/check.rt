@@ -11,15 +11,15 @@ ghost use Rattle.wire_sweep.specs.Selections.{most_sizes};
 ghost use Rattle.wire_sweep.specs.Shown.{IsFoundFor};
 ghost use Rattle.wire_sweep_laws.specs.Sizes.{total_of};
 ghost use Rattle.wire_sweep_laws.specs.Promised.{IsSettledForAll};
-ghost use Rattle.wire_pattern_waits.specs.Lines.{waits_text};
 ghost use Rattle.wire_pattern_answers.specs.Answers.{AreAnswers};
-ghost use Rattle.wire_pattern_answers.specs.Lines.{answers_text};
 ghost use Rattle.wire_commands.specs.Ending.{ended_of};
 ghost use Rattle.wire_pattern_commands.specs.CheckPattern as spec;
 ghost use Rattle.wire_pattern_commands.specs.CheckPattern.{BreaksOffPatternVerdict, EndsInOneStateForAll};
 ghost use Rattle.wire_pattern_commands.specs.CheckPattern.{IsPatternVerdict, IsSettledSaid, StopsBeforePattern, WritesPatternVerdict};
 
 use crate::reading::{note_sound, read_coming};
+use crate::told::Told;
+use crate::verdict_json::{counterexample_json, settled_json};
 use std::alloc::{AllocError, Global};
 use std::thread::Threads;
 use wire_commands::{Answer, Ended, write_answer};
@@ -33,15 +33,6 @@ use wire_sweep::laws::texts_settled;
 use wire_sweep::{Counterexample, judge_pattern};
 use wire_types::{Fault, Sink, Source};
 use wire_words::push_number;
-
-/// What is told of a pattern besides its verdict.
-#[derive(Clone, Copy, Debug, PartialEq, Eq)]
-pub struct Told {
-    /// With which statuses each get-now is answered.
-    pub answers: bool,
-    /// By how the command ends, whether each is answered with success alone.
-    pub complete: bool,
-}
 
 /// The end of the first line.
 fn ranks_word(ranks: usize) -> &'static [u8]
@@ -102,6 +93,22 @@ fn counterexample_text(alloc: Global, found: &Counterexample) -> Result<Vec<u8>,
     Ok(out)
 }
 
+/// A counterexample in the form that is asked for.
+fn counterexample_form(
+    alloc: Global,
+    told: Told,
+    found: &Counterexample,
+) -> Result<Vec<u8>, AllocError>
+    ensures { IfOk result (λ text. text.items
+        ≡ spec.counterexample_form told.json found.now.text.items found.now.plan found.now.findings.items) }
+{
+    if told.json {
+        counterexample_json(alloc, found)
+    } else {
+        counterexample_text(alloc, found)
+    }
+}
+
 /// The answer that shows a counterexample.
 fn answer_found(
     alloc: Global,
@@ -113,7 +120,7 @@ fn answer_found(
     ensures ok { IfOk result (λ answer. IsPatternVerdict pattern.now told answer.text.items answer.ended) }
     ensures err { IfErr result (λ e. e ≡ Memory) }
 {
-    let text = counterexample_text(alloc, found)?;
+    let text = counterexample_form(alloc, told, found)?;
     Ok(Answer {
         text,
         ended: Ended::Found(found.findings.as_slice().len() as u64),
@@ -174,8 +181,7 @@ fn settled_text(
     lines: &[CallLine],
     answers: &[LineAnswers],
 ) -> Result<Vec<u8>, AllocError>
-    ensures { IfOk result (λ text. text.items ≡ spec.settled_line
-        ++ (waits_text pattern.now lines.now ++ (if told.answers then answers_text pattern.now answers.now else []))) }
+    ensures { IfOk result (λ text. text.items ≡ spec.settled_text told.answers pattern.now lines.now answers.now) }
 {
     let mut text = Vec::from_slice(
         alloc,
@@ -189,6 +195,23 @@ fn settled_text(
     Ok(text)
 }
 
+/// The same in the form that is asked for.
+fn settled_form(
+    alloc: Global,
+    pattern: &Pattern,
+    told: Told,
+    lines: &[CallLine],
+    answers: &[LineAnswers],
+) -> Result<Vec<u8>, AllocError>
+    ensures { IfOk result (λ text. text.items ≡ spec.settled_form told pattern.now lines.now answers.now) }
+{
+    if told.json {
+        settled_json(alloc, pattern, told, lines, answers)
+    } else {
+        settled_text(alloc, pattern, told, lines, answers)
+    }
+}
+
 /// The answer about a pattern in which nothing is found.
 fn answer_settled(alloc: Global, pattern: &Pattern, told: Told) -> Result<Answer, Fault>
     requires settled { IsSettledForAll pattern.now }
@@ -198,7 +221,7 @@ fn answer_settled(alloc: Global, pattern: &Pattern, told: Told) -> Result<Answer
 {
     let lines = waiting_lines(alloc, pattern)?;
     let answers = answers_asked(alloc, pattern, told)?;
-    let text = settled_text(alloc, pattern, told, lines.as_slice(), answers.as_slice())?;
+    let text = settled_form(alloc, pattern, told, lines.as_slice(), answers.as_slice())?;
     Ok(Answer {
         text,
         ended: settled_end(told, answers.as_slice()),
@@ -228,7 +251,8 @@ fn answer_pattern(
 /// Checks a pattern for every number of ranks on every placement: reads it to its end, and writes that nothing is
 /// found, at which call lines something waits, and if that is asked for with which statuses each get-now is answered;
 /// or a counterexample: how many ranks it has, the text of its plan, and as comments what `check` finds in that. It is
-/// the first instance that is judged in which something is found.
+/// the first instance that is judged in which something is found. As JSON the text of the plan is one string, without
+/// the comments.
 ///
 /// It answers `Clean` where nothing is found in any instance; but with `complete`, where get-now lines don't succeed,
 /// their count. The faults of the pattern's file come first, then those

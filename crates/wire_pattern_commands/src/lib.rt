@@ -3,10 +3,15 @@
 
 mod check;
 mod expand;
+pub mod laws;
 mod ranks;
 mod reading;
 mod spread;
+mod strings;
+mod told;
+mod verdict_json;
 
-pub use check::{Told, check_pattern};
+pub use check::check_pattern;
 pub use expand::{Expansion, expand_pattern};
 pub use spread::Spread;
+pub use told::Told;

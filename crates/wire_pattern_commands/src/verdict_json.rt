@@ -1,0 +1,140 @@
+//! The verdict about a pattern as JSON.
+
+ghost use Rattle.std.specs.Prelude.{◌≡◌, ◌++◌, map, IfOk, OnOk};
+ghost use Rattle.wire_types.specs.Texts.{lists_of};
+ghost use Rattle.wire_json.specs.Json.{bracketed};
+ghost use Rattle.wire_pattern_waits.specs.Lines.{waits_text};
+ghost use Rattle.wire_pattern_commands.specs.PatternJson as spec;
+ghost use Rattle.wire_pattern_commands.specs.Strings.{lines_list};
+
+use crate::strings::{push_lines, push_text, string_of};
+use crate::told::Told;
+use std::alloc::{AllocError, Global};
+use wire_content::Scripts;
+use wire_findings::Finding;
+use wire_json::push_list;
+use wire_pattern::Pattern;
+use wire_pattern_answers::{LineAnswers, write_answers};
+use wire_pattern_waits::{CallLine, write_waits};
+use wire_report::push_finding;
+use wire_sweep::Counterexample;
+use wire_words::push_number;
+
+/// Appends the member of how each get-now is answered, if that is asked for.
+fn push_answers(
+    alloc: Global,
+    out: &mut Vec<u8>,
+    pattern: &Pattern,
+    told: Told,
+    answers: &[LineAnswers],
+) -> Result<(), AllocError>
+    ensures { OnOk result (out.new.items ≡ out.old.items ++ spec.answers_member told.answers pattern.now answers.now) }
+{
+    if !told.answers {
+        return Ok(());
+    }
+    let mut lines = Vec::new(alloc);
+    write_answers(&mut lines, pattern, answers)?;
+    out.extend_from_slice(b"\"answers\":")?;
+    push_lines(alloc, out, lines.as_slice())?;
+    out.extend_from_slice(b",")
+}
+
+/// Appends a list of the lines that tell where something waits.
+fn push_waits(
+    alloc: Global,
+    out: &mut Vec<u8>,
+    pattern: &Pattern,
+    lines: &[CallLine],
+) -> Result<(), AllocError>
+    ensures { OnOk result (out.new.items ≡ out.old.items ++ lines_list (waits_text pattern.now lines.now)) }
+{
+    let mut text = Vec::new(alloc);
+    write_waits(&mut text, pattern, lines)?;
+    push_lines(alloc, out, text.as_slice())
+}
+
+/// The object about a pattern in which nothing is found.
+pub(crate) fn settled_json(
+    alloc: Global,
+    pattern: &Pattern,
+    told: Told,
+    lines: &[CallLine],
+    answers: &[LineAnswers],
+) -> Result<Vec<u8>, AllocError>
+    ensures { IfOk result (λ text. text.items ≡ spec.json_settled told.answers pattern.now lines.now answers.now) }
+{
+    let mut out = Vec::new(alloc);
+    out.extend_from_slice(b"{")?;
+    push_answers(alloc, &mut out, pattern, told, answers)?;
+    out.extend_from_slice(
+        b"\"findings\":[],\"for\":\"every number of ranks on every placement\",\"waits\":",
+    )?;
+    push_waits(alloc, &mut out, pattern, lines)?;
+    out.extend_from_slice(b"}\n")?;
+    Ok(out)
+}
+
+/// A finding: its words as a string.
+fn finding_string(alloc: Global, scripts: &Scripts, finding: Finding) -> Result<Vec<u8>, AllocError>
+    ensures { IfOk result (λ string. string.items ≡ spec.finding_string scripts.now finding) }
+{
+    let mut words = Vec::new(alloc);
+    push_finding(&mut words, scripts, finding)?;
+    string_of(alloc, words.as_slice())
+}
+
+/// All findings.
+fn finding_strings(
+    alloc: Global,
+    scripts: &Scripts,
+    findings: &[Finding],
+) -> Result<Vec<Vec<u8>>, AllocError>
+    ensures { IfOk result (λ strings. lists_of strings.items ≡ map (spec.finding_string scripts.now) findings.now) }
+{
+    let mut strings = Vec::new(alloc);
+    for finding in findings {
+        strings.push(finding_string(alloc, scripts, *finding)?)?;
+    }
+    Ok(strings)
+}
+
+/// Appends a list of the findings.
+fn push_found(
+    alloc: Global,
+    out: &mut Vec<u8>,
+    scripts: &Scripts,
+    findings: &[Finding],
+) -> Result<(), AllocError>
+    ensures { OnOk result (out.new.items ≡ out.old.items ++ bracketed (map (spec.finding_string scripts.now) findings.now)) }
+{
+    let strings = finding_strings(alloc, scripts, findings)?;
+    push_list(out, strings.as_slice())
+}
+
+/// Appends the last member of a counterexample: how many ranks it has.
+fn push_ranks(out: &mut Vec<u8>, scripts: &Scripts) -> Result<(), AllocError>
+    ensures { OnOk result (out.new.items ≡ out.old.items ++ spec.ranks_end scripts.now) }
+{
+    out.extend_from_slice(b",\"ranks\":")?;
+    push_number(out, scripts.processes().len() as u64)?;
+    out.extend_from_slice(b"}\n")
+}
+
+/// The object of a counterexample.
+pub(crate) fn counterexample_json(
+    alloc: Global,
+    found: &Counterexample,
+) -> Result<Vec<u8>, AllocError>
+    ensures { IfOk result (λ text. text.items
+        ≡ spec.json_counterexample found.now.text.items found.now.plan found.now.findings.items) }
+{
+    let scripts = found.plan.scripts();
+    let mut out = Vec::new(alloc);
+    out.extend_from_slice(b"{\"counterexample\":")?;
+    push_text(&mut out, found.text.as_slice())?;
+    out.extend_from_slice(b",\"findings\":")?;
+    push_found(alloc, &mut out, scripts, found.findings.as_slice())?;
+    push_ranks(&mut out, scripts)?;
+    Ok(out)
+}
