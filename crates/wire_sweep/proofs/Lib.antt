@@ -5,6 +5,7 @@ mod Members
 pub mod Listed
 mod Items
 pub mod Selected
+mod Ordered
 mod Used
 mod FewCasts
 pub mod Judged

@@ -2,3 +2,4 @@ pub mod Selections
 pub mod Judged
 pub mod Shown
 pub mod Texts
+pub mod Ordered
