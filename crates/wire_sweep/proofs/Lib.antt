@@ -10,6 +10,9 @@ mod Used
 mod FewCasts
 pub mod Judged
 mod ManyTurns
+mod Largest
 mod FoundIn
 pub mod Alike
 pub mod Texts
+mod OnNodes
+mod Pairs

@@ -3,3 +3,4 @@ pub mod Judged
 pub mod Shown
 pub mod Texts
 pub mod Ordered
+pub mod Sharing

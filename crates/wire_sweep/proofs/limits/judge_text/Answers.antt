@@ -1,4 +1,5 @@
-use Rattle.wire_sweep.proofs.ManyTurns.{largest}
+use Rattle.wire_instances.specs.Shown.{cast_by}
+use Rattle.wire_sweep.proofs.Largest.{largest, largest_is, largest_read, largest_fault}
 use Rattle.wire_sweep.proofs.Used.{alone_used}
 use Rattle.wire_sweep.proofs.limits.judge_text.Goals as goal
 
