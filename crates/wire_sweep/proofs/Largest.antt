@@ -79,3 +79,7 @@ text_limit p (Err e) few turns (inr told) = inr (inr (few, inr (turns, told)))
 pub within_limits : {A : Type 0} (p : Pattern) (r : Result A Fault) → HasFewProcesses p → HasFewTurns p → OnOk r (IsLargestRead p) → OnOk r (IsWithinLimits p)
 within_limits p (Ok x) few turns read = record { processes = few; turns = turns; largest = read }
 within_limits p (Err e) few turns read = tt
+
+-- a fault that is handed on
+pub told_on : {A : Type 0} (r : Result A Fault) (e : Fault) (P : Fault → Type 0) → r ≡ Err e → P e → IfErr r P
+told_on r e P is told = subst (λ x. IfErr x P) (sym is) told

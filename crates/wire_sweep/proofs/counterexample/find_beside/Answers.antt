@@ -15,7 +15,7 @@ pub loop-b-preserved : goal.loop-b-preserved
 loop-b-preserved g c =
     one_beside c.args.pattern.now (cast_by c.args.cast.now) c.args.a c.loop-b.b c.loop-b.invariant
     (one_pair c.args.pattern.now (cast_by c.args.cast.now) c.count_of-total.result c.args.a c.loop-b.b c.in_ok-nodes.nodes c.count_of-total.ensures
-    c.in_ok-nodes.ensures.paired (c.in_ok-find_on.ensures.settled (ap Ok c.in-None.is)))
+    c.in_ok-nodes.ensures.paired (c.in_ok-found.ensures.settled (ap Ok c.in-None.is)))
 
 pub returns-clause-settled : goal.returns-clause-settled
 returns-clause-settled g c = λ e b low high. c.loop-b.invariant b low (omega (arith, high, c.count_of-total.ensures, c.loop-b-test.false))

@@ -15,9 +15,9 @@ pub loop-a-preserved : goal.loop-a-preserved
 loop-a-preserved g c =
     one_process c.args.pattern.now (cast_by c.args.cast.now) c.count_of-total.result c.loop-a.a c.loop-a.invariant
     (subst (AreBesideSettled c.args.pattern.now (cast_by c.args.cast.now) c.loop-a.a) (sym c.count_of-total.ensures)
-    (c.in_ok-find_beside.ensures.settled (ap Ok c.in-None-2.is)))
+    (c.in_ok-found-2.ensures.settled (ap Ok c.in-None-2.is)))
 
 pub returns-clause-settled : goal.returns-clause-settled
 returns-clause-settled g c = λ e.
     all_pairs c.args.pattern.now (cast_by c.args.cast.now) c.count_of-total.result c.loop-a.a c.in_ok-nodes.nodes c.count_of-total.ensures
-    c.in_ok-nodes.ensures.alone (c.in_ok-find_on.ensures.settled (ap Ok c.in-None.is)) c.loop-a.invariant (omega (arith, c.loop-a-test.false))
+    c.in_ok-nodes.ensures.alone (c.in_ok-found.ensures.settled (ap Ok c.in-None.is)) c.loop-a.invariant (omega (arith, c.loop-a-test.false))
