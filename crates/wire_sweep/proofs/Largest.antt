@@ -1,6 +1,6 @@
 -- The largest instance that is judged, and its faults.
 use Rattle.std.proofs.Common.{◌≡◌, ◌∙◌, ap, sym, subst, refl, ℕ, suc, ◌+◌, ◌<◌, ◌^◌, List, [], ◌∷◌, map, length, Result, Ok, Err, inl, inr, ◌⊎◌, arith}
-use Rattle.std.specs.Prelude.{slice_index_or, OnOk, IfErr}
+use Rattle.std.specs.Prelude.{slice_index_or, OnOk, IfErr, IsErrAnd}
 use Rattle.wire_types.specs.declared.Fault.{Fault}
 use Rattle.wire_types.specs.declared.Fault.TheVariants.{Memory}
 use Rattle.wire_content.specs.Scripts.{Scripts}
@@ -81,5 +81,6 @@ within_limits p (Ok x) few turns read = record { processes = few; turns = turns;
 within_limits p (Err e) few turns read = tt
 
 -- a fault that is handed on
-pub told_on : {A : Type 0} (r : Result A Fault) (e : Fault) (P : Fault → Type 0) → r ≡ Err e → P e → IfErr r P
-told_on r e P is told = subst (λ x. IfErr x P) (sym is) told
+pub told_on : {A : Type 0} (r : Result A Fault) (e : Fault) (P : Fault → Type 0) → IsErrAnd r (λ f. f ≡ e) → P e → IfErr r P
+told_on (Ok x) e P is told = tt
+told_on (Err f) e P is told = subst P (sym is) told
