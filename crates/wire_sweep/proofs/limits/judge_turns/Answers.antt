@@ -16,8 +16,8 @@ returns-in-Some-clause-err c =
     c.in_ok-turns.ensures lookup.3.0 lookup.1
     (c.turn_line.ensures ∙ ap (λ rs. turn_line c.args.pattern.now rs (turn_by c.in-Some.turn.now)) (c.as_slice-in-Some.ensures.value ∙ sym c.as_slice.ensures.value)))
 
-pub returns-in-None-clause-ok : goal.returns-in-None-clause-ok
-returns-in-None-clause-ok c =
+pub returns-clause-ok : goal.returns-clause-ok
+returns-clause-ok c =
     let lookup = rw c.deref.ensures.value at c.in-None.ensures.lookup in
     few_turns c.args.pattern.now c.args.sizes.now c.as_slice.result.now c.in_ok-turns.turns.items c.requires.most (c.as_slice.ensures.value ∙ c.in_ok-roles.ensures)
     c.in_ok-turns.ensures lookup.3
