@@ -7,10 +7,10 @@ use Rattle.wire_types.specs.declared.Fault.TheVariants.{Memory, Read}
 use Rattle.wire_types.specs.Front.{WritesFront}
 use Rattle.wire_script.specs.declared.Size.TheVariants.{OfVersion}
 use Rattle.wire_pattern.specs.Pattern.{Pattern}
-use Rattle.wire_pattern.specs.Instances.{instance_lines, instance_text}
+use Rattle.wire_pattern.specs.Instances.{Cast, instance_lines, instance_text}
 use Rattle.wire_pattern.specs.Lawful.{IsSound}
 use Rattle.wire_sweep.specs.Texts.{TextsSettled}
-use Rattle.wire_sweep.specs.Judged.{IsSweepFault}
+use Rattle.wire_sweep.specs.Judged.{HasFewTurns, HasManyTurns, IsJudgeFault, IsSweepFault, IsTextFault, IsWithinLimits, largest_cast}
 use Rattle.wire_commands.specs.declared.ended.Ended.{Ended}
 use Rattle.wire_commands.specs.declared.ended.Ended.TheVariants.{Clean, Found}
 use Rattle.wire_commands.proofs.FileFaults as files
@@ -29,14 +29,26 @@ file_stops coming e (inr (inr refuses)) = inr (inr (inl refuses))
 pub sweep_stops : (coming : Option (List ℕ)) (p : Pattern) (e : Fault) → ReadAsPattern coming p → IsSweepFault p e → StopsBeforePattern coming e
 sweep_stops coming p e read why = inr (inr (inr (record { pattern = p; read = read; fault_is = why })))
 
+-- where the pattern is within its limits
+pub judging_stops : {A : Type 0} (p : Pattern) (r : Result A Fault) → IsWithinLimits p → IfErr r (λ e. IsJudgeFault p e) → IfErr r (λ e. IsSweepFault p e)
+judging_stops p (Ok x) within is = tt
+judging_stops p (Err e) within (inl memory) = inl memory
+judging_stops p (Err e) within (inr told) = inr (inr (within, told))
+
 -- which is no failed read
+no_read_text : (p : Pattern) (cast : Cast) (e : Fault) → IsTextFault p cast e → e ≢ Read
+no_read_text p cast e text is =
+    files.not_read OfVersion (instance_text p cast) text.told (inr text.reads) (read_before (instance_lines p cast) text.told (sym text.is ∙ is))
+
+no_read_turns : (p : Pattern) (e : Fault) → HasManyTurns p e ⊎ (HasFewTurns p × IsTextFault p (largest_cast p) e) → e ≢ Read
+no_read_turns p e (inl many) is = let no : _ ≡ Read = sym many.2 ∙ is in cc
+no_read_turns p e (inr few) is = no_read_text p (largest_cast p) e few.1 is
+
 pub no_read_judging : (p : Pattern) (e : Fault) → IsSweepFault p e → e ≢ Read
-no_read_judging p e (inl (inl memory)) is = let no : Memory ≡ Read = sym memory ∙ is in cc
-no_read_judging p e (inl (inr plan)) is =
-    files.not_read OfVersion (instance_text p plan.cast) plan.of_text.told (inr plan.of_text.reads)
-    (read_before (instance_lines p plan.cast) plan.of_text.told (sym plan.of_text.is ∙ is))
-no_read_judging p e (inr (inl many)) is = let no : _ ≡ Read = sym many.1 ∙ is in cc
-no_read_judging p e (inr (inr turns)) is = let no : _ ≡ Read = sym turns.2 ∙ is in cc
+no_read_judging p e (inl memory) is = let no : Memory ≡ Read = sym memory ∙ is in cc
+no_read_judging p e (inr (inl (inl many))) is = let no : _ ≡ Read = sym many.1 ∙ is in cc
+no_read_judging p e (inr (inl (inr few))) is = no_read_turns p e few.1 is
+no_read_judging p e (inr (inr small)) is = no_read_text p small.1.cast e small.1.of_text is
 
 -- all of the verdict went out
 pub writes_verdict : (coming old new : Option (List ℕ)) (p : Pattern) (told : Told) (text : List ℕ) (ended : Ended) (r : Result Ended Fault) → ReadAsPattern coming p → IsPatternVerdict p told text ended

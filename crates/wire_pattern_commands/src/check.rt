@@ -6,7 +6,7 @@ ghost use Rattle.std.specs.List.{flat_map};
 ghost use Rattle.wire_types.specs.declared.Fault.TheVariants.{Memory, Read};
 ghost use Rattle.wire_types.specs.Counting.{one_more};
 ghost use Rattle.wire_commands.specs.declared.ended.Ended.TheVariants.{Clean};
-ghost use Rattle.wire_sweep.specs.Judged.{IsSweepFault};
+ghost use Rattle.wire_sweep.specs.Judged.{IsJudgeFault, IsSweepFault};
 ghost use Rattle.wire_sweep.specs.Selections.{most_sizes};
 ghost use Rattle.wire_sweep.specs.Shown.{IsFoundFor};
 ghost use Rattle.wire_sweep_laws.specs.Sizes.{total_of};
@@ -163,7 +163,7 @@ fn answers_asked(alloc: Global, pattern: &Pattern, told: Told) -> Result<Vec<Lin
     requires settled { IsSettledForAll pattern.now }
     requires few { total_of (most_sizes pattern.now.roles) < 2 ^ 31 }
     ensures ok { IfOk result (λ v. told.answers || told.complete ≡ true → AreAnswers pattern.now v.items) }
-    ensures err { IfErr result (λ e. IsSweepFault pattern.now e) }
+    ensures err { IfErr result (λ e. IsJudgeFault pattern.now e) }
 {
     if told.answers || told.complete {
         let answers = find_answers(alloc, pattern)?;
@@ -217,7 +217,7 @@ fn answer_settled(alloc: Global, pattern: &Pattern, told: Told) -> Result<Answer
     requires settled { IsSettledForAll pattern.now }
     requires few { total_of (most_sizes pattern.now.roles) < 2 ^ 31 }
     ensures ok { IfOk result (λ answer. IsSettledSaid pattern.now told answer.text.items answer.ended) }
-    ensures err { IfErr result (λ e. IsSweepFault pattern.now e) }
+    ensures err { IfErr result (λ e. IsJudgeFault pattern.now e) }
 {
     let lines = waiting_lines(alloc, pattern)?;
     let answers = answers_asked(alloc, pattern, told)?;
@@ -256,9 +256,9 @@ fn answer_pattern(
 ///
 /// It answers `Clean` where nothing is found in any instance; but with `complete`, where get-now lines don't succeed,
 /// their count. The faults of the pattern's file come first, then those
-/// of the instances that are judged, each on the line of the pattern that it comes from. After the fault `Write` the
-/// front of the text that it counts is written, after any other fault nothing. `Memory` may come in place of any other
-/// answer.
+/// of the largest instance that is judged, each on the line of the pattern that it comes from. After the fault `Write`
+/// the front of the text that it counts is written, after any other fault nothing. `Memory` may come in place of any
+/// other answer.
 pub fn check_pattern<R: Source, W: Sink>(
     rt: &(impl Threads + Sync),
     alloc: Global,

@@ -1,6 +1,7 @@
 -- The instances one by one: those before one are settled, and the first that isn't is the counterexample.
-use Rattle.std.proofs.Common.{◌≡◌, ◌∙◌, ap, sym, subst, refl, ℕ, ◌+◌, ◌<◌, ◌≤◌, ◌^◌, List, [], ◌∷◌, ◌++◌, Bool, length, map, drop, append-nil, Some, inl, inr, arith, get_or}
-use Rattle.std.specs.Prelude.{slice_get, option_map}
+use Rattle.std.proofs.Common.{◌≡◌, ◌∙◌, ap, sym, subst, refl, ℕ, ◌+◌, ◌<◌, ◌≤◌, ◌^◌, List, [], ◌∷◌, ◌++◌, Bool, length, map, drop, append-nil, Result, Ok, Err, Option, None, Some, inl, inr, arith, get_or}
+use Rattle.std.specs.Prelude.{slice_get, option_map, IfOk, IfSome}
+use Rattle.wire_types.specs.declared.Fault.{Fault}
 use Rattle.std.proofs.lemmas.Bool.{cases_eq}
 use Rattle.std.proofs.lemmas.List.{length-map, drop_all}
 use Rattle.std.proofs.lemmas.Option.{slice_get-map, slice_get_read, slice_get_within, same_Some}
@@ -63,8 +64,14 @@ first_found p all i v c is lt at before found = record {
 }
 
 -- what is shown of a cast is found at its selection
-pub found_at : (p : Pattern) (s : spec.Selection) (cast : Cast) (c : Counterexample) → IsCastFor p s cast → IsShownFor p cast c → IsFoundAt p s c
+found_at : (p : Pattern) (s : spec.Selection) (cast : Cast) (c : Counterexample) → IsCastFor p s cast → IsShownFor p cast c → IsFoundAt p s c
 found_at p s cast c of shown = (shown.0, record { sizes = shown.1.0 ∙ of.sizes; chosen = shown.1.1 ∙ of.chosen })
+
+pub found_by : (p : Pattern) (s : spec.Selection) (cast : Cast) (r : Result (Option Counterexample) Fault) → IsCastFor p s cast
+    → IfOk r (λ found. IfSome found (λ c. IsShownFor p cast c)) → IfOk r (λ found. IfSome found (λ c. IsFoundAt p s c))
+found_by p s cast (Err e) of shown = tt
+found_by p s cast (Ok None) of shown = tt
+found_by p s cast (Ok (Some c)) of shown = found_at p s cast c of shown
 
 pub settled_at : (p : Pattern) (s : spec.Selection) (cast : Cast) → IsCastFor p s cast → IsChoiceSettled p cast.sizes cast.chosen → IsSelectionSettled p s
 settled_at p s cast of settled =

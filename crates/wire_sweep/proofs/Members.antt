@@ -1,5 +1,5 @@
 -- Membership of lists, by place.
-use Rattle.std.proofs.Common.{◌≡◌, ap, sym, subst, refl, ℕ, zero, suc, List, [], ◌∷◌, ◌++◌, map, Some, inl, inr, ◌⊎◌}
+use Rattle.std.proofs.Common.{◌≡◌, ap, sym, subst, refl, ℕ, zero, suc, List, [], ◌∷◌, ◌++◌, map, Some, inl, inr, ◌⊎◌, ◌<◌, arith}
 use Rattle.std.specs.Prelude.{slice_get, flat_map}
 use Rattle.std.proofs.lemmas.Option.{none-some, same_Some}
 
@@ -55,3 +55,18 @@ flat_in f y (z ∷ xs) h = elim (in_parts y (f z) (flat_map f xs) h) [
   | inl a ↦ (z, inl refl, a)
   | inr b ↦ let m = flat_in f y xs b in (m.0, inr m.1, m.2)
 ]
+
+-- an element of the first list comes before each place of one that isn't there
+pub left_before : {A : Type 0} (xs ys : List A) (i : ℕ) (x y : A) → slice_get (xs ++ ys) i ≡ Some x → (In x xs → ⊥) → In y xs
+    → (j : ℕ) × (j < i) × (slice_get (xs ++ ys) j ≡ Some y)
+left_before [] ys i x y is apart there = absurd there
+left_before (z ∷ xs) ys zero x y is apart there = absurd (apart (inl (same_Some z x is)))
+left_before (z ∷ xs) ys (suc i) x y is apart (inl e) = (0, omega arith, ap Some e)
+left_before (z ∷ xs) ys (suc i) x y is apart (inr h) = let b = left_before xs ys i x y is (λ a. apart (inr a)) h in (suc b.0, omega (arith, b.1), b.2)
+
+-- and so does one of the second list that is before it there
+pub right_before : {A : Type 0} (xs ys : List A) (i : ℕ) (x y : A) → slice_get (xs ++ ys) i ≡ Some x → (In x xs → ⊥)
+    → ((k : ℕ) → slice_get ys k ≡ Some x → (j : ℕ) × (j < k) × (slice_get ys j ≡ Some y)) → (j : ℕ) × (j < i) × (slice_get (xs ++ ys) j ≡ Some y)
+right_before [] ys i x y is apart later = later i is
+right_before (z ∷ xs) ys zero x y is apart later = absurd (apart (inl (same_Some z x is)))
+right_before (z ∷ xs) ys (suc i) x y is apart later = let b = right_before xs ys i x y is (λ a. apart (inr a)) later in (suc b.0, omega (arith, b.1), b.2)

@@ -75,7 +75,7 @@ only_one [] is = absurd (omega (arith, is))
 only_one (x ∷ []) is = (x, refl)
 only_one (x ∷ y ∷ xs) is = absurd (omega (arith, is))
 
-there_is : {A : Type 0} (xs : List A) (i : ℕ) → i < length xs → (x : A) × (slice_get xs i ≡ Some x)
+pub there_is : {A : Type 0} (xs : List A) (i : ℕ) → i < length xs → (x : A) × (slice_get xs i ≡ Some x)
 there_is [] i lt = absurd (omega (arith, lt))
 there_is (x ∷ xs) zero lt = (x, refl)
 there_is (x ∷ xs) (suc i) lt = there_is xs i (omega (arith, lt))
@@ -121,7 +121,7 @@ module _ (p : Pattern) (cast : Cast) (is_cast : IsCast p cast) (least : HaveLeas
     least = has_least;
   }
 
-same_nodes : (a b c d : ℕ) → a ≡ c → b ≡ d → (a == b) ≡ (c == d)
+pub same_nodes : (a b c d : ℕ) → a ≡ c → b ≡ d → (a == b) ≡ (c == d)
 same_nodes a b c d e f = ap (λ n. n == b) e ∙ ap (λ n. c == n) f
 
 module _ (p : Pattern) (cast : Cast) (s : Scripts) (sound : IsSound p) (settled : IsSettledForAll p) (is_cast : IsCast p cast) (least : HaveLeast p.roles cast.sizes) (of : IsOfCast p cast s) where

@@ -1,5 +1,5 @@
 -- What is told of the instances that are judged.
-use Rattle.std.specs.Prelude.{◌≡◌, ◌≢◌, ◌≤◌, ◌<◌, ◌^◌, ◌⊎◌, List, [], ℕ, Option, Some, Ok, Err, slice_get, slice_index_or}
+use Rattle.std.specs.Prelude.{◌≡◌, ◌≢◌, ◌≤◌, ◌<◌, ◌^◌, ◌⊎◌, List, [], ℕ, Option, Some, Ok, Err, length, slice_get, slice_index_or}
 use Rattle.wire_types.specs.declared.Fault.{Fault}
 use Rattle.wire_types.specs.declared.Fault.TheVariants.{Memory, TooMany}
 use Rattle.wire_content.specs.Scripts.{Scripts}
@@ -11,7 +11,7 @@ use Rattle.wire_pattern.specs.Pattern.{Step, Loop, Pattern}
 use Rattle.wire_pattern.specs.Planned.{steps_in}
 use Rattle.wire_pattern.specs.Instances.{Turn, Cast, IsCast, roles_from, number_in, instance_text, instance_lines}
 use Rattle.wire_instances.specs.Faults.{fault_by}
-use Rattle.wire_sweep_laws.specs.Sizes.{AreFewSizes, total_of}
+use Rattle.wire_sweep_laws.specs.Sizes.{AreFewSizes, numbers_from, total_of}
 use Rattle.wire_sweep_laws.specs.Choices.{optional_turns}
 use Rattle.wire_sweep.specs.Selections.{most_sizes, IsFirstFound}
 
@@ -66,15 +66,47 @@ turn_line p roles turn = loop_line (slice_get (steps_in (slice_get p.roles (slic
 abbrev pub HasManyProcesses : Pattern → Fault → Type 0
 HasManyProcesses p fault = (2 ^ 31 ≤ total_of (most_sizes p.roles)) × (fault ≡ TooMany (number_in (slice_get p.roles 0)))
 
+abbrev pub HasFewProcesses : Pattern → Type 0
+HasFewProcesses p = total_of (most_sizes p.roles) < 2 ^ 31
+
 -- in the instance with the most processes more than 20 turns may be taken or not; the fault is on the loop of the next
 abbrev pub HasManyTurns : Pattern → Fault → Type 0
 HasManyTurns p fault = (turn : Turn) × (slice_get (optional_turns p (most_sizes p.roles)) 20 ≡ Some turn)
     × (fault ≡ TooMany (turn_line p (roles_from 0 (most_sizes p.roles)) turn))
 
--- why a pattern isn't judged to the end: there is too little memory, or the text of an instance has a fault
+abbrev pub HasFewTurns : Pattern → Type 0
+HasFewTurns p = length (optional_turns p (most_sizes p.roles)) ≤ 20
+
+-- the largest instance that is judged: the most processes of each role, each on a node of its own, and all turns taken
+abbrev pub largest_cast : Pattern → Cast
+largest_cast p = record {
+  sizes = most_sizes p.roles;
+  chosen = [];
+  node_count = total_of (most_sizes p.roles);
+  nodes = numbers_from 0 (total_of (most_sizes p.roles));
+}
+
+-- its text reads as a plan
+abbrev pub IsLargestRead : Pattern → Type 0
+IsLargestRead p = (scripts : Scripts) × Reads OfVersion (instance_text p (largest_cast p)) (Ok scripts)
+
+-- the pattern is past a limit, the first of these: it has too many processes, else too many turns, else the text of its
+-- largest instance has a fault
+abbrev pub IsLimitFault : Pattern → Fault → Type 0
+IsLimitFault p fault =
+    HasManyProcesses p fault ⊎ (HasFewProcesses p × (HasManyTurns p fault ⊎ (HasFewTurns p × IsTextFault p (largest_cast p) fault)))
+
+-- the pattern is within the limits
+pub record IsWithinLimits (p : Pattern) : Type 0 where
+  pub processes : HasFewProcesses p
+  pub turns : HasFewTurns p
+  pub largest : IsLargestRead p
+
+-- why an instance isn't judged: there is too little memory, or the text of one with few processes has a fault
 abbrev pub IsJudgeFault : Pattern → Fault → Type 0
 IsJudgeFault p fault = (fault ≡ Memory) ⊎ IsInstanceFault p fault
 
--- or the pattern's largest instance that is judged is too large
+-- why a pattern isn't judged: there is too little memory, or it is past a limit. That smaller instances are within the
+-- limits where the largest is isn't proved: so where it is, the fault could be that of a smaller one
 abbrev pub IsSweepFault : Pattern → Fault → Type 0
-IsSweepFault p fault = IsJudgeFault p fault ⊎ (HasManyProcesses p fault ⊎ HasManyTurns p fault)
+IsSweepFault p fault = (fault ≡ Memory) ⊎ (IsLimitFault p fault ⊎ (IsWithinLimits p × IsInstanceFault p fault))

@@ -1,13 +1,17 @@
 //! The counterexample: an instance with its findings, on the first placement that has some.
 
-ghost use Rattle.std.specs.Prelude.{◌≡◌, ◌<◌, ◌^◌, IfOk, IfErr, IfSome, length};
+ghost use Rattle.std.specs.Prelude.{◌≡◌, ◌<◌, ◌≤◌, ◌^◌, ◌⊎◌, ℕ, Ok, None, IfOk, IfErr, IfSome, length};
 ghost use Rattle.wire_types.specs.declared.Fault.TheVariants.{Memory};
+ghost use Rattle.wire_content.specs.Planned.{plan_of};
+ghost use Rattle.wire_runs.specs.Races.{IsSettled};
 ghost use Rattle.wire_findings.specs.Findings.{AreFindings};
 ghost use Rattle.wire_pattern.specs.Instances.{process_count};
 ghost use Rattle.wire_instances.specs.Nodes.{AreNodes};
 ghost use Rattle.wire_instances.specs.Shown.{cast_by};
 ghost use Rattle.wire_sweep.specs.Judged.{IsFewCast, IsFoundIn, IsJudgeFault};
+ghost use Rattle.wire_sweep.specs.Sharing.{IsSettledLike, IsPairSettled};
 ghost use Rattle.wire_sweep.specs.Shown.{AreUsed, IsShownFor};
+ghost use Rattle.wire_sweep_laws.specs.Promised.{IsChoiceSettled};
 
 use crate::judge::instance_scripts;
 use crate::selections::note_sound;
@@ -61,6 +65,7 @@ fn find_in(
 ) -> Result<Option<Counterexample>, Fault>
     ensures ok { IfOk result (λ found. IfSome found (λ c. (c.cast ≡ cast) × (c.text ≡ text) × (c.plan ≡ scripts)
         × IsFoundIn scripts c.findings.items)) }
+    ensures settled { result ≡ Ok None → IsSettled (plan_of scripts) }
     ensures err { IfErr result (λ e. e ≡ Memory) }
 {
     let plan = Plan::build(alloc, scripts)?;
@@ -120,6 +125,7 @@ fn find_on(
     requires nodes { AreNodes (process_count (cast_by cast.now)) nodes }
     requires used { AreUsed nodes }
     ensures found { IfOk result (λ r. IfSome r (λ c. IsShownFor pattern.now (cast_by cast.now) c)) }
+    ensures settled { result ≡ Ok None → IsSettledLike pattern.now (cast_by cast.now) nodes }
     ensures err { IfErr result (λ e. IsJudgeFault pattern.now e) }
 {
     note_sound(pattern);
@@ -139,40 +145,45 @@ fn find_beside(
     requires cast { IsFewCast pattern.now (cast_by cast.now) }
     requires there { a < process_count (cast_by cast.now) }
     ensures found { IfOk result (λ r. IfSome r (λ c. IsShownFor pattern.now (cast_by cast.now) c)) }
+    ensures settled { result ≡ Ok None → (b : ℕ) → a < b → b < process_count (cast_by cast.now)
+        → IsPairSettled pattern.now (cast_by cast.now) a b }
     ensures err { IfErr result (λ e. IsJudgeFault pattern.now e) }
 {
     let total = count_of(cast);
     for b in a + 1..total {
         let nodes = paired(alloc, total, a, b)?;
-        if let Some(found) = find_on(rt, alloc, pattern, cast, nodes)? {
-            return Ok(Some(found));
+        match find_on(rt, alloc, pattern, cast, nodes)? {
+            Some(found) => return Ok(Some(found)),
+            None => {}
         }
     }
     Ok(None)
 }
 
 /// The instance with its findings, on the first placement that has some: each process alone, else the first pair of
-/// processes that share a node. The caller has found that some placement has findings; then one of these has. That isn't
-/// proved: were there none, the answer would be the fault of memory.
+/// processes that share a node. If there is none, nothing is found on any placement.
 pub(crate) fn find_counterexample(
     rt: &(impl Threads + Sync),
     alloc: Global,
     pattern: &Pattern,
     cast: &Cast,
-) -> Result<Counterexample, Fault>
+) -> Result<Option<Counterexample>, Fault>
     requires { IsFewCast pattern.now (cast_by cast.now) }
-    ensures found { IfOk result (λ c. IsShownFor pattern.now (cast_by cast.now) c) }
+    ensures found { IfOk result (λ r. IfSome r (λ c. IsShownFor pattern.now (cast_by cast.now) c)) }
+    ensures settled { result ≡ Ok None → IsChoiceSettled pattern.now (cast_by cast.now).sizes (cast_by cast.now).chosen }
     ensures err { IfErr result (λ e. IsJudgeFault pattern.now e) }
 {
     let total = count_of(cast);
     let nodes = all_alone(alloc, total)?;
-    if let Some(found) = find_on(rt, alloc, pattern, cast, nodes)? {
-        return Ok(found);
+    match find_on(rt, alloc, pattern, cast, nodes)? {
+        Some(found) => return Ok(Some(found)),
+        None => {}
     }
     for a in 0..total {
-        if let Some(found) = find_beside(rt, alloc, pattern, cast, a)? {
-            return Ok(found);
+        match find_beside(rt, alloc, pattern, cast, a)? {
+            Some(found) => return Ok(Some(found)),
+            None => {}
         }
     }
-    Err(Fault::Memory)
+    Ok(None)
 }

@@ -1,12 +1,13 @@
 //! The limits of a pattern: those of its largest instance that is judged.
 
-ghost use Rattle.std.specs.Prelude.{◌≡◌, ◌<◌, ◌^◌, ◌⊎◌, IfOk, IfErr, OnOk, map, slice_get};
+ghost use Rattle.std.specs.Prelude.{◌≡◌, ◌<◌, ◌^◌, ◌⊎◌, IfErr, OnOk, map, slice_get};
 ghost use Rattle.wire_types.specs.declared.Fault.TheVariants.{Memory};
 ghost use Rattle.wire_pattern.specs.Instances.{number_in};
 ghost use Rattle.wire_pattern.specs.Planned.{steps_in};
 ghost use Rattle.wire_instances.specs.Shown.{turn_by};
 ghost use Rattle.wire_sweep.specs.Judged as spec;
-ghost use Rattle.wire_sweep.specs.Judged.{IsJudgeFault, IsSweepFault, HasManyTurns};
+ghost use Rattle.wire_sweep.specs.Judged.{HasFewTurns, HasManyTurns, IsLargestRead, IsTextFault, largest_cast};
+ghost use Rattle.wire_sweep.specs.Judged.{IsLimitFault, IsWithinLimits};
 ghost use Rattle.wire_sweep.specs.Selections.{most_sizes};
 ghost use Rattle.wire_sweep_laws.specs.Sizes.{total_of};
 
@@ -66,7 +67,8 @@ fn turn_line(pattern: &Pattern, roles: &[u32], turn: Turn) -> u64
 fn judge_turns(alloc: Global, pattern: &Pattern, sizes: &[u32]) -> Result<(), Fault>
     requires most { sizes.now ≡ most_sizes pattern.now.roles }
     requires few { total_of sizes.now < 2 ^ 31 }
-    ensures { IfErr result (λ e. (e ≡ Memory) ⊎ HasManyTurns pattern.now e) }
+    ensures ok { OnOk result (HasFewTurns pattern.now) }
+    ensures err { IfErr result (λ e. (e ≡ Memory) ⊎ HasManyTurns pattern.now e) }
 {
     note_sound(pattern);
     let roles = roles_by(alloc, sizes)?;
@@ -82,7 +84,8 @@ fn judge_text(alloc: Global, pattern: &Pattern, sizes: Vec<u32>, total: u32) -> 
     requires most { sizes.items ≡ most_sizes pattern.now.roles }
     requires total { total ≡ total_of sizes.items }
     requires few { total < 2 ^ 31 }
-    ensures { IfErr result (λ e. IsJudgeFault pattern.now e) }
+    ensures ok { OnOk result (IsLargestRead pattern.now) }
+    ensures err { IfErr result (λ e. (e ≡ Memory) ⊎ IsTextFault pattern.now (largest_cast pattern.now) e) }
 {
     note_sound(pattern);
     let nodes = all_alone(alloc, total)?;
@@ -97,10 +100,10 @@ fn judge_text(alloc: Global, pattern: &Pattern, sizes: Vec<u32>, total: u32) -> 
     Ok(())
 }
 
-/// The fault of a pattern of which the largest instance that is judged isn't a plan within the limits.
+/// The fault of a pattern of which the largest instance that is judged isn't a plan within the limits: the first one.
 pub(crate) fn judge_limits(alloc: Global, pattern: &Pattern) -> Result<(), Fault>
-    ensures few { OnOk result (total_of (most_sizes pattern.now.roles) < 2 ^ 31) }
-    ensures err { IfErr result (λ e. IsSweepFault pattern.now e) }
+    ensures ok { OnOk result (IsWithinLimits pattern.now) }
+    ensures err { IfErr result (λ e. (e ≡ Memory) ⊎ IsLimitFault pattern.now e) }
 {
     let sizes = most_of_each(alloc, pattern.roles())?;
     let Some(total) = process_total(sizes.as_slice()) else {

@@ -3,7 +3,7 @@
 ghost use Rattle.std.specs.Prelude.{◌≡◌, ◌<◌, ◌^◌, Ok, None, OnOk, IfOk, IfErr, IfSome, map};
 ghost use Rattle.wire_instances.specs.Nodes.{AreAlone};
 ghost use Rattle.wire_instances.specs.Shown.{turn_by, choice_by, cast_by};
-ghost use Rattle.wire_sweep.specs.Judged.{IsFewCast, IsJudgeFault, IsSweepFault};
+ghost use Rattle.wire_sweep.specs.Judged.{IsFewCast, IsJudgeFault, IsSweepFault, IsWithinLimits};
 ghost use Rattle.wire_sweep.specs.Selections.{selections, most_sizes, IsCastFor, IsSelectionSettled};
 ghost use Rattle.wire_sweep.specs.Shown.{selection_by, IsFoundAt, IsFoundFor};
 ghost use Rattle.wire_sweep_laws.specs.Sizes as counted;
@@ -83,8 +83,7 @@ fn judge_selection(
     if judge_instance(rt, alloc, pattern, &cast)? {
         return Ok(None);
     }
-    let found = find_counterexample(rt, alloc, pattern, &cast)?;
-    Ok(Some(found))
+    find_counterexample(rt, alloc, pattern, &cast)
 }
 
 /// Judges these instances, one after the other, until something is found.
@@ -111,13 +110,14 @@ fn judge_all(
 
 /// Judges a pattern for every number of processes of its roles, on all nodes: nothing is found in any instance, or there
 /// is a counterexample, an instance with its findings. Of the instances with at most three processes of each role, or
-/// with the least that the role has, it is the first in which something is found: one with the fewest processes.
+/// with the least that the role has, it is the first in which something is found: one with the fewest processes. The
+/// limits of a pattern are those of the largest of these instances.
 pub fn judge_pattern(
     rt: &(impl Threads + Sync),
     alloc: Global,
     pattern: &Pattern,
 ) -> Result<Option<Counterexample>, Fault>
-    ensures fits { OnOk result (counted.total_of (most_sizes pattern.now.roles) < 2 ^ 31) }
+    ensures within { OnOk result (IsWithinLimits pattern.now) }
     ensures few { result ≡ Ok None → AreFewSettled pattern.now }
     ensures settled { result ≡ Ok None → IsSettledForAll pattern.now }
     ensures one_end { result ≡ Ok None → HasOneEndForAll pattern.now }

@@ -1,6 +1,23 @@
+use Rattle.std.proofs.Common.{ap, sym, subst, arith, Ok}
+use Rattle.wire_instances.specs.Shown.{cast_by}
+use Rattle.wire_sweep.proofs.Pairs.{AreBesideSettled, one_process, all_pairs}
 use Rattle.wire_sweep.proofs.Used.{alone_used}
 use Rattle.wire_sweep.proofs.counterexample.find_counterexample.Goals as goal
 
 pub find_on-requires-clause-used : goal.find_on-requires-clause-used
 find_on-requires-clause-used g c = λ lifetimes lives.
     alone_used c.count_of-total.result c.in_ok-nodes.nodes c.in_ok-nodes.ensures.nodes c.in_ok-nodes.ensures.alone
+
+pub loop-a-init : goal.loop-a-init
+loop-a-init g c = λ k less. absurd (omega (arith, less))
+
+pub loop-a-preserved : goal.loop-a-preserved
+loop-a-preserved g c =
+    one_process c.args.pattern.now (cast_by c.args.cast.now) c.count_of-total.result c.loop-a.a c.loop-a.invariant
+    (subst (AreBesideSettled c.args.pattern.now (cast_by c.args.cast.now) c.loop-a.a) (sym c.count_of-total.ensures)
+    (c.in_ok-found-2.ensures.settled (ap Ok c.in-None-2.is)))
+
+pub returns-clause-settled : goal.returns-clause-settled
+returns-clause-settled g c = λ e.
+    all_pairs c.args.pattern.now (cast_by c.args.cast.now) c.count_of-total.result c.loop-a.a c.in_ok-nodes.nodes c.count_of-total.ensures
+    c.in_ok-nodes.ensures.alone (c.in_ok-found.ensures.settled (ap Ok c.in-None.is)) c.loop-a.invariant (omega (arith, c.loop-a-test.false))

@@ -1,0 +1,8 @@
+use Rattle.wire_pattern_commands.proofs.CheckedPattern.{judging_stops}
+use Rattle.wire_pattern_commands.proofs.check.answer_pattern.Goals as goal
+
+pub answer_settled-requires-clause-few : goal.answer_settled-requires-clause-few
+answer_settled-requires-clause-few g c = c.in_ok-judge_pattern.ensures.within.processes
+
+pub returns-in-None-clause-err : goal.returns-in-None-clause-err
+returns-in-None-clause-err g c = judging_stops c.args.pattern.now c.answer_settled.result c.in_ok-judge_pattern.ensures.within c.answer_settled.ensures.err
