@@ -8,7 +8,7 @@ ghost use Rattle.wire_types.specs.Texts.{texts_of};
 ghost use Rattle.wire_instances.specs.Asked as spec;
 ghost use Rattle.wire_instances.specs.Asked.{are_fit, asked_by};
 ghost use Rattle.wire_instances.specs.Tables.{AreSizes};
-ghost use Rattle.wire_pattern_commands.specs.Ranks.{AreSizesAsked, Asks, HasMisfit, IsMisfit, asked_text};
+ghost use Rattle.wire_pattern_commands.specs.Ranks.{AreSizesAsked, AskFor, Asks, HasMisfit, IsMisfit, are_few, asked_text};
 
 use std::alloc::{AllocError, Global};
 use wire_instances::{Asked, sizes_asked};
@@ -65,6 +65,7 @@ fn add_part(
     ensures added { result ≡ Ok true → map asked_text (map asked_by asked.new.items)
         ≡ map asked_text (map asked_by asked.old.items) ++ part.now ∷ [] }
     ensures fit { result ≡ Ok true → are_fit pattern.now.roles (map asked_by asked.new.items) ≡ true }
+    ensures few { result ≡ Ok true → are_few (map asked_by asked.old.items) ≡ true → are_few (map asked_by asked.new.items) ≡ true }
     ensures misfit { result ≡ Ok false → (a : spec.Asked) → a.count < 10 ^ 9 → part.now ≡ asked_text a
         → are_fit pattern.now.roles (map asked_by asked.old.items ++ a ∷ []) ≡ false }
 {
@@ -77,7 +78,7 @@ fn add_part(
 
 /// What the parts of a word ask for.
 fn read_parts(alloc: Global, pattern: &Pattern, parts: &[&[u8]]) -> Result<Vec<Asked>, Fault>
-    ensures asks { IfOk result (λ v. texts_of parts.now ≡ map asked_text (map asked_by v.items)) }
+    ensures asks { IfOk result (λ v. AskFor (texts_of parts.now) (map asked_by v.items)) }
     ensures fit { IfOk result (λ v. are_fit pattern.now.roles (map asked_by v.items) ≡ true) }
     ensures err { IfErr result (λ e. (e ≡ Memory) ⊎ IsMisfit pattern.now.roles (texts_of parts.now) e) }
 {

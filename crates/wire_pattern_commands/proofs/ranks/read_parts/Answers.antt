@@ -8,6 +8,6 @@ pub returns-then-not-branch-clause-err : goal.returns-then-not-branch-clause-err
 returns-then-not-branch-clause-err c =
     let n = c.loop-number.number in
     let parts = c.args.parts.now in
-    inr (misfit_at c.args.pattern.now.roles _ (map asked_by c.loop-number.asked.items) n _ (texts_taken parts n _ c.loop-number-test.true c.loop-number.invariant.0).0
-    (texts_taken parts n _ c.loop-number-test.true c.loop-number.invariant.0).1 (part_there parts n _ c.loop-number-test.true) c.loop-number.invariant.1
+    inr (misfit_at c.args.pattern.now.roles _ (map asked_by c.loop-number.asked.items) n _ (texts_taken parts n _ c.loop-number-test.true c.loop-number.invariant.asks).0
+    (texts_taken parts n _ c.loop-number-test.true c.loop-number.invariant.asks).1 c.loop-number.invariant.few (part_there parts n _ c.loop-number-test.true) c.loop-number.invariant.fit
     (c.in_ok-add_part.ensures.misfit (ap Ok c.if-not-branch.true)))
