@@ -6,16 +6,15 @@ use Rattle.wire_types.specs.declared.Status.{Status}
 use Rattle.wire_types.specs.Said.{is_reserved}
 use Rattle.wire_content.specs.Scripts.{Scripts, text_at, call_at}
 use Rattle.wire_script.specs.declared.limits.Size.{Size}
-use Rattle.wire_script.specs.declared.Size.TheVariants.{OfVersion}
 use Rattle.wire_script.specs.Reads.{Reads}
 use Rattle.wire_pattern.specs.Pattern.{Pattern}
 use Rattle.wire_pattern.specs.Lawful.{IsSound}
 use Rattle.wire_pattern.specs.Instances.{Cast, IsCast, instance_text}
 use Rattle.wire_sweep_laws.specs.Sizes.{total_of}
 use Rattle.wire_sweep_laws.specs.Promised.{IsSettledForAll}
-use Rattle.wire_sweep.specs.Selections.{Selection, selections, most_sizes}
+use Rattle.wire_sweep.specs.Selections.{most_sizes}
 use Rattle.wire_sweep.specs.Texts.{HaveLeast}
-use Rattle.wire_pattern_waits.specs.Waits.{alone, AllReplied}
+use Rattle.wire_pattern_waits.specs.Waits.{AllRead, AllReplied}
 use Rattle.wire_pattern_answers.specs.Answers.{IsAnswered, Answers}
 
 -- whether there is a call, and it is a get-now of a key that isn't reserved
@@ -23,12 +22,8 @@ abbrev pub asks_plainly : Scripts → Option Call → Bool
 asks_plainly s (Some (GetNow owner key)) = not (is_reserved (text_at s.keys key))
 asks_plainly s _ = false
 
--- the text of each instance that is judged reads as a plan
-abbrev pub AllRead : Pattern → Type 0
-AllRead p = (number : ℕ) (selection : Selection) → slice_get (selections p) number ≡ Some selection
-    → (scripts : Scripts) × Reads OfVersion (instance_text p (alone p selection)) (Ok scripts)
-
--- nothing is found for any number of processes, and in the instances that are judged each call has its reply
+-- nothing is found for any number of processes; and the texts of the instances that are judged read as plans, in which
+-- each call has its reply
 pub record IsAllAnswered (p : Pattern) : Type 0 where
   pub sound : IsSound p
   pub settled : IsSettledForAll p

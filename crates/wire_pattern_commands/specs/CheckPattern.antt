@@ -18,7 +18,7 @@ use Rattle.wire_pattern.specs.Instances.{Cast, IsCast, instance_text}
 use Rattle.wire_sweep_laws.specs.Promised.{IsSettledForAll, HasOneEndForAll}
 use Rattle.wire_pattern_waits.specs.declared.lines.CallLine.{CallLine}
 use Rattle.wire_pattern_waits.specs.Lines.{waits_text}
-use Rattle.wire_pattern_waits.specs.Waits.{AreWaiting}
+use Rattle.wire_pattern_waits.specs.Waits.{AreWaiting, AllRead, AllReplied}
 use Rattle.wire_pattern_answers.specs.declared.answers.LineAnswers.{LineAnswers}
 use Rattle.wire_pattern_answers.specs.Lines.{answers_text}
 use Rattle.wire_pattern_answers.specs.Answers.{AreAnswers}
@@ -64,11 +64,14 @@ settled_form told p lines answers =
 abbrev pub succeeds : LineAnswers → Bool
 succeeds answers = answers.success && (not answers.not_found && not answers.outside)
 
--- it is said that nothing is found, where something waits, and if that is asked for how each get-now is answered. Where
+-- it is said that nothing is found, where something waits in the instances that are judged, which all read as plans, and
+-- if that is asked for how each get-now is answered. If nothing waits, each call of these instances has its reply. Where
 -- `complete` is asked for, the command ends with the count of the get-now lines that don't succeed
 pub record IsSettledSaid (p : Pattern) (told : Told) (text : List ℕ) (ended : Ended) : Type 0 where
   pub lines : List CallLine
   pub waiting : AreWaiting p lines
+  pub read : AllRead p
+  pub replied : lines ≡ [] → AllReplied p
   pub answers : List LineAnswers
   pub answered : told.answers || told.complete ≡ true → AreAnswers p answers
   pub is : text ≡ settled_form told p lines answers

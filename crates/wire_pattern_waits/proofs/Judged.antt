@@ -44,6 +44,23 @@ module _ (p : Pattern) (those : Selection → Type 0) where
     pub is : slice_get (selections p) number ≡ Some selection
     pub holds : those selection
 
+  -- of each of the first n selections
+  abbrev pub EachBefore : ℕ → Type 0
+  EachBefore n = (i : ℕ) (s : Selection) → i < n → slice_get (selections p) i ≡ Some s → those s
+
+  pub each_more : (n : ℕ) (s : Selection) → slice_get (selections p) n ≡ Some s → EachBefore n → those s → EachBefore (n + 1)
+  each_more n s at before here = λ i t lt is. elim (cases_eq i n) [
+    | inl e ↦ subst those (same_Some s t (sym at ∙ ap (slice_get (selections p)) (sym e) ∙ is)) here
+    | inr ne ↦ before i t (omega (arith, lt, ne)) is
+  ]
+
+  pub each_all : (all : List CodeSelection) (n : ℕ) → map selection_by all ≡ selections p → length all ≤ n → EachBefore n
+      → (i : ℕ) (s : Selection) → slice_get (selections p) i ≡ Some s → those s
+  each_all all n is past before = λ i s at.
+      let within = slice_get_within (selections p) i s at in
+      let count : length all ≡ length (selections p) = sym (length-map {A = CodeSelection} {B = Selection} all selection_by) ∙ ap length is in
+      before i s (omega (arith, within, count, past)) at
+
   pub none_before : (told : Bool) → told ≡ false → (told ≡ true) ↔ IsBefore 0
   none_before told untold = ((λ h. absurd (true≢false (sym h ∙ untold))), (λ w. absurd (let b = w.below in omega (arith, b))))
 

@@ -47,6 +47,14 @@ pub record AreWaiting (p : Pattern) (lines : List CallLine) : Type 0 where
   pub tells : (role line : ℕ) → (waits role line ≡ true) ↔ Waits p role line
   pub are : lines ≡ filter (λ line. waits line.role line.number) (call_lines p)
 
+-- the text of the instance of this selection reads as a plan
+abbrev pub IsRead : Pattern → Selection → Type 0
+IsRead p selection = (scripts : Scripts) × Reads OfVersion (instance_text p (alone p selection)) (Ok scripts)
+
+-- so does that of each selection that is judged
+abbrev pub AllRead : Pattern → Type 0
+AllRead p = (number : ℕ) (selection : Selection) → slice_get (selections p) number ≡ Some selection → IsRead p selection
+
 -- in the instance of each selection that is judged every call has its reply where the plain run can't go on
 abbrev pub AllReplied : Pattern → Type 0
 AllReplied p = (number : ℕ) (selection : Selection) (scripts : Scripts) (process call : ℕ) (end : CallEnd)

@@ -3,7 +3,7 @@
 ghost use Rattle.std.specs.Prelude.{◌≡◌, ◌↔◌, ◌<◌, ◌^◌, [], ℕ, true, IfOk, IfErr, map};
 ghost use Rattle.wire_pattern_waits.specs.LineSets.{has_line};
 ghost use Rattle.wire_pattern_waits.specs.Stops as spec;
-ghost use Rattle.wire_pattern_waits.specs.Waits.{StopsIn, Waits, AreWaiting, AllReplied};
+ghost use Rattle.wire_pattern_waits.specs.Waits.{StopsIn, Waits, AreWaiting, IsRead, AllRead, AllReplied};
 ghost use Rattle.wire_sweep.specs.Judged.{IsJudgeFault};
 ghost use Rattle.wire_sweep.specs.Selections.{selections, most_sizes};
 ghost use Rattle.wire_sweep.specs.Shown.{selection_by};
@@ -27,6 +27,7 @@ fn stops_in(alloc: Global, pattern: &Pattern, selection: &Selection) -> Result<V
     requires few { counted.total_of selection.now.sizes.items < 2 ^ 31 }
     ensures ok { IfOk result (λ v. (role line : ℕ) → (spec.is_noted v.items role line ≡ true)
         ↔ StopsIn pattern.now (selection_by selection.now) role line) }
+    ensures read { IfOk result (λ v. IsRead pattern.now (selection_by selection.now)) }
     ensures err { IfErr result (λ e. IsJudgeFault pattern.now e) }
 {
     reads_once();
@@ -42,6 +43,7 @@ fn all_stops(alloc: Global, pattern: &Pattern, all: &[Selection]) -> Result<Line
     requires all { map selection_by all.now ≡ selections pattern.now }
     requires few { counted.total_of (most_sizes pattern.now.roles) < 2 ^ 31 }
     ensures ok { IfOk result (λ v. (role line : ℕ) → (has_line v role line ≡ true) ↔ Waits pattern.now role line) }
+    ensures read { IfOk result (λ v. AllRead pattern.now) }
     ensures err { IfErr result (λ e. IsJudgeFault pattern.now e) }
 {
     let mut noted = LineSet::new(alloc);
@@ -53,11 +55,12 @@ fn all_stops(alloc: Global, pattern: &Pattern, all: &[Selection]) -> Result<Line
 }
 
 /// The call lines of a pattern at which something waits, in the order of roles and lines: in the instance of some
-/// selection a process stands there where the plain run can't go on. If there is none, every call of these instances
-/// has its reply.
+/// selection a process stands there where the plain run can't go on. The text of each of these instances reads as a
+/// plan; and if there is no such line, every call of them has its reply.
 pub fn waiting_lines(alloc: Global, pattern: &Pattern) -> Result<Vec<CallLine>, Fault>
     requires { counted.total_of (most_sizes pattern.now.roles) < 2 ^ 31 }
     ensures ok { IfOk result (λ v. AreWaiting pattern.now v.items) }
+    ensures read { IfOk result (λ v. AllRead pattern.now) }
     ensures replied { IfOk result (λ v. v.items ≡ [] → AllReplied pattern.now) }
     ensures err { IfErr result (λ e. IsJudgeFault pattern.now e) }
 {

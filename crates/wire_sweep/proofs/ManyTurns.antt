@@ -32,5 +32,5 @@ pub few_turns : (p : Pattern) (sizes roles : List ℕ) (turns : List Turn) → s
 few_turns p sizes roles turns most is are few =
     let count : length (map turn_by turns) ≡ length turns = length-map turns turn_by in
     let own : length (map turn_by turns) ≡ length (optional_turns p (most_sizes p.roles)) =
-        ap length (are ∙ ap (λ rs. callers_turns p rs 0 rs) (is ∙ ap (roles_from 0) most)) in
+    ap length (are ∙ ap (λ rs. callers_turns p rs 0 rs) (is ∙ ap (roles_from 0) most)) in
     omega (arith, count, own, few)

@@ -77,5 +77,5 @@ pub first_has_fewest : FirstHasFewest
 first_has_fewest p cast first sizes are less = λ bits count.
     let same : total_of cast.sizes ≡ total_of first.selection.sizes = ap total_of first.of.sizes in
     let at = lower_before p 0 (suc (total_of (most_sizes p.roles))) first.number first.selection (select sizes bits) first.is
-        (selection_there p sizes bits are count) (omega (arith, less, same)) in
+    (selection_there p sizes bits are count) (omega (arith, less, same)) in
     first.before at.0 (select sizes bits) at.1 at.2

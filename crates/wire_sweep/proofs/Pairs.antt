@@ -105,8 +105,8 @@ settled_like p cast moved nodes s sound few same at reads settled = λ f share.
     let of : IsOfCast p (cast_by moved) s = instances_read p (cast_by moved) OfVersion s sound few.cast_is reads in
     let count : process_count (cast_by moved) ≡ process_count cast = ap (λ ns. sum_by (λ (n : ℕ). n) ns) same.0 in
     let own : ShareAs (process_count (cast_by moved)) f (cast_of (cast_by moved)).nodes =
-        λ v w lv lw. subst (λ (ns : Nodes). (f v == f w) ≡ (placed.node_of ns v == placed.node_of ns w)) (sym at)
-        (share v w (omega (arith, lv, count)) (omega (arith, lw, count))) in
+    λ v w lv lw. subst (λ (ns : Nodes). (f v == f w) ≡ (placed.node_of ns v == placed.node_of ns w)) (sym at)
+    (share v w (omega (arith, lv, count)) (omega (arith, lw, count))) in
     moved_on p cast (cast_by moved) f same (λ coding. settled_there p (cast_by moved) s of f own coding settled)
 
 -- one pair more
