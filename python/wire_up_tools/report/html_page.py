@@ -20,7 +20,7 @@ from wire_up_tools.report.messages import explain_late, find_late
 from wire_up_tools.report.page_style import STYLE
 from wire_up_tools.report.phrases import VALUE_WIDTH, count_of, cut, describe_circle, pick
 from wire_up_tools.report.placements import Placed
-from wire_up_tools.report.places import say_around
+from wire_up_tools.report.places import list_around
 from wire_up_tools.report.plan_page import write_plan
 from wire_up_tools.report.readers import list_told
 from wire_up_tools.report.runs import Outcome, Run, Runs
@@ -192,8 +192,8 @@ def write_calls(report: Report, calls: Sequence[Call]) -> str:
 def write_place(report: Report, call: Call) -> str:
     """Where in the program a call comes from, and below that what comes before and after a
     helper."""
-    around = escape(say_around(report.plan, call))
-    below = f'<span class="around">{around}</span>' if around else ""
+    around = list_around(report.plan, call)
+    below = "".join(f'<span class="around">{escape(it)}</span>' for it in around)
     return f"<strong>{escape(call.place or words.UNKNOWN_PLACE)}</strong>{below}"
 
 

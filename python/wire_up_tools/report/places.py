@@ -29,23 +29,22 @@ def name_line(call: Call) -> str:
 
 def say_place(plan: Plan, call: Call) -> str:
     """Where a call comes from, and what is called before and after a helper."""
-    return ", ".join(filter(None, [call.place, say_around(plan, call)]))
+    return ", ".join(filter(None, [call.place, *list_around(plan, call)]))
 
 
-def say_around(plan: Plan, call: Call) -> str:
+def list_around(plan: Plan, call: Call) -> list[str]:
     """The nearest calls that other functions make before and after a call of a helper, with their
     lines, as far as these are known: they tell which call of the helper it is.
 
     Nothing for a call of the main program.
     """
     if not call.place or find_function(call) in MAIN:
-        return ""
+        return []
     earlier = list(itertools.islice(plan.calls_of[call.rank.name], call.number - 1))
     before = next((it for it in reversed(earlier) if is_elsewhere(it, call)), None)
     after = next((it for it in list_later(plan, call) if is_elsewhere(it, call)), None)
     said = [f"before it {name_bare(before)} at {name_line(before)}"] if before else []
-    said += [f"after it {name_bare(after)} at {name_line(after)}"] if after else []
-    return ", ".join(said)
+    return said + ([f"after it {name_bare(after)} at {name_line(after)}"] if after else [])
 
 
 def is_elsewhere(one: Call, other: Call) -> bool:
