@@ -57,8 +57,8 @@ class PlacesTest(unittest.TestCase):
     """Where a call comes from: a helper's line, and what other functions call before and after."""
 
     def test_a_helper(self) -> None:
-        lines = ("# at main (a.c:5)", "# MPI: barrier", "fence all")
-        lines += ("# at look_up (b.c:9)", "lookup port")
+        lines = ["# at main (a.c:5)", "# MPI: barrier", "fence all"]
+        lines += ["# at look_up (b.c:9)", "lookup port"]
         later = ("# at look_up (b.c:10)", "lookup port", "# at main (a.c:7)", "commit")
         plan = read_plan("\n".join([RECORDED + HEAD.rstrip(), *lines, *later, ""]).encode())
         said = say_place(plan, plan.calls[1])
