@@ -41,7 +41,7 @@ class CausesTest(unittest.TestCase):
     def test_a_sweep(self) -> None:
         plan = f"{HEAD}rank n\nunpublish *\nrank n\nlookup x\nlookup y\n"
         lines = ["race a:0 1 a:1 1 name x", "race a:0 1 a:1 2 name y"]
-        wanted = ["A lookup and an unpublish of 2 names (x, y) can come in either order 2"]
+        wanted = ['A lookup and an unpublish of 2 names ("x", "y") can come in either order 2']
         self.assertEqual(describe(find_causes(find_groups(plan, lines))), wanted)
 
     def test_names_that_differ_in_numbers(self) -> None:
@@ -75,7 +75,8 @@ class ManyGroupsTest(unittest.TestCase):
         self.assertIn("They come from 2 mistakes.", page)
         self.assertIn("A get-now of 500 keys (key0, key1, key2, ..) can come before", page)
         self.assertIn("499 other keys with the same cause", page)
-        self.assertIn("A lookup of 8 names (svc0, svc1, svc2, ..) can come before", page)
+        names = ", ".join(f"&quot;svc{it}&quot;" for it in range(3))
+        self.assertIn(f"A lookup of 8 names ({names}, ..) can come before", page)
 
 
 if __name__ == "__main__":

@@ -17,11 +17,11 @@ NAMES = {
     "fence all": "PMIx_Fence",
     "fence all collect": "PMIx_Fence collect",
     "get app:0 card": "PMIx_Get card",
-    "get-now app:0 card": "PMIx_Get card at once",
+    "get-now app:0 card": "PMIx_Get card that doesn't wait",
     "publish port v": "PMIx_Publish port",
     "unpublish port": "PMIx_Unpublish port",
     "lookup port": "PMIx_Lookup port",
-    "lookup-wait port": "PMIx_Lookup port and wait",
+    "lookup-wait port": "PMIx_Lookup port with PMIX_WAIT",
     "publish mpi.0.2.1 sent": "MPI_Send to 2",
     "# MPI: send, tag 7\npublish mpi.0.2.1 sent": "MPI_Send to 2, tag 7",
     "lookup-wait mpi.0.2.1": "MPI_Recv from 0",
@@ -54,14 +54,16 @@ class NamesTest(unittest.TestCase):
 
 
 class PlacesTest(unittest.TestCase):
-    """Where a call comes from: a helper's line, and those of its caller before and after it."""
+    """Where a call comes from: a helper's line, and what other functions call before and after."""
 
     def test_a_helper(self) -> None:
-        lines = ("# at main (a.c:5)", "commit", "# at look_up (b.c:9)", "lookup port")
+        lines = ["# at main (a.c:5)", "# MPI: barrier", "fence all"]
+        lines += ["# at look_up (b.c:9)", "lookup port"]
         later = ("# at look_up (b.c:10)", "lookup port", "# at main (a.c:7)", "commit")
         plan = read_plan("\n".join([RECORDED + HEAD.rstrip(), *lines, *later, ""]).encode())
         said = say_place(plan, plan.calls[1])
-        self.assertEqual(said, "look_up (b.c:9), called between main (a.c:5) and main (a.c:7)")
+        wanted = "look_up (b.c:9), before it MPI_Barrier at a.c:5, after it PMIx_Commit at a.c:7"
+        self.assertEqual(said, wanted)
         self.assertEqual(say_place(plan, plan.calls[0]), "main (a.c:5)")
 
 

@@ -3,7 +3,8 @@
 - `command_line` begins. `contents` gathers all that a report says, whatever its form.
 - `asking` asks the checker; `findings`, `chains`, `runs` and `replies` read what it answers. Of a
   large plan `plan_parts` makes parts, which are asked one by one.
-- `language` has what calls are called, and `messages` finds the message that would order a race.
+- `language` has what calls are called. `messages` finds the message that would order a race,
+  `barriers` says where a barrier would, and `readers` who gets a key that is put again.
 - `causes` puts the groups of the checker that have one cause into one mistake.
 - `placements` tells what is found on other placements of the ranks, `patterns` what is found for
   every number of ranks, and `library_page` what a library is known to answer otherwise.

@@ -1,11 +1,14 @@
 """What a finding is called, what it means, and how it is mended: as docs/races.md has it."""
 from collections.abc import Sequence
+from typing import Optional
 
-from wire_up_tools.report.findings import Finding, Kind
+from wire_up_tools.report.barriers import say_turns
+from wire_up_tools.report.findings import LOOKUPS, Finding, Kind
 from wire_up_tools.report.language import name_verb
-from wire_up_tools.report.uses import Uses
+from wire_up_tools.report.messages import find_late, mend_late
+from wire_up_tools.report.orders import Order
+from wire_up_tools.report.readers import find_readers, say_readers
 
-LOOKUPS = ("lookup", "lookup-wait")
 # How many keys or names a title has.
 SHOWN = 3
 
@@ -14,17 +17,19 @@ BY_HAND = {
     "get_now": "get-now",
     "lookup": "lookup",
     "lookup_wait": "lookup-wait",
-    "use_get": "Use get in place of get-now",
-    "use_wait": "wait for it, by lookup-wait in place of lookup. This orders the two calls",
-    "fence": "a fence",
+    "use_get": "use get in place of get-now",
+    "use_wait": "use lookup-wait in place of lookup",
+    "barrier": "a fence of a set that has both ranks",
 }
 IN_PROGRAM = {
     "get_now": "PMIx_Get with PMIX_IMMEDIATE or PMIX_OPTIONAL",
     "lookup": "PMIx_Lookup",
     "lookup_wait": "PMIx_Lookup with PMIX_WAIT",
-    "use_get": "Leave out PMIX_IMMEDIATE and PMIX_OPTIONAL",
-    "use_wait": "wait for it with PMIX_WAIT, or put a barrier of both ranks between the two calls",
-    "fence": "a barrier or PMIx_Fence",
+    "use_get": "leave out PMIX_IMMEDIATE and PMIX_OPTIONAL, so that the get waits",
+    "use_wait": "wait for the name with PMIX_WAIT",
+    "barrier": (
+        "a barrier of all ranks of the communicator, or a PMIx_Fence of a set that has both ranks,"
+    ),
 }
 
 MEANING_OF_REWRITE = (
@@ -68,28 +73,14 @@ MEANING_OF_LOOKUP_WAIT = (
 )
 
 FIX_OF_REWRITE = "Use a key of its own for each value."
-# How a race on a key is mended, by the verb of the call that brings the key.
-FIX_OF_KEY = {
-    "fence": (
-        "Let the reader meet in the fence itself: "
-        "make its rank a member, and let it ask after the fence."
-    ),
-    "get": (
-        "{use_get}; or let both ranks of the node meet in {fence} after the get, "
-        "and let the reader ask after it."
-    ),
-    "commit": (
-        "Let the reader wait for something that can't come before the commit. {use_get}; "
-        "or put {fence} of both ranks between them; "
-        "or get another key of the same commit first."
-    ),
-}
-FIX_BY_WAITING = (
-    "The name is published once and never taken away: {use_wait}."
+FIX_OF_FENCE = (
+    "Let the reader meet in the fence itself: "
+    "make its rank a member, and let it ask after the fence."
 )
-FIX_BY_FENCE = (
-    "Put {fence} of both ranks between the two calls: "
-    "the name is published more than once or taken away again, so that no wait for it orders them."
+FIX_BY_WAITING = "{use_wait}: it is published once and never taken away"
+FIX_BY_FENCE = "put {barrier} between the two calls"
+NO_WAIT = (
+    " No wait for the name orders them: it is published more than once or taken away again."
 )
 
 
@@ -121,13 +112,21 @@ def say_what(finding: Finding, abouts: Sequence[str]) -> str:
     """The key or the name of findings, or how many they have and the first of them."""
     noun = "name" if finding.kind is Kind.NAME else "key"
     if len(abouts) < 2:
-        return f"the {noun} {finding.about}"
-    shown = ", ".join([*abouts[:SHOWN], *([".."] if len(abouts) > SHOWN else [])])
+        return f"the {noun} {quote(finding, finding.about)}"
+    some = [quote(finding, it) for it in abouts[:SHOWN]]
+    shown = ", ".join([*some, *([".."] if len(abouts) > SHOWN else [])])
     return f"{len(abouts):,} {noun}s ({shown})"
 
 
-def explain(finding: Finding) -> str:
+def quote(finding: Finding, about: str) -> str:
+    """A key, or a name in quotes: it may be a common word."""
+    return f'"{about}"' if finding.kind is Kind.NAME else about
+
+
+def explain(finding: Finding, order: Order) -> str:
     """What a finding means."""
+    if finding.kind is Kind.REWRITE:
+        return f"{MEANING_OF_REWRITE} {say_readers(find_readers(order, finding))}"
     return say(choose_meaning(finding), finding)
 
 
@@ -137,9 +136,7 @@ def say(text: str, finding: Finding) -> str:
 
 
 def choose_meaning(finding: Finding) -> str:
-    """What a kind of finding means."""
-    if finding.kind is Kind.REWRITE:
-        return MEANING_OF_REWRITE
+    """What a kind of race means."""
     if finding.kind is Kind.KEY:
         return MEANING_OF_KEY[finding.bringer]
     if "unpublish" in finding.verbs:
@@ -149,18 +146,35 @@ def choose_meaning(finding: Finding) -> str:
     return MEANING_OF_LOOKUP if "lookup" in finding.verbs else MEANING_OF_LOOKUP_WAIT
 
 
-def fix(finding: Finding, uses: Uses) -> str:
+def fix(finding: Finding, order: Order) -> str:
     """How a finding is mended."""
-    return say(choose_fix(finding, uses), finding)
-
-
-def choose_fix(finding: Finding, uses: Uses) -> str:
-    """How a kind of finding is mended."""
     if finding.kind is Kind.REWRITE:
         return FIX_OF_REWRITE
+    if finding.kind is Kind.KEY and finding.bringer == "fence":
+        return FIX_OF_FENCE
+    late, wait = find_late(order, finding), choose_wait(finding, order)
+    ways = [mend_late(late)] if late else []
+    ways += [say(wait, finding)] if wait else []
+    # A barrier may keep a message from its receive, so it isn't named beside one.
+    ways += [] if late else [say_barrier(finding, order)]
+    said = "; or ".join(ways)
+    no_wait = NO_WAIT if finding.verbs == ("lookup", "publish") and not wait else ""
+    return f"{said[0].upper()}{said[1:]}.{no_wait}"
+
+
+def choose_wait(finding: Finding, order: Order) -> Optional[str]:
+    """The fix by which the call waits that doesn't; None where that orders nothing."""
     if finding.kind is Kind.KEY:
-        return FIX_OF_KEY[finding.bringer]
-    is_published_once = len(uses.publishes.get(finding.about, ())) == 1
-    if "lookup" in finding.verbs and is_published_once and finding.about not in uses.unpublished:
-        return FIX_BY_WAITING
-    return FIX_BY_FENCE
+        return "{use_get}"
+    name, uses = finding.about, order.uses
+    is_published_once = len(uses.publishes.get(name, ())) == 1
+    is_open = "lookup" in finding.verbs and is_published_once and name not in uses.unpublished
+    return FIX_BY_WAITING if is_open else None
+
+
+def say_barrier(finding: Finding, order: Order) -> str:
+    """The fix by a barrier, with which call it lets come first."""
+    leader, fence = finding.leader, say(FIX_BY_FENCE, finding)
+    if not leader:
+        return f"{fence}, so that the same one always comes first"
+    return f"{fence}: {say_turns(order, finding, leader)}"

@@ -44,6 +44,7 @@ class Kind(enum.Enum):
 
 
 KINDS = {it.value: it for it in Kind}
+LOOKUPS = ("lookup", "lookup-wait")
 
 
 @dataclass(frozen=True, eq=False)
@@ -76,6 +77,21 @@ class Finding:
     def bringer(self) -> str:
         """Of a race on a key, the verb of the call that brings it: `commit`, `fence` or `get`."""
         return next(verb for verb in self.verbs if verb != "get-now")
+
+    @property
+    def leader(self) -> Optional[Call]:
+        """The call that a fix lets come first: what brings a key, a publish before a lookup, and a
+        lookup before an unpublish. None where neither order is the better one."""
+        if self.kind is Kind.KEY:
+            return next(it for it in self.calls if it.verb != "get-now")
+        lookup = next((it for it in self.calls if it.verb in LOOKUPS), None)
+        if self.kind is Kind.REWRITE or not lookup:
+            return None
+        return next((it for it in self.calls if it.verb == "publish"), lookup)
+
+    def find_other(self, call: Call) -> Call:
+        """The other of its two calls."""
+        return self.second if call is self.first else self.first
 
 
 @dataclass(frozen=True, eq=False)

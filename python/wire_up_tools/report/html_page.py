@@ -20,8 +20,9 @@ from wire_up_tools.report.messages import explain_late, find_late
 from wire_up_tools.report.page_style import STYLE
 from wire_up_tools.report.phrases import VALUE_WIDTH, count_of, cut, describe_circle, pick
 from wire_up_tools.report.placements import Placed
-from wire_up_tools.report.places import say_around
+from wire_up_tools.report.places import list_around
 from wire_up_tools.report.plan_page import write_plan
+from wire_up_tools.report.readers import list_told
 from wire_up_tools.report.runs import Outcome, Run, Runs
 
 # How many steps of an order are shown.
@@ -100,12 +101,10 @@ def choose_badge(report: Report) -> tuple[str, str]:
 
 
 def write_recording(report: Report) -> str:
-    """The head of a recorded plan, and how much was left out."""
-    kinds = count_of(len(report.left_out), "kind of call", "kinds of calls")
-    left_out = f"{kinds} left out" if report.left_out else "nothing left out"
+    """The head of a recorded plan, and whether what was left out can hide a race."""
     head = escape_lines(report.plan.declared.head)
-    summary = f"<summary>A recording, with {left_out}</summary>"
-    return f"<details>{summary}<pre>{head}</pre></details>"
+    summary = f"<summary>{verdict.say_recording(report)}</summary>"
+    return f'<details class="meta">{summary}<pre>{head}</pre></details>'
 
 
 def write_contents(report: Report) -> str:
@@ -134,13 +133,13 @@ def write_detail(report: Report, number: int, detail: Detail) -> str:
     """A cause that is told in full."""
     cause, one = detail.cause, detail.cause.first
     title = f"{number}. {write_title(cause)} {write_count(verdict.say_count(cause))}"
-    fix = escape(explaining.fix(one, report.order.uses))
+    fix = escape(explaining.fix(one, report.order))
     calls = " and ".join(f"{it.name} {name_kind(it)}" for it in one.calls)
     figure = draw_figure(detail.diagram, f"Diagram: {calls}", f"diagram-{number}")
     parts = [
         f'<section id="cause-{number}" class="found"><h2>{title}</h2>',
-        write_calls(report, one.calls),
-        f"<p>{escape(explaining.explain(one))}</p>",
+        write_calls(report, list_told(report.order, one)),
+        f"<p>{escape(explaining.explain(one, report.order))}</p>",
         *write_late(report, one),
         f'<p class="fix"><strong>Fix:</strong> {fix}</p>',
         f'<div class="both">{figure}{write_runs(report, one, detail.runs)}</div>',
@@ -154,14 +153,14 @@ def write_placed(report: Report, number: int, placed: Placed) -> str:
     """A cause that is found on another placement only, with its diagram there."""
     cause, one = placed.cause, placed.cause.first
     count = write_count(verdict.say_count(cause))
-    where, fix = escape(verdict.say_ranks(placed)), escape(explaining.fix(one, report.order.uses))
+    where, fix = escape(verdict.say_ranks(placed)), escape(explaining.fix(one, report.order))
     about = f"Diagram: {verdict.say_ranks(placed)}"
     figure = draw_figure(placed.diagram, about, f"placement-{number}")
     command = escape(f"wire_up place {','.join(placed.ranks)} {report.plan_name}")
     parts = [
         f'<section class="found"><h2>{where}: {write_title(cause)} {count}</h2>',
         write_calls(report, one.calls),
-        f"<p>{escape(explaining.explain(one))}</p>",
+        f"<p>{escape(explaining.explain(one, report.order))}</p>",
         f'<p class="fix"><strong>Fix:</strong> {fix}</p>',
         f'<div class="both">{figure}{write_runs(report, one, placed.runs)}</div>',
         f"<p>This placement as a plan: <code>{command}</code></p></section>",
@@ -171,14 +170,15 @@ def write_placed(report: Report, number: int, placed: Placed) -> str:
 
 def write_late(report: Report, finding: Finding) -> list[str]:
     """The message that would order the calls of a finding, if there is one."""
-    late = find_late(report.plan, finding) if finding.kind is not Kind.REWRITE else None
+    late = find_late(report.order, finding)
     return [f"<p>{escape(explain_late(late))}</p>"] if late else []
 
 
 def write_calls(report: Report, calls: Sequence[Call]) -> str:
     """Calls with their lines and places."""
     has_places = any(it.place for it in calls)
-    heads = ["rank", "call", *["in the program"] * has_places, "in the plan"]
+    in_plan = f"line in the {'recorded ' * report.plan.is_recorded}plan"
+    heads = ["rank", "call", *["in the program"] * has_places, in_plan]
     rows = ["".join(f"<th>{it}</th>" for it in heads)]
     for call in calls:
         cells = [escape(call.rank.name), escape(f"{call.number} {name_kind(call)}")]
@@ -190,9 +190,10 @@ def write_calls(report: Report, calls: Sequence[Call]) -> str:
 
 
 def write_place(report: Report, call: Call) -> str:
-    """Where in the program a call comes from, and below that who calls a helper."""
-    around = escape(say_around(report.plan, call))
-    below = f'<span class="around">{around}</span>' if around else ""
+    """Where in the program a call comes from, and below that what comes before and after a
+    helper."""
+    around = list_around(report.plan, call)
+    below = "".join(f'<span class="around">{escape(it)}</span>' for it in around)
     return f"<strong>{escape(call.place or words.UNKNOWN_PLACE)}</strong>{below}"
 
 
@@ -248,7 +249,7 @@ def write_steps(report: Report, finding: Finding, which: str, run: Run) -> str:
         return f"<p>Its {count:,} steps: <code>{said} {escape(report.plan_name)}</code></p>"
     title = f"its {count_of(count, 'step')}, for <code>wire_up follow</code>"
     steps = escape_lines(run.order)
-    return f"<details><summary>{title}</summary><pre>{steps}</pre></details>"
+    return f'<details class="meta"><summary>{title}</summary><pre>{steps}</pre></details>'
 
 
 def write_pairs(group: Group) -> str:

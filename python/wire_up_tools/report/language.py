@@ -15,15 +15,16 @@ NAMES = {
     "commit": "PMIx_Commit",
     "fence": "PMIx_Fence",
     "get": "PMIx_Get {}",
-    "get-now": "PMIx_Get {} at once",
+    "get-now": "PMIx_Get {} that doesn't wait",
     "publish": "PMIx_Publish {}",
     "unpublish": "PMIx_Unpublish {}",
     "lookup": "PMIx_Lookup {}",
-    "lookup-wait": "PMIx_Lookup {} and wait",
+    "lookup-wait": "PMIx_Lookup {} with PMIX_WAIT",
 }
 # The name that stands for a message, or for a part of a collective: from whom, to whom, and which.
 MESSAGE = re.compile(r"mpi_*\.([^.]+)\.([^.]+)\.\d+")
 TO_ALL, FROM_ANY = "all", "from any source"
+COLLECTIVE = "MPI collective"
 TAG = re.compile(r"tag -?\d+")
 
 
@@ -35,6 +36,12 @@ def name_verb(verb: str, is_recorded: bool) -> str:
 def name_kind(call: Call) -> str:
     """What a call is called, without what it is about."""
     return name_mpi(call) or name_verb(call.verb, call.rank.is_recorded)
+
+
+def name_bare(call: Call) -> str:
+    """The function that a call calls, without anything else about it."""
+    kind = name_kind(call)
+    return kind if kind == COLLECTIVE else kind.split(" ")[0]
 
 
 def name_call(call: Call) -> str:
@@ -56,7 +63,7 @@ def name_mpi(call: Call) -> Optional[str]:
         return None
     message = find_message(call)
     if call.verb == "fence" or (message and message[2] == TO_ALL):
-        of_all = name_function(call.remark) if call.remark else "MPI collective"
+        of_all = name_function(call.remark) if call.remark else COLLECTIVE
         return of_all if message or call.remark else None
     if not message:
         return None

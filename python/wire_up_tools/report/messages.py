@@ -3,17 +3,19 @@ from collections.abc import Sequence
 from dataclasses import dataclass
 from typing import Optional
 
-from wire_up_tools.plan import Call, Plan
-from wire_up_tools.report.findings import Finding
-from wire_up_tools.report.language import find_message, is_from_any, name_kind
-from wire_up_tools.report.places import list_later, say_at
+from wire_up_tools.plan import Call
+from wire_up_tools.report.findings import Finding, Kind
+from wire_up_tools.report.language import find_message, is_from_any, name_bare, name_kind
+from wire_up_tools.report.orders import Order
+from wire_up_tools.report.places import list_later, name_spot
 
 
 @dataclass(frozen=True)
 class Late:
-    """A message that is sent after one call of a race, and that the rank of the other call surely
-    has only after that call."""
+    """A message that is sent after one call of a race, and that the rank of the other call need
+    have only after that call."""
 
+    after: Call
     sent: Call
     received: Call
     before: Call
@@ -24,23 +26,38 @@ class Late:
         return [self.sent, self.received]
 
 
-def find_late(plan: Plan, finding: Finding) -> Optional[Late]:
-    """The message that would order the calls of a race; None where there is none."""
-    for one, other in (finding.calls, tuple(reversed(finding.calls))):
-        received = {it.about: it for it in list_later(plan, other) if find_message(it)}
-        for it in list_later(plan, one):
-            if it.verb == "publish" and find_message(it) and it.about in received:
-                return Late(it, received[it.about], other)
+def find_late(order: Order, finding: Finding) -> Optional[Late]:
+    """The message that would let that call of a race come first which should; None where there is
+    none, or where it is sent only after the other call."""
+    if finding.kind is Kind.REWRITE:
+        return None
+    for one in [finding.leader] if finding.leader else finding.calls:
+        other = finding.find_other(one)
+        received = {it.about: it for it in list_later(order.plan, other) if find_message(it)}
+        sent = (it for it in list_later(order.plan, one) if it.verb == "publish")
+        found = next((it for it in sent if find_message(it) and it.about in received), None)
+        if found and not order.is_before(other, found):
+            return Late(one, found, received[found.about], other)
     return None
 
 
 def explain_late(late: Late) -> str:
-    """How the message would order the calls, and why it doesn't."""
-    sent, received, before = late.sent, late.received, name_kind(late.before)
+    """When the message comes, and what it would do if it came in time."""
+    sent, received = late.sent, late.received
     sender, receiver = sent.rank.name, received.rank.name
-    why = ", since it receives from any source" if is_from_any(received) else ""
+    after, before = name_bare(late.after), name_bare(late.before)
+    is_any = is_from_any(received)
+    why = "receives from any source, and may have it only" if is_any else "receives it only"
+    source = f" from {sender}" if is_any else ""
     return (
-        f"{sender} sends a message to {receiver} afterwards ({name_kind(sent)}{say_at(sent)}). "
-        f"But {receiver} surely has it only at its call {received.number}{say_at(received)}, after "
-        f"the {before}{why}. Received from {sender} before the {before}, it would order them."
+        f"{sender} sends {receiver} a message after its {after} ({name_kind(sent)}, at "
+        f"{name_spot(sent)}), but {receiver} {why} at {name_spot(received)}. "
+        f"If {receiver} received it{source} before its {before}, the {after} would come first."
     )
+
+
+def mend_late(late: Late) -> str:
+    """The fix by which the message comes in time."""
+    sender, where = late.sent.rank.name, name_spot(late.before)
+    source = f", from {sender} in place of any source" if is_from_any(late.received) else ""
+    return f"let {late.received.rank.name} receive {sender}'s message before {where}{source}"

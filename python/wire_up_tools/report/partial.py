@@ -65,6 +65,11 @@ def say_cut_off(plan: Plan) -> Optional[str]:
     return f"the run was cut off, {said} early: what came then isn't known"
 
 
+def hides_race(plan: Plan) -> bool:
+    """Whether something was left out that can hide a race."""
+    return bool(say_left_out(plan) or say_cut_off(plan))
+
+
 def say_left_out(plan: Plan) -> Optional[str]:
     """What was left out that can hide a race."""
     counted = (it.partition(" ") for it in plan.list_in_head(words.LEFT_OUT))

@@ -2,7 +2,7 @@
 import itertools
 from collections.abc import Iterator, Mapping, Sequence
 
-from wire_up_tools.plan import Call, Plan, Rank, Series
+from wire_up_tools.plan import Call, Plan, Rank
 from wire_up_tools.report.chains import find_chain
 from wire_up_tools.report.diagram import (
     LANES,
@@ -22,6 +22,7 @@ from wire_up_tools.report.findings import Finding, Kind
 from wire_up_tools.report.language import name_kind
 from wire_up_tools.report.messages import find_late
 from wire_up_tools.report.orders import Order
+from wire_up_tools.report.readers import find_readers
 from wire_up_tools.report.runs import Search
 
 # How many calls of a chain are shown, those next to its end.
@@ -75,27 +76,18 @@ def list_around_race(finding: Finding, search: Search, order: Order) -> list[Cal
         found += list_around_key(finding, order)
     else:
         found += order.uses.publishes.get(finding.about, ())[:PUBLISHES]
-    late = find_late(order.plan, finding)
+    late = find_late(order, finding)
     found += late.calls if late else []
     found += list_chain(search, order, finding.first, finding.second)
     return [*found, *list_chain(search, order, finding.second, finding.first)]
 
 
 def list_around_rewrite(finding: Finding, order: Order) -> list[Call]:
-    """The commits after two puts of one key, and the first gets of it."""
+    """The commits after two puts of one key, and the first gets of it: first those that may give
+    either value."""
     commits = [order.uses.find_commit(it) for it in finding.calls]
-    gets = list_gets(order.plan, finding.owner or "", finding.about)
-    return [*(it for it in commits if it), *itertools.islice(gets, READERS)]
-
-
-def list_gets(plan: Plan, owner: str, key: str) -> Iterator[Call]:
-    """The gets of a key, in the order of the file."""
-    for rank in plan.ranks:
-        for entry in plan.list_outline(rank):
-            if entry.verb not in ("get", "get-now") or entry.about != key:
-                continue
-            calls = entry.list_calls() if isinstance(entry, Series) else [entry]
-            yield from (it for it in calls if it.target == owner)
+    gets = find_readers(order, finding).calls[:READERS]
+    return [*(it for it in commits if it), *gets]
 
 
 def list_around_key(finding: Finding, order: Order) -> list[Call]:

@@ -92,7 +92,7 @@ def make_result(report: Report, cause: Cause, source: Source) -> dict[str, Any]:
     """The result of a cause: its first finding, with its calls in the program and in the plan."""
     one, rule = cause.first, choose_rule(cause.first)
     names = {it: f"{it.name} {name_kind(it)}" for it in one.calls}
-    fix = explaining.fix(one, report.order.uses)
+    fix = explaining.fix(one, report.order)
     title = f"{explaining.title(one, cause.abouts)} ({count_of(cause.count, 'finding')})."
     plan = PLAN_NAME if report.pattern else "the plan"
     in_plan = [
@@ -107,7 +107,7 @@ def make_result(report: Report, cause: Cause, source: Source) -> dict[str, Any]:
         "ruleId": rule,
         "ruleIndex": list(RULES).index(rule),
         "level": "warning",
-        "message": make_message(f"{title} {explaining.explain(one)} Fix: {fix}"),
+        "message": make_message(f"{title} {explaining.explain(one, report.order)} Fix: {fix}"),
         "locations": in_program,
         "relatedLocations": in_plan,
         "partialFingerprints": {"group/v1": one.mistake},

@@ -5,7 +5,7 @@ from collections.abc import Iterable
 from wire_up_tools.plan import Call
 from wire_up_tools.report import explaining, verdict
 from wire_up_tools.report.contents import ENDINGS, Detail, Report, WireUp
-from wire_up_tools.report.findings import PAIRS, Kind
+from wire_up_tools.report.findings import PAIRS
 from wire_up_tools.report.language import name_kind
 from wire_up_tools.report.library_page import say_library, write_library_text
 from wire_up_tools.report.markup import REPLACEMENT
@@ -13,6 +13,7 @@ from wire_up_tools.report.messages import explain_late, find_late
 from wire_up_tools.report.phrases import VALUE_WIDTH, count_of, cut, describe_circle
 from wire_up_tools.report.placements import Placed
 from wire_up_tools.report.places import say_place
+from wire_up_tools.report.readers import list_told
 from wire_up_tools.report.runs import Outcome, Run, Runs
 from wire_up_tools.report.text_drawing import draw_lines
 
@@ -32,7 +33,7 @@ def write_text(report: Report) -> str:
         lines.append(f"The recorder's verdicts: {report.verdicts}.")
     lines += verdict.say_besides(report)
     if report.plan.is_recorded:
-        lines.append(f"A recording. Left out: {'; '.join(report.left_out) or 'nothing'}.")
+        lines.append(f"{verdict.say_recording(report)}: {'; '.join(report.left_out)}".rstrip(": "))
     for number, detail in enumerate(report.details, 1):
         lines += ["", *write_detail(report, number, detail)]
     if report.others:
@@ -57,14 +58,14 @@ def write_detail(report: Report, number: int, detail: Detail) -> list[str]:
     """A cause that is told in full."""
     cause = detail.cause
     one, count = cause.first, verdict.say_count(cause)
-    late = find_late(report.plan, one) if one.kind is not Kind.REWRITE else None
+    late = find_late(report.order, one)
     return [
         f"{number}. {explaining.title(one, cause.abouts)} ({count})",
-        *(f"   {describe_call(report, it)}" for it in one.calls),
+        *(f"   {describe_call(report, it)}" for it in list_told(report.order, one)),
         "",
-        f"   {explaining.explain(one)}",
+        f"   {explaining.explain(one, report.order)}",
         *([f"   {explain_late(late)}"] if late else []),
-        f"   Fix: {explaining.fix(one, report.order.uses)}",
+        f"   Fix: {explaining.fix(one, report.order)}",
         "",
         *draw_lines(detail.diagram),
         "",
@@ -79,7 +80,7 @@ def write_placed(report: Report, placed: Placed) -> list[str]:
     return [
         f"{verdict.say_ranks(placed)}: {title}",
         *(f"   {describe_call(report, it)}" for it in one.calls),
-        f"   Fix: {explaining.fix(one, report.order.uses)}",
+        f"   Fix: {explaining.fix(one, report.order)}",
         "",
         *draw_lines(placed.diagram),
         "",

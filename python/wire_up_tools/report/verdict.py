@@ -3,6 +3,7 @@ from wire_up_tools.report.causes import Cause
 from wire_up_tools.report.contents import Report
 from wire_up_tools.report.findings import MOST_GROUPS, Kind
 from wire_up_tools.report.library_page import say_otherwise
+from wire_up_tools.report.partial import hides_race
 from wire_up_tools.report.patterns import say_counterexample
 from wire_up_tools.report.phrases import count_of
 from wire_up_tools.report.placements import Placed
@@ -100,6 +101,15 @@ def say_line(report: Report) -> str:
     return " ".join(filter(None, [say_found(report), say_reasons(report)]))
 
 
+def say_recording(report: Report) -> str:
+    """That the plan is recorded, and whether what was left out can hide a race."""
+    if not report.left_out:
+        return "A recording, with nothing left out"
+    if hides_race(report.plan):
+        return "A recording, with calls left out that can hide a race"
+    return "A recording; what is left out can hide no race"
+
+
 def say_races(report: Report) -> str:
     """The findings, counted; nothing where there are none."""
     count = sum(it.count for it in report.causes)
@@ -124,11 +134,21 @@ def say_verdict(report: Report) -> str:
     if report.causes:
         has_many = sum(it.count for it in report.causes) > 1
         kinds = f"They come from {count_of(len(report.causes), 'mistake')}. " if has_many else ""
-        return f"{kinds}The replies of some calls may depend on which rank is fast."
+        return f"{kinds}{say_doubt(report)}"
     ends = say_ends(report).replace(", ", " and ")
     end = ends or "no call fails and no rank waits for ever"
     whole = "As far as the plan goes, w" if report.reasons else "W"
     return f"{whole}hichever ranks are fast, every call ends in the same way: {end}."
+
+
+def say_doubt(report: Report) -> str:
+    """What findings mean for the program."""
+    if any(it.first.kind is not Kind.REWRITE for it in report.causes):
+        return "The replies of some calls may depend on which rank is fast."
+    return (
+        "A rank that gets such a key may see its old value or its new one: a bug, unless either "
+        "will do."
+    )
 
 
 def say_waiting(report: Report) -> str:

@@ -1,0 +1,80 @@
+"""Who reads a key that is put again."""
+import itertools
+from collections.abc import Iterator, Sequence
+from dataclasses import dataclass
+
+from wire_up_tools.plan import Call, Plan, Series
+from wire_up_tools.report.findings import Finding, Kind
+from wire_up_tools.report.orders import START, Order
+from wire_up_tools.report.phrases import list_names, pick
+from wire_up_tools.report.places import name_spot
+
+# How many gets of a key are looked at.
+MOST = 40
+
+
+@dataclass(frozen=True)
+class Readers:
+    """The gets of other ranks of a key that is put again: those that no chain orders with the
+    second commit, which may give either value, and the others."""
+
+    either: Sequence[Call]
+    others: Sequence[Call]
+
+    @property
+    def calls(self) -> Sequence[Call]:
+        """All, those first that may give either value."""
+        return [*self.either, *self.others]
+
+
+def find_readers(order: Order, finding: Finding) -> Readers:
+    """Who reads the key of a finding that is put again."""
+    owner = finding.owner or ""
+    gets = (it for it in list_gets(order.plan, owner, finding.about) if it.rank.name != owner)
+    calls = list(itertools.islice(gets, MOST))
+    one, other = (order.uses.find_commit(it) for it in finding.calls)
+    if not other or one is other:
+        return Readers([], calls)
+    earlier = order.find_earlier(other)
+    later = [it for it in calls if earlier.get(it.rank, START).number < it.number]
+    either = [it for it in later if not order.is_before(other, it)]
+    return Readers(either, [it for it in calls if it not in either])
+
+
+def list_gets(plan: Plan, owner: str, key: str) -> Iterator[Call]:
+    """The gets of a key, in the order of the file."""
+    for rank in plan.ranks:
+        for entry in plan.list_outline(rank):
+            if entry.verb not in ("get", "get-now") or entry.about != key:
+                continue
+            calls = entry.list_calls() if isinstance(entry, Series) else [entry]
+            yield from (it for it in calls if it.target == owner)
+
+
+def list_told(order: Order, finding: Finding) -> Sequence[Call]:
+    """The calls of a finding, and of a key that is put again the get that tells most."""
+    if finding.kind is not Kind.REWRITE:
+        return finding.calls
+    return [*finding.calls, *find_readers(order, finding).calls[:1]]
+
+
+def say_readers(readers: Readers) -> str:
+    """Who reads the key and where, and whether the get may give either value."""
+    if not readers.calls:
+        return "No other rank gets it in this plan."
+    if not readers.either:
+        return f"{say_who(readers.others)}."
+    which = pick(len(readers.either), "this get", "each of these gets")
+    return (
+        f"{say_who(readers.either)}, and nothing orders that with the second commit: "
+        f"{which} may give either value."
+    )
+
+
+def say_who(calls: Sequence[Call]) -> str:
+    """Which ranks get the key, and where in the program."""
+    names = list(dict.fromkeys(it.rank.name for it in calls))
+    spots = list(dict.fromkeys(name_spot(it) for it in calls if it.place))
+    where = f" at {list_names(spots)}" if spots else ""
+    said = " and ".join(names) if len(names) == 2 else list_names(names)
+    return f"{said} {pick(len(names), 'gets', 'get')} it{where}"
