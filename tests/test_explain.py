@@ -185,6 +185,101 @@ EXPLAINED = (
 )
 
 
+# Patterns that are refused, each with the fault and what explains it.
+REFUSED_PATTERNS = (
+    (
+        "a word misspelt in a loop",
+        b"pattern 1\njob app\nmany w\nfor w\nget-nw each k\nend\n",
+        (
+            b"fault 4 BadLine 5\n  5 | get-nw each k\n"
+            b"  expected: a call that a loop may have, or 'end'\n  nearest word: get-now\n"
+        ),
+    ),
+    (
+        "a word misspelt behind a loop",
+        b"pattern 1\njob app\nmany w\nfor w\nend\nfr w\n",
+        (
+            b"fault 4 BadLine 6\n  6 | fr w\n  expected: a call, 'for GROUP', 'one NAME', "
+            b"'many NAME' or 'job NAME'\n  nearest word: for\n"
+        ),
+    ),
+    (
+        "a loop without its end",
+        b"pattern 1\njob app\nmany w\nfor w\nget-now each k\n",
+        (
+            b"fault 4 BadLine 6\n  6 | (the file ends here)\n"
+            b"  expected: a call that a loop may have, or 'end'\n"
+        ),
+    ),
+    (
+        "the header of a pattern misspelt",
+        b"patern 1\n",
+        (
+            b"fault 3 BadHeader 1\n  1 | patern 1\n"
+            b"  expected: 'pattern 1', before all other lines\n  nearest word: pattern\n"
+        ),
+    ),
+    (
+        "a plan in place of a pattern",
+        b"rehearsal 2\n",
+        (
+            b"fault 3 BadHeader 1\n  1 | rehearsal 2\n"
+            b"  expected: 'pattern 1', before all other lines\n"
+        ),
+    ),
+    (
+        "a word before the first job of a pattern",
+        b"pattern 1\nkep\n",
+        (
+            b"fault 4 BadLine 2\n  2 | kep\n  expected: 'job NAME', or 'keep' right below "
+            b"'pattern 1'\n  nearest word: keep\n"
+        ),
+    ),
+    (
+        "a role misspelt",
+        b"pattern 1\njob app\nmani w\n",
+        (
+            b"fault 4 BadLine 3\n  3 | mani w\n"
+            b"  expected: 'one NAME', 'many NAME' or 'job NAME'\n  nearest word: many\n"
+        ),
+    ),
+    (
+        "a scope misspelt in a pattern",
+        b"pattern 1\njob app\nmany w\nput globl k v\n",
+        (
+            b"fault 4 BadLine 4\n  4 | put globl k v\n  expected: 'put SCOPE KEY VALUE', below a "
+            b"role; SCOPE is local, remote or global; KEY isn't '*', and only an index such as "
+            b"[self] has brackets; in a loop it has an index with each\n  nearest word: global\n"
+        ),
+    ),
+    (
+        "a group in place of a rank",
+        b"pattern 1\njob app\nmany w\nget w k\n",
+        (
+            b"fault 4 BadLine 4\n  4 | get w k\n  expected: 'get RANK KEY', below a role; RANK is "
+            b"a role of one rank, self or, in a loop, each; KEY as for 'put'; in a loop one of "
+            b"them names each\n"
+        ),
+    ),
+    (
+        "a role that isn't there",
+        b"pattern 1\njob app\nmany w\nget root k\n",
+        (
+            b"fault 5 UnknownName 4\n  4 | get root k\n"
+            b"  expected: a job or a role that the file declares\n"
+        ),
+    ),
+    (
+        "too many jobs",
+        b"pattern 1\n" + b"".join(b"job j%d\n" % it for it in range(17)),
+        (
+            b"fault 8 TooMany 18\n  18 | job j16\n  expected: no more jobs, roles, groups or turns "
+            b"of 'for some' than a pattern may have, and instances within the limits of plans\n"
+        ),
+    ),
+)
+
+
 ORDERED = (
     b"  expected: one rank of the plan and nothing else, such as app:0, and an order "
     b"within its size limit\n"
@@ -278,6 +373,7 @@ STOPPED = (
 def explanations(room: str) -> Runs:
     """The runs with `--explain`."""
     yield from explained_files(room)
+    yield from explained_patterns()
     yield from explained_orders(room)
     yield from explained_words(room)
     yield from explained_stops(room)
@@ -317,6 +413,39 @@ def explained_files(room: str) -> Runs:
             status=2,
             set_up=closed(2),
         )
+
+
+def explained_patterns() -> Runs:
+    """Patterns that are refused, and parts of `--ranks`."""
+    for name, pattern, said in REFUSED_PATTERNS:
+        first = b"wire_up: " + said.split(b"\n")[0] + b"\n"
+        for words in ["check", "--pattern"], ["check", "--pattern", "--json"], ["expand"]:
+            by = " ".join(words)
+            told = b"wire_up: " + said
+            yield Run(f"{name}, explained by {by}", [*words, "--explain"], pattern, 2, b"", told)
+            yield Run(f"{name}, by {by}", words, pattern, 2, b"", first)
+    group = b"pattern 1\njob app\nmany w\ncommit\n"
+    yield Run(
+        "a part of --ranks explained",
+        ["expand", "--explain", "--ranks", "w=1,v=2"],
+        group,
+        status=2,
+        said=(
+            b"wire_up: fault 13 BadOrder 2\n  part 2 | v=2\n  expected: NAME=N, each group of "
+            b"the pattern once, N its least number or more\n"
+        ),
+    )
+    yield Run(
+        "too many ranks of an instance explained",
+        ["expand", "--explain", "--ranks", "w=513"],
+        group,
+        status=2,
+        said=(
+            b"wire_up: fault 8 TooMany 3\n  3 | many w\n  expected: no more jobs, roles, groups or "
+            b"turns of 'for some' than a pattern may have, and instances within the limits of "
+            b"plans\n"
+        ),
+    )
 
 
 def explained_orders(room: str) -> Runs:

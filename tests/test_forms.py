@@ -339,10 +339,10 @@ def placings_that_fail(room: str) -> Runs:
 def misused_patterns(file: str) -> Runs:
     """What doesn't go with `--pattern`."""
     usage = b"wire_up: usage --pattern\n"
-    for option in ("--anywhere", "--same", "--lines", "--large", "--explain"):
+    for option in ("--anywhere", "--same", "--lines", "--large"):
         words = ["check", option, "--pattern", file]
         yield Run(f"check with --pattern and {option}", words, status=5, said=usage)
-        words = ["check", "--pattern", "--answers", "--json", option, file]
+        words = ["check", "--pattern", "--answers", "--json", "--explain", option, file]
         yield Run(f"check with --answers and {option}", words, status=5, said=usage)
     for option in ("--answers", "--complete"):
         words = ["check", option, "--anywhere", file]
@@ -389,7 +389,7 @@ def misused_spreads(file: str) -> Runs:
     for name, options in wrong.items():
         words = ["expand", "--ranks", "workers=2", *options.split(), file]
         yield Run(f"expand with {name}", words, status=5, said=usage)
-    for option in ("--json", "--lines", "--explain"):
+    for option in ("--json", "--lines"):
         yield Run(
             f"expand with {option}",
             ["expand", option, file],

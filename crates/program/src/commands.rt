@@ -15,6 +15,7 @@ use wire_commands::{
     Ended, Manner, Mode, PairAsked, Replaying, answer_question, check_placements, check_plan,
     check_replies, follow_plan, migrate_plan, place_plan, replay_plan, witness_pair, witness_races,
 };
+use wire_explain::Language;
 use wire_pattern_commands::{Expansion, Spread, Told, check_pattern, expand_pattern};
 use wire_sched::OpenGate;
 use wire_script::Size;
@@ -85,6 +86,22 @@ pub fn ranks_of<'a>(command: Command<'a>) -> Option<&'a str> {
     match command {
         Command::Place(ranks) => Some(ranks),
         _ => None,
+    }
+}
+
+/// The word that lists groups with their numbers.
+pub fn groups_of<'a>(command: Command<'a>) -> Option<&'a str> {
+    match command {
+        Command::Expand(options) => options.ranks,
+        _ => None,
+    }
+}
+
+/// In which language the file of a command is written.
+pub fn language_of(command: Command<'_>) -> Language {
+    match command {
+        Command::Check(Judged::Pattern(_)) | Command::Expand(_) => Language::Pattern,
+        _ => Language::Plan,
     }
 }
 

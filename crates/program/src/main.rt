@@ -10,7 +10,10 @@ ghost use Rattle.std.specs.Thread.{IsSync};
 
 use clap::Error;
 use clap::error::ErrorKind;
-use commands::{DONE, OrderWatch, calls_of, length_of, name_of, ranks_of, run_command, work_of};
+use commands::{
+    DONE, OrderWatch, calls_of, groups_of, language_of, length_of, name_of, ranks_of, run_command,
+    work_of,
+};
 use kept::{Kept, KeptReader};
 use std::alloc::{AllocError, Global};
 use std::fs::File;
@@ -23,7 +26,9 @@ use std::time::Clock;
 use std::{env, io, thread};
 use terminal_line::{NotedReader, NotedWriter, Progress, Streams, start_line};
 use wire_command_line::{CallPair, Command, Refusal, Request, read_request};
-use wire_explain::{explain_order, explain_plan, explain_rank, explain_stop, explain_word};
+use wire_explain::{
+    explain_file, explain_order, explain_part, explain_rank, explain_stop, explain_word,
+};
 use wire_types::{Fault, FromRead, ToWrite, write_out};
 
 /// The exit status of a command line that can't be read.
@@ -132,12 +137,45 @@ fn word_at<'a>(calls: CallPair<'a>, place: u64) -> Option<&'a str> {
     }
 }
 
-/// The rank at a place, from 1, of a word that lists ranks.
-fn rank_at(ranks: &str, place: u64) -> Option<&str> {
-    ranks.split(',').nth(place.saturating_sub(1) as usize)
+/// The part at a place, from 1, of a word that lists ranks or groups.
+fn part_at(list: &str, place: u64) -> Option<&str> {
+    list.split(',').nth(place.saturating_sub(1) as usize)
 }
 
-/// What explains a fault of an order, of the words of a question, or of the ranks of a list.
+/// What explains the fault of a line of an order, where a copy of that was kept.
+fn explain_line(
+    alloc: Global,
+    line: u64,
+    watch: &Watch<'_, '_>,
+) -> Result<Option<Vec<u8>>, AllocError> {
+    match &watch.order.bytes {
+        Some(bytes) => Ok(Some(explain_order(alloc, bytes.as_slice(), line)?)),
+        None => Ok(None),
+    }
+}
+
+/// What explains a fault of a list of ranks or groups, where a command has one.
+fn explain_list(
+    alloc: Global,
+    place: u64,
+    command: Command<'_>,
+) -> Result<Option<Vec<u8>>, AllocError> {
+    if let Some(ranks) = ranks_of(command) {
+        return match part_at(ranks, place) {
+            Some(rank) => Ok(Some(explain_rank(alloc, place, rank)?)),
+            None => Ok(None),
+        };
+    }
+    let Some(groups) = groups_of(command) else {
+        return Ok(None);
+    };
+    match part_at(groups, place) {
+        Some(part) => Ok(Some(explain_part(alloc, place, part)?)),
+        None => Ok(None),
+    }
+}
+
+/// What explains a fault of an order, of the words of a question, or of a list.
 fn explain_place(
     alloc: Global,
     place: u64,
@@ -149,15 +187,9 @@ fn explain_place(
             None => Ok(None),
         };
     }
-    if let Some(ranks) = ranks_of(watch.request.command) {
-        return match rank_at(ranks, place) {
-            Some(rank) => Ok(Some(explain_rank(alloc, place, rank)?)),
-            None => Ok(None),
-        };
-    }
-    match &watch.order.bytes {
-        Some(bytes) => Ok(Some(explain_order(alloc, bytes.as_slice(), place)?)),
-        None => Ok(None),
+    match watch.request.command {
+        Command::Follow(_) => explain_line(alloc, place, watch),
+        command => explain_list(alloc, place, command),
     }
 }
 
@@ -175,14 +207,17 @@ fn explain_step(alloc: Global, watch: &Watch<'_, '_>) -> Option<Vec<u8>> {
     }
 }
 
-/// What explains the fault of a file, where a copy of the plan was kept.
-fn explain_file(
+/// What explains the fault of a plan or a pattern, where a copy of it was kept.
+fn explain_kept(
     alloc: Global,
     fault: Fault,
     watch: &Watch<'_, '_>,
 ) -> Result<Option<Vec<u8>>, AllocError> {
     match &watch.plan.bytes {
-        Some(bytes) => Ok(Some(explain_plan(alloc, bytes.as_slice(), fault)?)),
+        Some(bytes) => {
+            let language = language_of(watch.request.command);
+            Ok(Some(explain_file(alloc, language, bytes.as_slice(), fault)?))
+        }
         None => Ok(None),
     }
 }
@@ -196,7 +231,7 @@ fn explain_read(alloc: Global, watch: &Watch<'_, '_>) -> Result<Option<Vec<u8>>,
     if let Some(error) = &watch.order.error {
         push_reason(alloc, &mut text, order_of(watch.request.command), error)?;
     }
-    if let Some(expected) = explain_file(alloc, Fault::Read, watch)? {
+    if let Some(expected) = explain_kept(alloc, Fault::Read, watch)? {
         text.extend_from_slice(expected.as_slice())?;
     }
     Ok(Some(text))
@@ -240,7 +275,7 @@ fn explain(
         Fault::BadOrder(place) => explain_place(alloc, place, watch),
         Fault::NotReady(_) => Ok(explain_step(alloc, watch)),
         Fault::Read => explain_read(alloc, watch),
-        _ => explain_file(alloc, fault, watch),
+        _ => explain_kept(alloc, fault, watch),
     }
 }
 

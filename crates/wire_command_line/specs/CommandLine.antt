@@ -80,12 +80,12 @@ witness_line =
     (flag (codes "first"))) (flag (codes "second"))) (option_with_word (codes "most"))))
     (optional_word (codes "P"))) (optional_word (codes "N"))) (optional_word (codes "Q"))) (optional_word (codes "M")))
 
--- it reads a pattern, whose faults aren't explained
+-- it reads a pattern
 abbrev pub expand_line : App
 expand_line =
-    with_rule (with_rule (with_rule (with_rule (with_rule (with_rule (new_app (codes "expand"))
+    with_large (with_rule (with_rule (with_rule (with_rule (new_app (codes "expand"))
     (option_with_word (codes "ranks"))) (option_with_word (codes "per-node"))) (option_with_word (codes "by")))
-    (option_with_word (codes "nodes"))) (flag (codes "large"))) (optional_word (codes "FILE"))
+    (option_with_word (codes "nodes")))
 
 -- the program: it needs one of the eight, and has a version
 abbrev pub program_alone : App

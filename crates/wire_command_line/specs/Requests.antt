@@ -61,9 +61,7 @@ has_form rows = is_set (codes "lines") rows || is_set (codes "json") rows
 
 -- whether a flag is given that doesn't go with `--pattern`
 abbrev pub has_other : List Row → Bool
-has_other rows =
-    is_set (codes "anywhere") rows || is_set (codes "same") rows || is_set (codes "lines") rows || is_set (codes "large") rows
-    || is_set (codes "explain") rows
+has_other rows = is_set (codes "anywhere") rows || is_set (codes "same") rows || is_set (codes "lines") rows || is_set (codes "large") rows
 
 -- whether a flag is given that needs `--pattern`
 abbrev pub needs_pattern : List Row → Bool

@@ -316,6 +316,7 @@ fn expand_command<'a>() -> Subcommand<'a>
                 help: "With --by node: how many nodes there are",
             },
             LARGE,
+            EXPLAIN,
             PATTERN,
         ],
     }

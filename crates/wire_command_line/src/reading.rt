@@ -112,7 +112,6 @@ fn has_other(found: &ArgMatches<'_>) -> bool
         || is_set(found, "same")
         || is_set(found, "lines")
         || is_set(found, "large")
-        || is_set(found, "explain")
 }
 
 /// Whether an option is given that needs `--pattern`.

@@ -8,6 +8,7 @@ use Rattle.wire_types.specs.declared.Scope.TheVariants.{Local, Remote, Global}
 use Rattle.wire_types.specs.declared.Version.TheVariants.{One}
 use Rattle.wire_lines.specs.Said.{Said, IsLawful, first_word, Own, Header, Keep, Node, Job, Rank, Calls, Put, Commit, Fence, Get, GetNow, Publish, Lookup, LookupWait, UnpublishAll}
 use Rattle.wire_lines.specs.Said.{collect_words}
+use Rattle.wire_explain.specs.declared.language.Language.TheVariants.{Plan}
 use Rattle.wire_explain.specs.Format.{IsOfFormat, UsagesAreLines, ChoicesAreWords, format_words, scopes}
 
 -- a name, a key and a value
@@ -17,7 +18,7 @@ x = codes "x"
 is_first : (said : Said) → IsLawful said → (first : List ℕ) → IsOfFormat 0 first (first_word said)
 is_first said lawful first = record { said = said; lawful = lawful; begins = inl refl; there = refl }
 
-first_words : (first : List ℕ → List ℕ) → AllByRecursion (λ word. IsOfFormat 0 (first word) word) format_words
+first_words : (first : List ℕ → List ℕ) → AllByRecursion (λ word. IsOfFormat 0 (first word) word) (format_words Plan)
 first_words first = (
   is_first (Header One) tt (first (codes "rehearsal")),
   (
@@ -63,7 +64,7 @@ first_words first = (
 )
 
 pub usages_are_lines : UsagesAreLines
-usages_are_lines = All-from_recursion (λ word. IsOfFormat 0 word word) format_words (first_words (λ w. w))
+usages_are_lines = All-from_recursion (λ word. IsOfFormat 0 word word) (format_words Plan) (first_words (λ w. w))
 
 of_put : (first : List ℕ) → first ≡ codes "put" → AllByRecursion (IsOfFormat 1 first) scopes
 of_put first is = (
@@ -78,10 +79,10 @@ of_fence : (first : List ℕ) → first ≡ codes "fence" → AllByRecursion (Is
 of_fence first is = (record { said = Calls (Fence Own true); lawful = tt; begins = inr (sym is); there = refl }, tt)
 
 by_first : (first : List ℕ) (put fence : Bool) → (put ≡ true → first ≡ codes "put") → (fence ≡ true → first ≡ codes "fence") →
-    All (IsOfFormat (cond put 1 (cond fence 2 0)) first) (cond put scopes (cond fence (collect_words true) format_words))
+    All (IsOfFormat (cond put 1 (cond fence 2 0)) first) (cond put scopes (cond fence (collect_words true) (format_words Plan)))
 by_first first true fence is_put is_fence = All-from_recursion (IsOfFormat 1 first) scopes (of_put first (is_put refl))
 by_first first false true is_put is_fence = All-from_recursion (IsOfFormat 2 first) (collect_words true) (of_fence first (is_fence refl))
-by_first first false false is_put is_fence = All-from_recursion (IsOfFormat 0 first) format_words (first_words (λ w. first))
+by_first first false false is_put is_fence = All-from_recursion (IsOfFormat 0 first) (format_words Plan) (first_words (λ w. first))
 
 pub choices_are_words : ChoicesAreWords
 choices_are_words first = by_first first (bytes_eq first (codes "put")) (bytes_eq first (codes "fence"))

@@ -1,4 +1,4 @@
--- What is told of the fault of a plan.
+-- What is told of the fault of a plan or a pattern.
 use Rattle.std.specs.Prelude.{◌≡◌, ℕ, Bool, List, [], ◌++◌, map, unwrap_or, Option, Some, None, codes, if◌then◌else◌}
 use Rattle.std.specs.List.{list_all}
 use Rattle.wire_types.specs.declared.Fault.{Fault}
@@ -11,9 +11,11 @@ use Rattle.wire_explain.specs.Format.{usage_of}
 use Rattle.wire_explain.specs.Quote.{shown_byte, quoted, labelled}
 use Rattle.wire_explain.specs.Place.{first_in, words_at, place_of}
 use Rattle.wire_explain.specs.declared.line_places.Place.{Place}
-use Rattle.wire_explain.specs.declared.line_places.Place.TheVariants.{Opening, InJob, InRank}
+use Rattle.wire_explain.specs.declared.line_places.Place.TheVariants.{Opening, InJob, InRank, InLoop}
+use Rattle.wire_explain.specs.declared.language.Language.{Language}
+use Rattle.wire_explain.specs.declared.language.Language.TheVariants.{Plan, Pattern}
 
--- the line of a plan that a fault names
+-- the line of a file that a fault names
 abbrev pub plan_line : Fault → Option ℕ
 plan_line (TooLong line) = Some line
 plan_line (BadHeader line) = Some line
@@ -24,11 +26,28 @@ plan_line (NotMember line) = Some line
 plan_line (TooMany line) = Some line
 plan_line _ = None
 
--- what may stand at a place
-abbrev pub expected_at : Place → List ℕ
-expected_at Opening = codes "'node NAME' or 'job NAME', or 'keep' right below 'rehearsal 2'"
-expected_at InJob = codes "'rank NODE' or 'job NAME'"
-expected_at InRank = codes "a call of this rank, 'rank NODE' or 'job NAME'"
+-- what may stand at a place of a plan
+abbrev pub expected_in_plan : Place → List ℕ
+expected_in_plan Opening = codes "'node NAME' or 'job NAME', or 'keep' right below 'rehearsal 2'"
+expected_in_plan InJob = codes "'rank NODE' or 'job NAME'"
+expected_in_plan InRank = codes "a call of this rank, 'rank NODE' or 'job NAME'"
+expected_in_plan InLoop = codes "a call of this rank, 'rank NODE' or 'job NAME'"
+
+-- and of a pattern
+abbrev pub expected_in_pattern : Place → List ℕ
+expected_in_pattern Opening = codes "'job NAME', or 'keep' right below 'pattern 1'"
+expected_in_pattern InJob = codes "'one NAME', 'many NAME' or 'job NAME'"
+expected_in_pattern InRank = codes "a call, 'for GROUP', 'one NAME', 'many NAME' or 'job NAME'"
+expected_in_pattern InLoop = codes "a call that a loop may have, or 'end'"
+
+abbrev pub expected_at : Language → Place → List ℕ
+expected_at Plan place = expected_in_plan place
+expected_at Pattern place = expected_in_pattern place
+
+-- of two texts the one of a language
+abbrev pub by_language : Language → (plan pattern : List ℕ) → List ℕ
+by_language Plan plan pattern = plan
+by_language Pattern plan pattern = pattern
 
 -- whether each byte of these words may stand in a word
 abbrev pub are_ascii : List (List ℕ) → Bool
@@ -36,26 +55,50 @@ are_ascii words = list_all (λ word. list_all is_word_byte word) words
 
 -- what was expected of a line that isn't one of the format, or stands in the wrong place: other bytes, the line of its
 -- first word, or what may stand there
-abbrev pub expected_line : List ℕ → ℕ → List ℕ
-expected_line bytes line =
-    if are_ascii (words_at bytes line) then unwrap_or (usage_of (first_in (words_at bytes line))) (expected_at (place_of bytes line))
+abbrev pub expected_line : Language → List ℕ → ℕ → List ℕ
+expected_line language bytes line =
+    if are_ascii (words_at bytes line) then unwrap_or (usage_of language (first_in (words_at bytes line))) (expected_at language (place_of language bytes line))
     else codes "only printable ASCII in words"
 
--- what was expected, where a plan has this fault
-abbrev pub expected : List ℕ → Fault → List ℕ
-expected bytes Memory = codes "more memory"
-expected bytes (TooLong line) = codes "names and keys of at most 63 bytes, values of at most 255, and a file within its size limit"
-expected bytes (BadHeader line) = codes "'rehearsal 1' or 'rehearsal 2', before all other lines"
-expected bytes (BadLine line) = expected_line bytes line
-expected bytes (UnknownName line) = codes "a node, a job or a rank that the file declares"
-expected bytes (Twice line) = codes "a name that no earlier line of this kind has"
-expected bytes (NotMember line) = codes "a set with the rank that calls the fence"
-expected bytes (TooMany line) = codes "no more nodes, jobs, ranks or calls than the limits (with --large, which 'witness' doesn't take, they are larger)"
-expected bytes Workers = codes "1 to 64 workers"
-expected bytes Read = codes "a file that can be opened and read"
-expected bytes (Write count) = codes "an output that can be written"
-expected bytes (NotReady step) = codes "a rank that can take its next step"
-expected bytes (BadOrder place) = codes "a rank of the plan, such as app:0"
+-- how long words, values and files may be
+abbrev pub expected_lengths : Language → List ℕ
+expected_lengths language = by_language language
+    (codes "names and keys of at most 63 bytes, values of at most 255, and a file within its size limit")
+    (codes "names and keys (with their index) of at most 63 bytes, values of at most 255, and a file within its size limit")
+
+-- how much there may be
+abbrev pub expected_limits : Language → List ℕ
+expected_limits language = by_language language
+    (codes "no more nodes, jobs, ranks or calls than the limits (with --large, which 'witness' doesn't take, they are larger)")
+    (codes "no more jobs, roles, groups or turns of 'for some' than a pattern may have, and instances within the limits of plans")
+
+-- how the first line is written
+abbrev pub expected_header : Language → List ℕ
+expected_header language = by_language language
+    (codes "'rehearsal 1' or 'rehearsal 2', before all other lines")
+    (codes "'pattern 1', before all other lines")
+
+-- which names may be told of
+abbrev pub expected_names : Language → List ℕ
+expected_names language = by_language language
+    (codes "a node, a job or a rank that the file declares")
+    (codes "a job or a role that the file declares")
+
+-- what was expected, where a file has this fault
+abbrev pub expected : Language → List ℕ → Fault → List ℕ
+expected language bytes Memory = codes "more memory"
+expected language bytes (TooLong line) = expected_lengths language
+expected language bytes (BadHeader line) = expected_header language
+expected language bytes (BadLine line) = expected_line language bytes line
+expected language bytes (UnknownName line) = expected_names language
+expected language bytes (Twice line) = codes "a name that no earlier line of this kind has"
+expected language bytes (NotMember line) = codes "a set with the rank that calls the fence"
+expected language bytes (TooMany line) = expected_limits language
+expected language bytes Workers = codes "1 to 64 workers"
+expected language bytes Read = codes "a file that can be opened and read"
+expected language bytes (Write count) = codes "an output that can be written"
+expected language bytes (NotReady step) = codes "a rank that can take its next step"
+expected language bytes (BadOrder place) = codes "a rank of the plan, such as app:0"
 
 -- the lines: the line at fault, what was expected, and the nearest word
 abbrev pub line_part : List ℕ → Option ℕ → List ℕ
@@ -66,11 +109,12 @@ abbrev pub hint_part : Option (List ℕ) → List ℕ
 hint_part (Some word) = labelled (codes "  nearest word: ") word
 hint_part None = []
 
-abbrev pub explanation : List ℕ → Fault → Option (List ℕ) → List ℕ
-explanation bytes fault hint = line_part bytes (plan_line fault) ++ labelled (codes "  expected: ") (expected bytes fault) ++ hint_part hint
+abbrev pub explanation : Language → List ℕ → Fault → Option (List ℕ) → List ℕ
+explanation language bytes fault hint =
+    line_part bytes (plan_line fault) ++ labelled (codes "  expected: ") (expected language bytes fault) ++ hint_part hint
 
--- a text explains the fault of a plan, with the nearest of the words that may be meant; each byte is shown
-pub record Explains (bytes : List ℕ) (fault : Fault) (text : List ℕ) : Type 0 where
+-- a text explains the fault of a file, with the nearest of the words that may be meant; each byte is shown
+pub record Explains (language : Language) (bytes : List ℕ) (fault : Fault) (text : List ℕ) : Type 0 where
   pub hint : Option (List ℕ)
-  pub nearest : IsHintFor (known bytes fault) (doubtful bytes fault) hint
-  pub is : text ≡ map shown_byte (explanation bytes fault hint)
+  pub nearest : IsHintFor (known language bytes fault) (doubtful bytes fault) hint
+  pub is : text ≡ map shown_byte (explanation language bytes fault hint)

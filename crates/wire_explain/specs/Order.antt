@@ -1,4 +1,4 @@
--- What is told of the fault of an order, of the words of a question, and of the ranks of a list.
+-- What is told of the fault of an order, of the words of a question, and of the parts of a list.
 use Rattle.std.specs.Prelude.{ℕ, ◌==◌, ◌||◌, List, ◌++◌, codes, decimal, if◌then◌else◌}
 use Rattle.wire_explain.specs.Quote.{shown_bytes, front_of, quoted, labelled}
 
@@ -31,3 +31,8 @@ word_explanation number word = explained_word (codes "  word ") number word (exp
 -- a rank of a list
 abbrev pub rank_explanation : ℕ → List ℕ → List ℕ
 rank_explanation number word = explained_word (codes "  rank ") number word (codes "a rank of the plan, such as app:0")
+
+-- a part of a list that says how many ranks the groups of a pattern have
+abbrev pub part_explanation : ℕ → List ℕ → List ℕ
+part_explanation number word =
+    explained_word (codes "  part ") number word (codes "NAME=N, each group of the pattern once, N its least number or more")

@@ -1,13 +1,14 @@
-//! The lines of the format, by their first words.
+//! The lines of the formats, by their first words.
 
 ghost use Rattle.std.specs.Prelude.{◌≡◌, map, option_map, OnOk, IfOk};
 ghost use Rattle.wire_types.specs.Texts.{texts_of};
 ghost use Rattle.wire_explain.specs.Format as spec;
 
+use crate::language::Language;
 use std::alloc::{AllocError, Global};
 
-/// The first words, each with how its line is written and where it stands.
-static USAGES: [(&str, &str); 14] = [
+/// The first words of a plan, each with how its line is written and where it stands.
+static PLAN_USAGES: [(&str, &str); 14] = [
     (
         "rehearsal",
         "'rehearsal 1' or 'rehearsal 2', once, before all other lines",
@@ -57,11 +58,73 @@ static USAGES: [(&str, &str); 14] = [
     ),
 ];
 
-/// The table of the format.
-fn usages() -> &'static [(&'static str, &'static str)]
-    ensures { map (λ u. (u.0.now, u.1.now)) result.now ≡ spec.usages }
+/// Those of a pattern.
+static PATTERN_USAGES: [(&str, &str); 16] = [
+    ("pattern", "'pattern 1', once, before all other lines"),
+    ("keep", "'keep' alone, once, right after 'pattern 1'"),
+    (
+        "job",
+        "'job NAME', outside of loops; a name is without ':', ',', '#', '*', '[' and ']'",
+    ),
+    (
+        "one",
+        "'one NAME', below a 'job' line and outside of loops; NAME as for 'job', but not self, each, all, some or cyclic",
+    ),
+    (
+        "many",
+        "'many NAME' or 'many NAME min N', below a 'job' line and outside of loops; NAME as for 'one', N is 1 to 9",
+    ),
+    (
+        "put",
+        "'put SCOPE KEY VALUE', below a role; SCOPE is local, remote or global; KEY isn't '*', and only an index such as [self] has brackets; in a loop it has an index with each",
+    ),
+    (
+        "commit",
+        "'commit' alone, below a role; in a loop only where no put waits for a commit before the loop, nor at the end of a turn",
+    ),
+    (
+        "fence",
+        "'fence all' or 'fence ITEM,ITEM,..', then nothing or 'collect', below a role, not in 'for some'; ITEM is a role, JOB:*, self or each; in a loop one is each, and none has the whole group",
+    ),
+    (
+        "get",
+        "'get RANK KEY', below a role; RANK is a role of one rank, self or, in a loop, each; KEY as for 'put'; in a loop one of them names each",
+    ),
+    (
+        "get-now",
+        "'get-now RANK KEY', below a role; RANK is a role of one rank, self or, in a loop, each; KEY as for 'put'; in a loop one of them names each",
+    ),
+    (
+        "publish",
+        "'publish NAME VALUE', below a role, not in 'for some'; NAME as KEY of 'put'",
+    ),
+    (
+        "lookup",
+        "'lookup NAME', below a role; NAME as KEY of 'put'",
+    ),
+    (
+        "lookup-wait",
+        "'lookup-wait NAME', below a role; NAME as KEY of 'put'",
+    ),
+    (
+        "unpublish",
+        "'unpublish NAME', not in 'for some', or outside of loops 'unpublish *', below a role; NAME as KEY of 'put'",
+    ),
+    (
+        "for",
+        "'for GROUP', 'for GROUP cyclic' or 'for some GROUP', below a role and outside of loops; GROUP is a role of any number of ranks",
+    ),
+    ("end", "'end' alone, below the lines of a loop"),
+];
+
+/// The table of a language.
+fn usages(language: Language) -> &'static [(&'static str, &'static str)]
+    ensures { map (λ u. (u.0.now, u.1.now)) result.now ≡ spec.usages language }
 {
-    &USAGES
+    match language {
+        Language::Plan => &PLAN_USAGES,
+        Language::Pattern => &PATTERN_USAGES,
+    }
 }
 
 /// How the line of a first word is written, in a table.
@@ -77,10 +140,10 @@ fn find_usage(word: &[u8], table: &[(&'static str, &'static str)]) -> Option<&'s
 }
 
 /// How the line of a first word is written.
-pub(crate) fn usage_of(word: &[u8]) -> Option<&'static str>
-    ensures { option_map (λ u. u.now) result ≡ spec.usage_of word.now }
+pub(crate) fn usage_of(language: Language, word: &[u8]) -> Option<&'static str>
+    ensures { option_map (λ u. u.now) result ≡ spec.usage_of language word.now }
 {
-    find_usage(word, usages())
+    find_usage(word, usages(language))
 }
 
 /// The first words of a table.
@@ -97,9 +160,12 @@ fn first_words(
     Ok(words)
 }
 
-/// The first words of the format.
-pub(crate) fn format_words(alloc: Global) -> Result<Vec<&'static [u8]>, AllocError>
-    ensures { IfOk result (λ words. texts_of words.items ≡ spec.format_words) }
+/// The first words of a language.
+pub(crate) fn format_words(
+    alloc: Global,
+    language: Language,
+) -> Result<Vec<&'static [u8]>, AllocError>
+    ensures { IfOk result (λ words. texts_of words.items ≡ spec.format_words language) }
 {
-    first_words(alloc, usages())
+    first_words(alloc, usages(language))
 }

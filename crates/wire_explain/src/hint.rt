@@ -10,6 +10,7 @@ ghost use Rattle.wire_explain.specs.Hint as spec;
 ghost use Rattle.wire_explain.specs.Hint.{IsHintFor};
 
 use crate::format::format_words;
+use crate::language::Language;
 use crate::line_places::{first_in, words_at};
 use crate::near::find_nearest;
 use std::alloc::{AllocError, Global};
@@ -48,8 +49,12 @@ fn hint_for<'a>(known: &[&'a [u8]], word: Option<&[u8]>) -> Option<&'a [u8]>
 }
 
 /// The nearest of the words that may be meant in a line that isn't one of the format.
-fn hint_of_line(alloc: Global, words: &[&[u8]]) -> Result<Option<&'static [u8]>, AllocError>
-    ensures { IfOk result (λ hint. IsHintFor (format.choices (there.first_in (texts_of words.now)))
+fn hint_of_line(
+    alloc: Global,
+    language: Language,
+    words: &[&[u8]],
+) -> Result<Option<&'static [u8]>, AllocError>
+    ensures { IfOk result (λ hint. IsHintFor (format.choices language (there.first_in (texts_of words.now)))
         (slice_get (texts_of words.now) (format.choice_place (there.first_in (texts_of words.now)))) (option_map (λ w. w.now) hint)) }
 {
     let first = first_in(words);
@@ -64,26 +69,38 @@ fn hint_of_line(alloc: Global, words: &[&[u8]]) -> Result<Option<&'static [u8]>,
     if first == b"fence".as_slice() {
         return Ok(hint_for(&[b"collect".as_slice()], word_in(words, 2)));
     }
-    let known = format_words(alloc)?;
+    let known = format_words(alloc, language)?;
     Ok(hint_for(known.as_slice(), word_in(words, 0)))
 }
 
-/// The nearest of the words that may be meant, where a plan has this fault.
+/// The first word of a file.
+fn header_word(language: Language) -> &'static str
+    ensures { result.now ≡ spec.header_word language }
+{
+    match language {
+        Language::Plan => "rehearsal",
+        Language::Pattern => "pattern",
+    }
+}
+
+/// The nearest of the words that may be meant, where a file has this fault.
 pub(crate) fn hint_of(
     alloc: Global,
+    language: Language,
     bytes: &[u8],
     fault: Fault,
 ) -> Result<Option<&'static [u8]>, AllocError>
-    ensures { IfOk result (λ hint. IsHintFor (spec.known bytes.now fault) (spec.doubtful bytes.now fault) (option_map (λ w. w.now) hint)) }
+    ensures { IfOk result (λ hint. IsHintFor (spec.known language bytes.now fault) (spec.doubtful bytes.now fault) (option_map (λ w. w.now) hint)) }
 {
     match fault {
         Fault::BadHeader(line) => {
             let words = words_at(alloc, bytes, line)?;
-            Ok(hint_for(&[b"rehearsal".as_slice()], word_in(words.as_slice(), 0)))
+            let known = [header_word(language).as_bytes()];
+            Ok(hint_for(&known, word_in(words.as_slice(), 0)))
         }
         Fault::BadLine(line) => {
             let words = words_at(alloc, bytes, line)?;
-            hint_of_line(alloc, words.as_slice())
+            hint_of_line(alloc, language, words.as_slice())
         }
         _ => Ok(None),
     }

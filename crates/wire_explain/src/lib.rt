@@ -3,22 +3,27 @@
 #![tactic(auto)]
 
 mod explanation;
+mod file_faults;
 mod format;
 mod hint;
+pub mod language;
 mod law;
 pub mod line_places;
 mod near;
 mod not_arrived;
 mod order_faults;
-mod plan_faults;
 mod quote;
 mod stop;
 mod wait_words;
 
-pub use law::{choices_are_words, lines_have_usages, usages_are_lines, waits_are_reasons};
+pub use file_faults::explain_file;
+pub use language::Language;
+pub use law::{
+    choices_are_words, lines_have_usages, pattern_choices_are_words, pattern_lines_have_usages,
+    pattern_usages_are_lines, usages_are_lines, waits_are_reasons,
+};
 pub use line_places::Place;
 pub use near::{find_nearest, is_within};
-pub use order_faults::{explain_order, explain_rank, explain_word};
-pub use plan_faults::explain_plan;
+pub use order_faults::{explain_order, explain_part, explain_rank, explain_word};
 pub use quote::{push_quoted, shown_text};
 pub use stop::explain_stop;

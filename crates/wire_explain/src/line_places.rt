@@ -5,6 +5,7 @@ ghost use Rattle.wire_types.specs.Texts.{texts_of};
 ghost use Rattle.wire_lines.specs.Text.{words_of};
 ghost use Rattle.wire_explain.specs.Place as spec;
 
+use crate::language::Language;
 use crate::quote::find_line;
 use std::alloc::{AllocError, Global};
 use wire_lines::cut_words;
@@ -17,8 +18,10 @@ pub enum Place {
     Opening,
     /// A job, and no rank of it.
     InJob,
-    /// A rank.
+    /// A rank, or a role.
     InRank,
+    /// A loop that isn't ended.
+    InLoop,
 }
 
 /// The first of some words, empty where there is none.
@@ -54,9 +57,9 @@ pub(crate) fn words_at<'a>(
     }
 }
 
-/// What stands after a line that begins with this word.
-fn place_after(place: Place, word: &[u8]) -> Place
-    ensures { result ≡ spec.place_after place word.now }
+/// What stands after a line of a plan that begins with this word.
+fn place_in_plan(place: Place, word: &[u8]) -> Place
+    ensures { result ≡ spec.place_in_plan place word.now }
 {
     if word == b"job".as_slice() {
         Place::InJob
@@ -67,9 +70,46 @@ fn place_after(place: Place, word: &[u8]) -> Place
     }
 }
 
+/// Whether a line of a pattern that begins with this word begins a role, or ends a loop.
+fn leads_to_role(word: &[u8]) -> bool
+    ensures { result ≡ spec.leads_to_role word.now }
+{
+    word == b"one".as_slice() || word == b"many".as_slice() || word == b"end".as_slice()
+}
+
+/// What stands after a line of a pattern that begins with this word.
+fn place_in_pattern(place: Place, word: &[u8]) -> Place
+    ensures { result ≡ spec.place_in_pattern place word.now }
+{
+    if word == b"job".as_slice() {
+        Place::InJob
+    } else if leads_to_role(word) {
+        Place::InRank
+    } else if word == b"for".as_slice() {
+        Place::InLoop
+    } else {
+        place
+    }
+}
+
+/// What stands after a line that begins with this word.
+fn place_after(language: Language, place: Place, word: &[u8]) -> Place
+    ensures { result ≡ spec.place_after language place word.now }
+{
+    match language {
+        Language::Plan => place_in_plan(place, word),
+        Language::Pattern => place_in_pattern(place, word),
+    }
+}
+
 /// Where the line of this number stands.
-pub(crate) fn place_of(alloc: Global, bytes: &[u8], number: u64) -> Result<Place, AllocError>
-    ensures { IfOk result (λ place. place ≡ spec.place_of bytes.now number) }
+pub(crate) fn place_of(
+    alloc: Global,
+    language: Language,
+    bytes: &[u8],
+    number: u64,
+) -> Result<Place, AllocError>
+    ensures { IfOk result (λ place. place ≡ spec.place_of language bytes.now number) }
 {
     let mut place = Place::Opening;
     let mut cursor = Cursor::new(bytes);
@@ -78,7 +118,7 @@ pub(crate) fn place_of(alloc: Global, bytes: &[u8], number: u64) -> Result<Place
         if line >= number {
             break;
         }
-        place = place_after(place, first_in(words.as_slice()));
+        place = place_after(language, place, first_in(words.as_slice()));
     }
     Ok(place)
 }

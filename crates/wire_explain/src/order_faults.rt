@@ -1,4 +1,4 @@
-//! Explanations of the faults of an order, of the words of a question, and of the ranks of a list.
+//! Explanations of the faults of an order, of the words of a question, and of the parts of a list.
 
 ghost use Rattle.std.specs.Prelude.{◌≡◌, ◌++◌, true, map, IfOk, OnOk};
 ghost use Rattle.wire_explain.specs.Quote.{shown_byte, is_printable_text};
@@ -110,5 +110,18 @@ pub fn explain_rank(alloc: Global, number: u64, rank: &str) -> Result<Vec<u8>, A
     let flat = flat_word(alloc, rank.as_bytes())?;
     let wanted = "a rank of the plan, such as app:0";
     let explanation = explained_word(alloc, b"  rank ", number, flat.as_slice(), wanted)?;
+    shown_text(alloc, explanation.as_slice())
+}
+
+/// The explanation of a part of a list that says how many ranks the groups of a pattern have: the part, its number in
+/// the list, from 1, and what was expected there. Only printable ASCII and line feeds are in it, and a line feed of the
+/// part is shown as `?`.
+pub fn explain_part(alloc: Global, number: u64, part: &str) -> Result<Vec<u8>, AllocError>
+    ensures explains { IfOk result (λ text. text.items ≡ map shown_byte (spec.part_explanation number (map spec.in_line part.now))) }
+    ensures printable { IfOk result (λ text. is_printable_text text.items ≡ true) }
+{
+    let flat = flat_word(alloc, part.as_bytes())?;
+    let wanted = "NAME=N, each group of the pattern once, N its least number or more";
+    let explanation = explained_word(alloc, b"  part ", number, flat.as_slice(), wanted)?;
     shown_text(alloc, explanation.as_slice())
 }

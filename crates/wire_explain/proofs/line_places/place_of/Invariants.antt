@@ -5,7 +5,7 @@ use Rattle.wire_explain.proofs.line_places.place_of.Given as goal
 
 abbrev pub invariant-lines : goal.invariant-lines
 invariant-lines l = record {
-  left : place_from l.place l.number (statements_left l.cursor) ≡ place_of l.bytes l.number;
+  left : place_from l.language l.place l.number (statements_left l.cursor) ≡ place_of l.language l.bytes l.number;
   room : l.cursor.line + length l.cursor.rest.now < 2 ^ 64;
 }
 
