@@ -40,7 +40,7 @@ pub node_there : (plan : Plan) (nodes : ℕ → ℕ) (p : ℕ) → p < process_c
 unfolding node_of
 node_there plan nodes p lt = placed_node nodes plan.processes p lt
 
-no_node : (plan : Plan) (p : ℕ) → process_count plan ≤ p → node_of plan p ≡ 0
+pub no_node : (plan : Plan) (p : ℕ) → process_count plan ≤ p → node_of plan p ≡ 0
 unfolding node_of
 no_node plan p past = ap process_node (slice_get_past plan.processes p past)
 

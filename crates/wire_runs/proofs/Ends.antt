@@ -16,18 +16,18 @@ use Rattle.wire_runs.proofs.Basics.{update_same, update_other}
 use Rattle.wire_runs.proofs.Due.{done_same, done_other}
 
 -- how many replies an event gives
-abbrev gives : Option Kind → ℕ
+abbrev pub gives : Option Kind → ℕ
 gives None = 0
 gives (Some (Arrive members collect)) = 0
 gives (Some _) = 1
 
 -- how many the first n of these events give
-abbrev given_by : List Kind → ℕ → ℕ
+abbrev pub given_by : List Kind → ℕ → ℕ
 given_by [] n = 0
 given_by (k ∷ ks) zero = 0
 given_by (k ∷ ks) (suc n) = gives (Some k) + given_by ks n
 
-none_given : (ks : List Kind) → given_by ks zero ≡ 0
+pub none_given : (ks : List Kind) → given_by ks zero ≡ 0
 none_given [] = refl
 none_given (k ∷ ks) = refl
 
@@ -83,7 +83,7 @@ gives_so plan s x (Some UnpublishAll) = refl
 gives_so plan s x (Some (Fixed r)) = refl
 
 -- each process has as many replies as its done events give
-abbrev Counted : Plan → State → Type 0
+abbrev pub Counted : Plan → State → Type 0
 Counted plan s = (p : ℕ) → length (replies_of plan (s.replies p)) ≡ given_by (kinds plan p) (s.done p)
 
 one_reply : (plan : Plan) (answers : List Answer) (a : Answer) → length (replies_of plan (answers ++ a ∷ [])) ≡ length (replies_of plan answers) + length (given plan a)
@@ -114,9 +114,12 @@ counted_step plan s q counted p = elim (cases_eq p q) [
         let after = one_more (kinds plan q) (s.done q) in
         omega (arith, replies, more, gives_one, before, done, after)
 
-counted_run : (plan : Plan) (s : State) (w : List ℕ) → Counted plan s → Counted plan (run_from plan s w)
-counted_run plan s [] counted = counted
-counted_run plan s (p ∷ w) counted = counted_run plan (step plan s p) w (counted_step plan s p counted)
+counted_from : (plan : Plan) (s : State) (w : List ℕ) → Counted plan s → Counted plan (run_from plan s w)
+counted_from plan s [] counted = counted
+counted_from plan s (p ∷ w) counted = counted_from plan (step plan s p) w (counted_step plan s p counted)
+
+pub counted_run : (plan : Plan) (w : List ℕ) → Counted plan (run_from plan start w)
+counted_run plan w = counted_from plan start w (λ q. sym (none_given (kinds plan q)))
 
 as_many : (ready : Bool) (n : ℕ) → length (unanswered ready n) ≡ n
 as_many ready zero = refl
@@ -125,7 +128,7 @@ as_many ready (suc n) = let rest = length-replicate n Unreached in omega (arith,
 pub rows_are_whole : RowsAreWhole
 unfolding kinds
 rows_are_whole plan s p (w, legal, is) =
-    let counted : Counted plan s = subst (Counted plan) is (counted_run plan start w (λ q. sym (none_given (kinds plan q)))) in
+    let counted : Counted plan s = subst (Counted plan) is (counted_run plan w) in
     let few_replies = few_in (slice_get plan.processes p) (s.done p) in
     let here = counted p in
     let parts = length-append (map Replied (replies_of plan (s.replies p))) (unanswered (is_enabled plan s p) (length (calls_of plan p) - length (replies_of plan (s.replies p)))) in

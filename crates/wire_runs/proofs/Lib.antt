@@ -40,6 +40,7 @@ pub mod Families
 pub mod FindingsAnywhere
 pub mod LeastFar
 pub mod PlacingRuns
+pub mod PlacingEnds
 pub mod PlacingReplies
 pub mod PlacingCalls
 pub mod PlacedRows

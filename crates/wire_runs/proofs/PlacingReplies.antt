@@ -26,7 +26,7 @@ use Rattle.wire_runs.proofs.PlainRun.{plain_runs}
 use Rattle.wire_runs.proofs.PlacingKeeps.{turned, placing_keeps, kind_kept, stored_same, scope_same, counts, surely_kept}
 use Rattle.wire_runs.proofs.FenceChains.{reader_takes_no_part}
 use Rattle.wire_runs.proofs.Anywhere.{placing_is, pair_node, first_of_pair, second_of_pair, of_pair, to_node, to_process, settled_there}
-use Rattle.wire_runs.proofs.PlacingRuns.{run_alike}
+use Rattle.wire_runs.proofs.PlacingRuns.{run_alike, done_alike}
 
 -- the state in which a process has come to an event that is done later
 pub record CameTo (plan : Plan) (s : State) (x : Event) : Type 0 where
@@ -128,17 +128,14 @@ module _ (plan : Plan) (everywhere : IsSettledAnywhere plan) where
     there : IsSettled other
     there = settled_there plan other same everywhere
 
-    far_done : (p : ℕ) → (plain_end plan).done p ≡ (plain_end other).done p
-    far_done p = ((run_alike plan other same).runs (plain_run plan)).done p ∙ ap (λ w. (run other w).done p) (run_alike plan other same).plain
-
     -- what isn't done isn't replied to
     not_replied : (x : Event) → (plain_end plan).done x.proc ≤ x.at → plain_reply other x ≡ plain_reply plan x
     not_replied x late =
-        slice_get_past ((plain_end other).replies x.proc) x.at (let l = (end_known other there).lengths x.proc in let d = far_done x.proc in omega (arith, l, d, late))
+        slice_get_past ((plain_end other).replies x.proc) x.at (let l = (end_known other there).lengths x.proc in let d = done_alike plan other same x.proc in omega (arith, l, d, late))
         ∙ sym (slice_get_past ((plain_end plan).replies x.proc) x.at (let l = (end_known plan (settled_there plan plan (reflexive plan) everywhere)).lengths x.proc in omega (arith, l, late)))
 
     done_there : (x : Event) → IsDone (plain_end plan) x → IsDone (plain_end other) x
-    done_there x d = let e = far_done x.proc in omega (arith, d, e)
+    done_there x d = let e = done_alike plan other same x.proc in omega (arith, d, e)
 
     put_there : (p key put : ℕ) → stored plan p key (event_count plan p) ≡ Some put → stored other p key (event_count other p) ≡ Some put
     put_there p key put e = sym (ap (stored plan p key) (counts plan other same p) ∙ stored_same plan other same p key (event_count other p)) ∙ e

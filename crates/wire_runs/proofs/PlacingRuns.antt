@@ -13,8 +13,9 @@ use Rattle.wire_runs.specs.Fences.{arrivals, is_complete}
 use Rattle.wire_runs.specs.State.{Answer, Duplicate, Success, NotFound, State, start, next_event, next_kind}
 use Rattle.wire_runs.specs.Sight.{Sight, Shown, Outside, held, served, get_sees}
 use Rattle.wire_runs.specs.Step.{is_seen, may_do, is_enabled, sight_reply, lookup_reply, is_publisher, reply, name_after, step, IsInterleaving, run_from, run}
-use Rattle.wire_runs.specs.PlainRun.{or_else, lowest, go_on, plain_from}
+use Rattle.wire_runs.specs.PlainRun.{or_else, lowest, go_on, plain_from, plain_run}
 use Rattle.wire_runs.specs.Placings.{without_reply, IsPlacing}
+use Rattle.wire_runs.specs.Laws.{plain_end}
 use Rattle.wire_runs.specs.PlacingLaws.{tells_places, PlacingsRunAlike}
 use Rattle.wire_runs.proofs.Basics.{update_same, update_other}
 use Rattle.wire_runs.proofs.Known.{replies_same, replies_other}
@@ -219,3 +220,7 @@ run_alike plan other same = record {
       };
   plain = ap (λ fuel. plain_from plan fuel start) (totals plan other same) ∙ plain_same plan other same (event_total other) start start (start_same plan other same);
 }
+
+-- as much is done at the end on all nodes
+pub done_alike : (plan other : Plan) → IsPlacing plan other → (p : ℕ) → (plain_end plan).done p ≡ (plain_end other).done p
+done_alike plan other same p = ((run_alike plan other same).runs (plain_run plan)).done p ∙ ap (λ w. (run other w).done p) (run_alike plan other same).plain

@@ -1,6 +1,6 @@
 -- The laws of placings, for every plan. Each is the contract of a function of src/laws.rt.
 use Rattle.std.specs.Prelude.{◌↔◌, Option, Some, ◌≡◌, ◌≢◌, ℕ, suc, ◌<◌, List, [], Bool, true, false, not, ◌⊎◌, ◌==◌}
-use Rattle.std.specs.Prelude.{is_some, slice_get}
+use Rattle.std.specs.Prelude.{is_some, slice_get, map}
 use Rattle.wire_runs.specs.Plan.{Plan, Event, Kind, Leave, Get, GetNow, Fixed, kind, event_count, node_of}
 use Rattle.wire_runs.specs.Plan.{same_node, process_count}
 use Rattle.wire_runs.specs.Puts.{stored, scope_of}
@@ -8,7 +8,12 @@ use Rattle.wire_runs.specs.Fences.{arrivals, is_member, is_full, is_collecting}
 use Rattle.wire_runs.specs.Order.{Stores, IsArrival, Edge, Live, Before}
 use Rattle.wire_runs.specs.Races.{Delivery, IsOf, IsRewrite, IsNearRace, IsNodeRace, IsDeliveryRace, IsNameRace}
 use Rattle.wire_runs.specs.Races.{IsSettled}
+use Rattle.wire_types.specs.Replies.{bare}
+use Rattle.wire_types.specs.declared.CallEnd.{CallEnd}
+use Rattle.wire_types.specs.declared.CallEnd.TheVariants.{Replied}
 use Rattle.wire_types.specs.declared.Scope.TheVariants.{Global}
+use Rattle.wire_types.specs.declared.Status.TheVariants as status
+use Rattle.wire_runs.specs.Ends.{row}
 use Rattle.wire_runs.specs.State.{Answer, start}
 use Rattle.wire_runs.specs.Step.{is_enabled, IsInterleaving, run}
 use Rattle.wire_runs.specs.PlainRun.{plain_run}
@@ -249,6 +254,17 @@ pub record RunAlike (plan other : Plan) : Type 0 where
 
 abbrev pub PlacingsRunAlike : Type 0
 PlacingsRunAlike = (plan other : Plan) → IsPlacing plan other → RunAlike plan other
+
+-- how far a call has come, its reply forgotten
+abbrev pub how_far : CallEnd → CallEnd
+how_far (Replied reply) = Replied (bare status.Success)
+how_far end = end
+
+-- where the plain run can't go on each call has come as far on every placing: the same have a reply, and the same wait
+abbrev pub PlacingsEndAlike : Type 0
+PlacingsEndAlike =
+    (plan other : Plan) → IsPlacing plan other → (p : ℕ)
+    → map how_far (row plan (plain_end plan) p) ≡ map how_far (row other (plain_end other) p)
 
 -- what the event replies in the plain run, if it comes there
 abbrev pub plain_reply : Plan → Event → Option Answer

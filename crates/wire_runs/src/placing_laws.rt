@@ -5,7 +5,7 @@ ghost use Rattle.wire_runs.specs.PlacingLaws.{PlacingsAre, PlacingKeeps, OneArri
 ghost use Rattle.wire_runs.specs.PlacingLaws.{OneMemberTells, ReaderTakesNoPart, OneANodeHasNone};
 ghost use Rattle.wire_runs.specs.PlacingLaws.{NearAnywhere, FarAnywhere, SettledAnywhere, PlacingTells};
 ghost use Rattle.wire_runs.specs.PlacingLaws.{FamilyTells, PlacedIsFound, FindingsAnywhere, OnePair};
-ghost use Rattle.wire_runs.specs.PlacingLaws.{OneListAnywhere, HaveLeast, PlacingsRunAlike, RepliesAnywhere};
+ghost use Rattle.wire_runs.specs.PlacingLaws.{OneListAnywhere, HaveLeast, PlacingsRunAlike, PlacingsEndAlike, RepliesAnywhere};
 
 /// A plan can be placed on any nodes, and being a placing of it goes both ways and on.
 pub fn placings_are()
@@ -106,6 +106,11 @@ pub fn have_least()
 /// name, and each reply is the same that can't tell where processes are.
 pub fn placings_run_alike()
     ensures { PlacingsRunAlike }
+{}
+
+/// Where the plain run can't go on each call has come as far on every placing: the same have a reply, and the same wait.
+pub fn placings_end_alike()
+    ensures { PlacingsEndAlike }
 {}
 
 /// Of a plan that is settled anywhere, which calls reply the same on every placing.
