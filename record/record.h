@@ -51,9 +51,11 @@ EXPORTED unsigned long wire_up_number(void);
 enum owner { OF_PROGRAM, OF_BINDINGS, OF_TOOL, OF_MPI, OF_PMIX, OF_SYSTEM, OF_RECORDER };
 
 /* A place in code: a return address, and the object that it is in; or a line of Python, and its
- * function. Its number is written once with what it stands for. */
+ * function. `outer` is the place that called this function, where that is known. The number of a
+ * place is written once with what it stands for. */
 struct place {
     const void *address;
+    struct place *outer;
     unsigned number;
     enum owner owner;
     bool is_noted, is_mpi4py, is_past;

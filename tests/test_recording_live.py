@@ -220,16 +220,20 @@ class CasesTest(LiveTest):
         return "PMIX_QUERY_PARTIAL_SUCCESS" in read_file(self.answers)
 
     def test_where(self) -> None:
-        """The calls of a race lead to their lines."""
+        """The calls of a race lead to their lines, and to those that called a helper."""
         if not shutil.which("addr2line"):
             self.skipTest("there is no addr2line")
         self.hold("wild1", CASES["wild1"])
         source = read_file(os.path.join(PROGRAMS, "cases.c")).splitlines()
         number = read_scripts(read_file(self.plan))[0].index("lookup first") + 1
         found = run_recorder("--where", "app:0", str(number), self.plan).stdout
-        read = re.fullmatch(r"look_up \(cases\.c:(\d+)\)\n", found)
+        form = r"main \({0}\) -> wild \({0}\) -> look_up \({0}\)\n".format(r"cases\.c:(\d+)")
+        read = re.fullmatch(form, found)
         assert read, found
-        self.assertIn("MPI_Lookup_name", source[int(read[1]) - 1])
+        main, wild, look_up = (source[int(it) - 1] for it in read.groups())
+        self.assertIn("wild(", main)
+        self.assertIn('look_up("first")', wild)
+        self.assertIn("MPI_Lookup_name", look_up)
 
     def test_strict(self) -> None:
         self.record("--strict", *mpirun(2, self.compile("cases"), "poll"))

@@ -8,6 +8,7 @@ from wire_up_tools.report.findings import read_line
 from wire_up_tools.report.messages import explain_late, find_late
 from wire_up_tools.report.orders import find_order
 from wire_up_tools.report.readers import list_told
+from wire_up_tools.words import WITHOUT_MPI
 
 assert support.TOP, "it says where the package is"
 
@@ -40,9 +41,9 @@ class FixesTest(unittest.TestCase):
         self.assertEqual(
             said,
             "Wait for the name with PMIX_WAIT: it is published once and never taken away; or put "
-            "a barrier of all ranks of the communicator, or a PMIx_Fence of a set that has both "
-            "ranks, between the two calls: a:0 calls it after serve (s.c:3), a:1 before m.c:8, "
-            "so that the PMIx_Publish comes first.",
+            "an MPI_Barrier of MPI_COMM_WORLD between the two calls: a:0 calls it after the "
+            "PMIx_Publish of serve (s.c:3), a:1 before the PMIx_Lookup of m.c:8. So the "
+            "PMIx_Publish comes first.",
         )
 
     def test_a_lookup_comes_before_an_unpublish(self) -> None:
@@ -50,8 +51,11 @@ class FixesTest(unittest.TestCase):
         receive, send = RECEIVE.replace("mpi.0.1.1", "mpi.2.0.1"), SEND.replace("0.1.1", "2.0.1")
         unpublish = f"{receive}# at main (m.c:4)\nunpublish port\n"
         said = fix(read(unpublish, LOOKUP, send), "race a:0 2 a:1 1 name port")
-        turns = "a:1 calls it after m.c:8, a:0 before m.c:4, a:2 after m.c:5, "
-        self.assertIn(f"{turns}so that the PMIx_Lookup comes first.", said)
+        turns = (
+            "a:1 calls it after the PMIx_Lookup of m.c:8, a:0 before the PMIx_Unpublish of m.c:4, "
+            "a:2 after the MPI_Send of m.c:5"
+        )
+        self.assertIn(f"{turns}. So the PMIx_Lookup comes first.", said)
         self.assertNotIn("PMIX_WAIT", said)
 
     def test_a_commit_comes_first(self) -> None:
@@ -59,14 +63,72 @@ class FixesTest(unittest.TestCase):
         self.assertEqual(
             fix(plan, "race a:0 2 a:1 1 key a:0 k"),
             "Use get in place of get-now; or put a fence of a set that has both ranks between the "
-            "two calls: a:0 calls it after its call 2, a:1 before its call 1, so that the commit "
-            "comes first.",
+            "two calls: a:0 calls it after the commit (call 2 of a:0), a:1 before the get-now "
+            "(call 1 of a:1). So the commit comes first.",
         )
 
     def test_neither_publish_is_the_better_first(self) -> None:
         plan = read("publish port v\n", "publish port v\n", is_recorded=False)
         said = fix(plan, "race a:0 1 a:1 1 name port")
-        self.assertTrue(said.endswith("so that the same one always comes first."), said)
+        self.assertTrue(said.endswith("So the publish of a:0 comes first."), said)
+
+
+class BarriersTest(unittest.TestCase):
+    """The fix by a barrier: where every rank calls it, or which call moves past one there is."""
+
+    def test_every_rank_calls_it(self) -> None:
+        # Rank 2 sends what rank 0 receives first. Ranks 3 to 5 have only begun.
+        begin = "# at main (m.c:1)\nfence all\n"
+        receive, send = RECEIVE.replace("mpi.0.1.1", "mpi.2.0.1"), SEND.replace("0.1.1", "2.0.1")
+        plan = read(begin + receive + PUBLISH, begin + LOOKUP, begin + send, *[begin] * 3)
+        said = fix(plan, "race a:0 3 a:1 2 name port")
+        turns = (
+            "a:0 calls it after the PMIx_Publish of serve (s.c:3), a:1 before the PMIx_Lookup of "
+            "m.c:8, a:2 after the MPI_Send of m.c:5, a:3, a:4, a:5 after m.c:1"
+        )
+        self.assertIn(f"an MPI_Barrier of MPI_COMM_WORLD between the two calls: {turns}. So", said)
+
+    def test_ranks_without_calls(self) -> None:
+        said = fix(read(PUBLISH, LOOKUP, "", SEND), "race a:0 1 a:1 1 name port")
+        self.assertIn("of m.c:8, a:2 anywhere, a:3 before the MPI_Send of m.c:5. So", said)
+
+    def test_a_collective_stays_whole(self) -> None:
+        # Ranks 1 and 2 call the barrier after a broadcast, since rank 0 does.
+        cast = "# at main (m.c:2)\n# MPI: bcast\n"
+        root, leaf = f"{cast}publish mpi.0.all.1 sent\n", f"{cast}lookup-wait mpi.0.all.1\n"
+        said = fix(read(root + PUBLISH, leaf + LOOKUP, leaf), "race a:0 2 a:1 2 name port")
+        self.assertIn("of m.c:8, a:2 after the MPI_Bcast of m.c:2. So", said)
+        said = fix(read(root + PUBLISH, LOOKUP + leaf), "race a:0 2 a:1 1 name port")
+        moved = "a:1 after the MPI_Bcast of m.c:2 and moves the PMIx_Lookup of m.c:8 behind it"
+        self.assertIn(moved, said)
+
+    def test_without_mpi_two_ranks_meet(self) -> None:
+        ranks = f"rank n\n{PUBLISH}rank n\n{LOOKUP}rank n\n"
+        plan = read_plan(f"{RECORDED}# {WITHOUT_MPI}: more\n{HEAD}{ranks}".encode())
+        said = fix(plan, "race a:0 1 a:1 1 name port")
+        self.assertIn("put a PMIx_Fence of a set that has both ranks between", said)
+        self.assertNotIn("a:2", said)
+
+    def test_a_call_moves_past_a_barrier(self) -> None:
+        later = BARRIER.replace("6", "60")
+        plan = read(PUBLISH + BARRIER + later, LOOKUP + BARRIER + later, BARRIER + later)
+        said = fix(plan, "race a:0 1 a:1 1 name port")
+        self.assertTrue(
+            said.endswith("or move the PMIx_Lookup of m.c:8 after the MPI_Barrier of m.c:6."), said
+        )
+        plan = read(BARRIER + PUBLISH, BARRIER + LOOKUP)
+        said = fix(plan, "race a:0 2 a:1 2 name port")
+        moved = "move the PMIx_Publish of serve (s.c:3) before the MPI_Barrier of m.c:6"
+        self.assertIn(moved, said)
+
+    def test_no_call_moves_into_another_race(self) -> None:
+        """Behind the barrier the name is taken away; or what is published is received before."""
+        gone = "# at main (m.c:7)\nunpublish port\n"
+        said = fix(read(PUBLISH + BARRIER + gone, LOOKUP + BARRIER), "race a:0 1 a:1 1 name port")
+        self.assertIn("Put an MPI_Barrier of MPI_COMM_WORLD", said)
+        got = f"{BARRIER}{RECEIVE}{PUBLISH}"
+        said = fix(read(got, BARRIER + LOOKUP), "race a:0 3 a:1 2 name port")
+        self.assertIn("put an MPI_Barrier of MPI_COMM_WORLD", said)
 
 
 class MessagesTest(unittest.TestCase):
@@ -78,15 +140,16 @@ class MessagesTest(unittest.TestCase):
         late = find_late(order, finding)
         assert late
         self.assertEqual(
-            explain_late(late),
+            explain_late(plan, late),
             "a:0 sends a:1 a message after its PMIx_Publish (MPI_Send to 1, tag 7, at m.c:5), but "
             "a:1 receives from any source, and may have it only at m.c:9. If a:1 received it from "
             "a:0 before its PMIx_Lookup, the PMIx_Publish would come first.",
         )
         self.assertEqual(
             explaining.fix(finding, order),
-            "Let a:1 receive a:0's message before m.c:8, from a:0 in place of any source; or wait "
-            "for the name with PMIX_WAIT: it is published once and never taken away.",
+            "Move the PMIx_Lookup of m.c:8 after the MPI_Recv of m.c:9; or receive from a:0, in "
+            "place of any source, before the PMIx_Lookup of m.c:8; or wait for the name with "
+            "PMIX_WAIT: it is published once and never taken away.",
         )
 
     def test_one_that_waits_for_the_lookup_is_none(self) -> None:
@@ -96,14 +159,18 @@ class MessagesTest(unittest.TestCase):
 
 
 class RewritesTest(unittest.TestCase):
-    """Who reads a key that is put again."""
+    """A key that is put twice: who reads it, and how it is mended."""
 
     def explain(self, *readers: str) -> str:
-        """What it means that a key is put again before and after a barrier, with these readers."""
-        put = "put global k v\ncommit\n"
-        plan = read(put + BARRIER + put, *readers)
+        """What it means that a key is put before and after a barrier, with these readers."""
+        put = "# at main (p.c:{0}) -> share (p.c:3)\nput global k v{0}\ncommit\n"
+        plan = read(put.format(10) + BARRIER + put.format(20), *readers)
         order, finding = find_order(plan), read_line(plan, "rewrite a:0 1 4 key k")
-        self.told = [it.name for it in list_told(order, finding)]
+        told = list_told(order, finding)
+        self.told = [it.name for it in told]
+        self.roles = [explaining.role(finding, it) for it in told]
+        self.title = explaining.title(finding, (), order)
+        self.fix = explaining.fix(finding, order)
         return explaining.explain(finding, order)
 
     def test_readers_of_either_value(self) -> None:
@@ -111,21 +178,45 @@ class RewritesTest(unittest.TestCase):
         said = self.explain(get + BARRIER + get, BARRIER + get)
         self.assertTrue(
             said.endswith(
-                "a:1 and a:2 get it at join (j.c:2), and nothing orders that with the second "
-                "commit: each of these gets may give either value."
+                "a:1 and a:2 get it at join (j.c:2), and nothing orders that with this commit: "
+                "each of these gets may give either value."
             ),
             said,
         )
+        again = "a:0 puts it at p.c:10 and again at p.c:20; the next PMIx_Commit replaces the first"
+        self.assertTrue(said.startswith(again), said)
+        self.assertEqual(self.title, "a:0 puts the key k twice: a:1 and a:2 may get either value")
         self.assertEqual(self.told, ["a:0 1", "a:0 4", "a:1 3"])
+        self.assertEqual(self.roles, ["first value: v10", "second value: v20", "reads it"])
+        self.assertEqual(
+            self.fix,
+            "Put the key once; or put each value under a key of its own; or if the second value is "
+            "meant, put an MPI_Barrier of MPI_COMM_WORLD between the PMIx_Commit and the PMIx_Get: "
+            "a:0 calls it after the PMIx_Commit of p.c:20, a:1 and a:2 before the PMIx_Get of join "
+            "(j.c:2). The second put is still reported then.",
+        )
+
+    def test_a_get_that_does_not_wait(self) -> None:
+        self.explain("get-now a:0 k\n" + BARRIER)
+        only = "Put the key once; or put each value under a key of its own."
+        self.assertEqual(self.fix, only)
 
     def test_a_reader_before_the_second_put(self) -> None:
         said = self.explain("# at main (j.c:2)\nget a:0 k\n" + BARRIER)
-        self.assertTrue(said.endswith("a:1 gets it at j.c:2."), said)
+        self.assertTrue(said.endswith("a:1 gets it at j.c:2, always before or always after that."))
+        self.assertEqual(self.title, "a:0 puts the key k twice")
 
     def test_no_reader(self) -> None:
         said = self.explain(BARRIER)
         self.assertTrue(said.endswith("No other rank gets it in this plan."), said)
         self.assertEqual(self.told, ["a:0 1", "a:0 4"])
+
+    def test_one_commit_or_none(self) -> None:
+        plan = read("put global k v\nput global k w\ncommit\nput global k x\n")
+        order = find_order(plan)
+        for line, wanted in (("1 2", "only the second value"), ("1 4", "No commit follows")):
+            finding = read_line(plan, f"rewrite a:0 {line} key k")
+            self.assertIn(wanted, explaining.explain(finding, order))
 
 
 if __name__ == "__main__":

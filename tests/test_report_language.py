@@ -1,10 +1,11 @@
 """Tests how a report names calls: as the program does in a recorded plan, else as the plan does."""
 import unittest
+from collections.abc import Sequence
 
 import support
 from wire_up_tools.plan import Call, read_plan
 from wire_up_tools.report.language import name_call
-from wire_up_tools.report.places import say_place
+from wire_up_tools.report.places import name_spot, say_place
 
 assert support.TOP, "it says where the package is"
 
@@ -54,7 +55,8 @@ class NamesTest(unittest.TestCase):
 
 
 class PlacesTest(unittest.TestCase):
-    """Where a call comes from: a helper's line, and what other functions call before and after."""
+    """Where a call comes from: first the line that calls a helper, or else what other functions
+    call before and after it, and then the helper's line."""
 
     def test_a_helper(self) -> None:
         lines = ["# at main (a.c:5)", "# MPI: barrier", "fence all"]
@@ -62,9 +64,40 @@ class PlacesTest(unittest.TestCase):
         later = ("# at look_up (b.c:10)", "lookup port", "# at main (a.c:7)", "commit")
         plan = read_plan("\n".join([RECORDED + HEAD.rstrip(), *lines, *later, ""]).encode())
         said = say_place(plan, plan.calls[1])
-        wanted = "look_up (b.c:9), before it MPI_Barrier at a.c:5, after it PMIx_Commit at a.c:7"
-        self.assertEqual(said, wanted)
+        around = "after the MPI_Barrier of a.c:5, before the PMIx_Commit of a.c:7"
+        self.assertEqual(said, f"{around}, in look_up (b.c:9)")
         self.assertEqual(say_place(plan, plan.calls[0]), "main (a.c:5)")
+
+    def say(self, *places: str, verbs: Sequence[str] = ("lookup port",)) -> list[tuple[str, str]]:
+        """Where calls at these places come from, in full and in short."""
+        lines = [it for place, verb in zip(places, [*verbs] * len(places))
+                 for it in (f"# at {place}", verb)]
+        plan = read_plan("\n".join([RECORDED + HEAD.rstrip(), *lines, ""]).encode())
+        return [(say_place(plan, it), name_spot(plan, it)) for it in plan.calls]
+
+    def test_who_calls_a_helper(self) -> None:
+        main, own = "main (a.c:{}) -> run (a.c:{}) -> look_up (b.c:9)", "run (a.c:{})"
+        said = self.say(main.format(2, 30), own.format(40), main.format(2, 50))
+        for (place, spot), line in zip(said[::2], (30, 50)):
+            wanted = f"run (a.c:{line}), in look_up (b.c:9), called from main (a.c:2)"
+            self.assertEqual((place, spot), (wanted, f"run (a.c:{line})"))
+        self.assertEqual(said[1][1], "run (a.c:40)")
+
+    def test_a_put_with_its_commit_is_a_helper(self) -> None:
+        places = [f"main (a.c:7) -> share (b.c:{it})" for it in (3, 4)]
+        said = self.say(*places, verbs=("put global k v", "commit"))
+        self.assertEqual(said[0], ("main (a.c:7), in share (b.c:3)", "a.c:7"))
+        self.assertEqual(said[1], ("main (a.c:7), in share (b.c:4)", "a.c:7"))
+
+    def test_a_function_that_makes_several_calls(self) -> None:
+        places = [f"main (a.c:7) -> run (a.c:{it})" for it in (30, 40)]
+        said = self.say(*places)
+        self.assertEqual(said[0], ("run (a.c:30), called from main (a.c:7)", "run (a.c:30)"))
+
+    def test_a_helper_of_several_calls(self) -> None:
+        places = [f"main (a.c:{it}) -> swap (b.c:{at})" for it in (7, 8) for at in (3, 4)]
+        said = self.say(*places, verbs=("put global k v", "lookup port"))
+        self.assertEqual(said[1], ("main (a.c:7), in swap (b.c:4)", "a.c:7 in swap (b.c:4)"))
 
 
 if __name__ == "__main__":

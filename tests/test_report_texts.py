@@ -35,13 +35,19 @@ SAYS = {
         "36 gets of a wildcard rank",
         "or wait for the name with PMIX_WAIT",
         'A PMIx_Lookup of the name "first" can come before the PMIx_Publish',
-        "look_up (cases.c:30), before it PMIx_Fence at cases.c:178, after it MPI_Recv at cases.c:",
+        "after the PMIx_Fence of cases.c:178, before the MPI_Recv of cases.c:44, in look_up (",
         "app:1 sends app:0 a message after its PMIx_Publish (MPI_Send to 0, tag 0, at",
         "but app:0 receives from any source, and may have it only at",
         "received it from app:1 before its PMIx_Lookup, the PMIx_Publish would come first.",
-        "Let app:0 receive app:1's message before look_up (cases.c:30), from app:1 in place of any",
+        "Move the PMIx_Lookup of look_up (cases.c:30) after the MPI_Recv of wild (cases.c:44);",
+        "or receive from app:1, in place of any source, before the PMIx_Lookup of look_up (cases.",
         "MPI_Recv from 1, tag 0",
         "A recording; what is left out can hide no race",
+    ),
+    "recorded-wild2": (
+        "wild (cases.c:43), in look_up (cases.c:30), called from main (cases.c:245)",
+        "wild (cases.c:38), in publish (cases.c:23), called from main (cases.c:245)",
+        "Move the PMIx_Lookup of wild (cases.c:43) after the MPI_Recv of wild (cases.c:44);",
     ),
     "recorded-sleep": ("in part (the run was cut off, 2 recordings end early: what came then",),
     "recorded-unwaited": ("in part (1 calls of the program that don't block",),
@@ -58,7 +64,14 @@ SAYS = {
     ),
     "large": ("31,744 races", "takes no plan past the limits of its version"),
     "large-fence": ("no race", "and 2,047 like it"),
-    "changed-card": ("Use a key of its own for each value", "a bug, unless either will do"),
+    "changed-card": (
+        "1 key put twice",
+        "app:0 puts the key card twice: app:1 may get either value",
+        "app:0 1 put, changed-card.plan:7, first value: 10.0.0.1:7000",
+        "app:1 1 get, changed-card.plan:12, reads it",
+        "Put the key once; or put each value under a key of its own; or if the second value is",
+        "a bug, unless either will do",
+    ),
 }
 
 

@@ -13,6 +13,10 @@ EVERY_NAME = "*"
 # call for which that isn't known.
 PLACE_COMMENT = "# at "
 UNKNOWN_PLACE = "an unknown place"
+# What stands in a place between a function and the one that it calls there.
+INTO = " -> "
+# What the main program is called in C, Fortran and Python: no other function calls it.
+MAIN = ("main", "MAIN__", "<module>")
 # The comment before a line that stands for a call of MPI.
 MPI_COMMENT = "# MPI: "
 # How the head of a recorded plan begins, and the titles of the lists in it.
@@ -27,6 +31,8 @@ WRITTEN_OTHERWISE = "Written otherwise:"
 LEFT_TO_LUCK = "ends of requests that another run may have found open"
 TAKEN = "their order is taken all the same, and --strict takes nothing from them"
 VERDICTS = "Verdicts: "
+# How the line of the head begins that says that no order of MPI is known.
+WITHOUT_MPI = "MPI's order isn't recorded"
 
 
 def is_reserved(word: str) -> bool:

@@ -89,13 +89,14 @@ static void locate(struct place *it, const Dl_info *object)
         it->offset -= (uintptr_t)object->dli_fbase;
 }
 
-static struct place *make_place(const void *address)
+static struct place *make_place(const void *address, struct place *outer)
 {
     Dl_info object;
     struct place *made = calloc(1, sizeof *made);
     if (!made)
         return NULL;
     made->address = address;
+    made->outer = outer;
     made->number = number_place();
     made->offset = (uintptr_t)address - 1;
     if (dladdr(address, &object) && object.dli_fname && object.dli_fbase)
@@ -105,20 +106,20 @@ static struct place *make_place(const void *address)
     return made;
 }
 
-static struct place *find_in_list(struct place *first, const void *address)
+static struct place *find_in_list(struct place *first, const void *address, struct place *outer)
 {
     struct place *it = first;
-    while (it && it->address != address)
+    while (it && (it->address != address || it->outer != outer))
         it = it->next;
     return it;
 }
 
 /* Adds a place to a list, unless another thread just did. */
-static struct place *add_place(struct place **list, const void *address)
+static struct place *add_place(struct place **list, const void *address, struct place *outer)
 {
     pthread_mutex_lock(&adding);
-    struct place *it = find_in_list(*list, address);
-    struct place *made = it ? NULL : make_place(address);
+    struct place *it = find_in_list(*list, address, outer);
+    struct place *made = it ? NULL : make_place(address, outer);
     if (made) {
         made->next = *list;
         __atomic_store_n(list, made, __ATOMIC_RELEASE);
@@ -127,13 +128,16 @@ static struct place *add_place(struct place **list, const void *address)
     return it ? it : made;
 }
 
-struct place *wire_up_place(const void *address)
+/* Finds or makes the place of an address in a function that was called at another place. */
+static struct place *find_within(const void *address, struct place *outer)
 {
     uintptr_t bits = (uintptr_t)address;
     struct place **list = &places[(bits >> 2 ^ bits >> 12) % BUCKETS];
-    struct place *it = find_in_list(__atomic_load_n(list, __ATOMIC_ACQUIRE), address);
-    return it ? it : add_place(list, address);
+    struct place *it = find_in_list(__atomic_load_n(list, __ATOMIC_ACQUIRE), address, outer);
+    return it ? it : add_place(list, address, outer);
 }
+
+struct place *wire_up_place(const void *address) { return find_within(address, NULL); }
 
 enum owner find_owner(const void *address)
 {
@@ -141,13 +145,22 @@ enum owner find_owner(const void *address)
     return it ? it->owner : OF_PROGRAM;
 }
 
-_Unwind_Reason_Code keep_frame(struct _Unwind_Context *frame, void *found)
+_Unwind_Reason_Code keep_frame(struct _Unwind_Context *frame, void *to)
 {
+    struct frames *found = to;
     struct place *it = wire_up_place((const void *)_Unwind_GetIP(frame));
     if (!it || it->owner != OF_PROGRAM)
-        return _URC_NO_REASON;
-    *(struct place **)found = it;
-    return _URC_END_OF_STACK;
+        return found->count ? _URC_END_OF_STACK : _URC_NO_REASON;
+    found->at[found->count++] = it;
+    return found->count < MOST_FRAMES && !it->is_mpi4py ? _URC_NO_REASON : _URC_END_OF_STACK;
+}
+
+struct place *join_frames(const struct frames *found)
+{
+    struct place *it = NULL;
+    for (size_t n = found->count; n > 0; n--)
+        it = find_within(found->at[n - 1]->address, it);
+    return it;
 }
 
 struct place *wire_up_place_behind(void) { return find_place_in_program(); }

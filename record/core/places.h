@@ -12,16 +12,26 @@ unsigned number_place(void);
 /* Finds whose code is at an address; the program's where memory is refused. */
 enum owner find_owner(const void *address);
 
-/* Keeps the place of a frame in `found` and ends the walk, if it is the program's. */
-_Unwind_Reason_Code keep_frame(struct _Unwind_Context *frame, void *found);
+/* The innermost functions of the program that have called each other: the last called first. */
+#define MOST_FRAMES 8
+struct frames {
+    struct place *at[MOST_FRAMES];
+    size_t count;
+};
+
+/* Keeps the place of a frame if it is the program's, and ends the walk where the program's end. */
+_Unwind_Reason_Code keep_frame(struct _Unwind_Context *frame, void *to);
+
+/* The place of the first of these, called at those of the others; null where there are none. */
+struct place *join_frames(const struct frames *found);
 
 /* Finds where in the program this call comes from, through however many calls of libraries. Null
  * on a thread that isn't the program's. Inline: a wrapper is the one frame of the recorder. */
 static inline struct place *find_place_in_program(void)
 {
-    struct place *found = NULL;
+    struct frames found = {.count = 0};
     _Unwind_Backtrace(keep_frame, &found);
-    return wire_up_in_python(found);
+    return wire_up_in_python(join_frames(&found));
 }
 
 #endif

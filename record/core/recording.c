@@ -285,9 +285,20 @@ static void write_place(int file, const struct place *place)
         add_word(&what, place->function, strlen(place->function));
     } else {
         wire_up_text_add(&what, " %zx", place->offset);
+        if (place->outer)
+            wire_up_text_add(&what, " %u", place->outer->number);
     }
     write_line(file, '=', 0, 0, &what);
     wire_up_text_close(&what);
+}
+
+/* Writes what a place and those at which it was called stand for, each once. */
+static void note_place(int file, struct place *place)
+{
+    while (place && !__atomic_exchange_n(&place->is_noted, true, __ATOMIC_RELAXED)) {
+        write_place(file, place);
+        place = place->outer;
+    }
 }
 
 void trim_recording(void)
@@ -307,8 +318,7 @@ void wire_up_write(char sign, unsigned long number, struct place *place, const s
     int file = get_file();
     if (file < 0)
         return;
-    if (place && !__atomic_exchange_n(&place->is_noted, true, __ATOMIC_RELAXED))
-        write_place(file, place);
+    note_place(file, place);
     write_line(file, sign, number, place ? place->number : 0, what);
 }
 

@@ -32,8 +32,7 @@ class Run:
         if index >= len(script):
             return "nothing more"
         line = script[index]
-        place = line.process.recording.places.get(line.call.place or "")
-        text = self.places.find(place) if place else None
+        text = self.places.find(line.process.recording, line.call.place)
         return f"`{line.words}` at {text or UNKNOWN_PLACE}"
 
 

@@ -1,5 +1,5 @@
 """Finds where in the program calls come from: `function (file.c:42)` where a module has that, else
-`module+0x1234`."""
+`module+0x1234`; of a function that another called, `caller (file.c:9) -> function (file.c:42)`."""
 import os
 import re
 import shutil
@@ -13,13 +13,17 @@ from wire_up_tools.plan import read_calls
 from wire_up_tools.record.draft import Draft, Line
 from wire_up_tools.record.forms import WORD, decode_text
 from wire_up_tools.record.processes import Process
-from wire_up_tools.record.recordings import Address, Place
-from wire_up_tools.words import UNKNOWN_PLACE, escape, make_printable
+from wire_up_tools.record.recordings import Address, Place, Recording
+from wire_up_tools.words import INTO, MAIN, UNKNOWN_PLACE, escape, make_printable
 
 # The file beside recordings that keeps what was found out when the program was recorded.
 FILE = "places"
 # A line of it: a module, an offset in it, and what is said of that.
 ENTRY = re.compile(rf"({WORD}) ([0-9a-f]{{1,16}}) ([ -~]+)")
+# How many functions a place names that called each other.
+MOST_NAMED = 3
+# A line of `addr2line` that begins what it says of an address.
+ASKED = re.compile(r"0x[0-9a-f]+")
 
 
 @dataclass(frozen=True)
@@ -28,9 +32,32 @@ class Places:
 
     texts: Mapping[Address, str]
 
-    def find(self, place: Place) -> Optional[str]:
-        """The text of a place; None where that isn't known."""
+    def find(self, recording: Recording, number: Optional[str]) -> Optional[str]:
+        """The text of a place by its number; None where that isn't known."""
+        frames = recording.list_frames(number)
+        if not frames or not self.say(frames[-1]):
+            return None
+        own = (it for it in frames[:-1] if is_named(it, frames[0]))
+        known = (text for text in map(self.say, own) if text and text.endswith(")"))
+        named = INTO.join([*known, self.say(frames[-1]) or ""]).split(INTO)
+        start = max((at for at, it in enumerate(named) if find_function(it) in MAIN), default=0)
+        return INTO.join(named[max(start, len(named) - MOST_NAMED):])
+
+    def say(self, place: Place) -> Optional[str]:
+        """The text of a place alone."""
         return self.texts.get(place) if isinstance(place, Address) else place
+
+
+def is_named(place: Place, outermost: Place) -> bool:
+    """Whether a place at which a function was called is named: not one in a library that the
+    program called."""
+    modules = [it.module for it in (place, outermost) if isinstance(it, Address)]
+    return len(set(modules)) == 1
+
+
+def find_function(named: str) -> str:
+    """The function that is named: `main` of `main (a.c:3)`."""
+    return named.partition(" (")[0]
 
 
 # --- what is kept beside recordings ---
@@ -79,12 +106,13 @@ def name_line(function: str, line: str) -> Optional[str]:
 
 
 def ask_module(module: str, offsets: Sequence[int]) -> Sequence[str]:
-    """The lines that `addr2line` writes about offsets in a module; none if it can't."""
+    """The lines that `addr2line` writes about offsets in a module, with functions that the compiler
+    put into others; none if it can't."""
     program = shutil.which("addr2line")
     if not program or not os.path.isfile(module):
         return ()
     asked = "".join(f"0x{it:x}\n" for it in offsets).encode()
-    words = [program, "-f", "-C", "-e", module]
+    words = [program, "-a", "-i", "-f", "-C", "-e", module]
     try:
         ran = subprocess.run(words, input=asked, capture_output=True, check=False)
     except OSError:
@@ -94,10 +122,21 @@ def ask_module(module: str, offsets: Sequence[int]) -> Sequence[str]:
 
 def find_lines(module: str, offsets: Sequence[int]) -> Sequence[Optional[str]]:
     """The functions and lines of offsets in a module; None for those that it doesn't know."""
-    wrote = ask_module(module, offsets)
-    if len(wrote) != 2 * len(offsets):
+    answers: list[list[str]] = []
+    for line in ask_module(module, offsets):
+        if ASKED.fullmatch(line):
+            answers.append([])
+        elif answers:
+            answers[-1].append(line)
+    if len(answers) != len(offsets):
         return [None] * len(offsets)
-    return [name_line(function, line) for function, line in zip(wrote[::2], wrote[1::2])]
+    return [name_lines(it) for it in answers]
+
+
+def name_lines(wrote: Sequence[str]) -> Optional[str]:
+    """What is written of one address: a function and its line, and then those that hold it."""
+    named = [name_line(function, line) for function, line in zip(wrote[::2], wrote[1::2])]
+    return INTO.join(it for it in reversed(named) if it) if named and named[0] else None
 
 
 def name_address(address: Address) -> str:
@@ -106,12 +145,10 @@ def name_address(address: Address) -> str:
 
 
 def find_addresses(process: Process, lines: Iterable[Line]) -> Iterator[Address]:
-    """Where the calls of some lines of a process come from, each address once."""
-    places = process.recording.places
+    """Where the calls of some lines of a process come from."""
     for number in dict.fromkeys(line.call.place for line in lines):
-        place = places.get(number) if number else None
-        if isinstance(place, Address):
-            yield place
+        frames = process.recording.list_frames(number)
+        yield from (it for it in frames if isinstance(it, Address))
 
 
 def find_places(draft: Draft, kept: Mapping[Address, str]) -> Places:

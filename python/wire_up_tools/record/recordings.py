@@ -60,6 +60,8 @@ class Address:
 
 # Where in the program a call comes from: an address, or `function (file.c:42)`.
 Place = Union[Address, str]
+# How many functions that called each other are followed from a call outwards.
+MOST_FRAMES = 8
 
 
 @dataclass(frozen=True)
@@ -87,9 +89,9 @@ class Recording:
     """What one process did, from the file at `path`; `began` is in seconds since 1970.
 
     `others` counts the calls that are only counted, by their names; `unseen` what called MPI past
-    the recorder, and `unseen_pmix` what called PMIx so, by what is said of it. A process that
-    `has_finalized` has called nothing after PMIx_Finalize; the last line of a recording that
-    `is_cut` was dropped.
+    the recorder, and `unseen_pmix` what called PMIx so, by what is said of it. `outer` has the
+    number of the place at which the function of a place was called. A process that `has_finalized`
+    has called nothing after PMIx_Finalize; the last line of a recording that `is_cut` was dropped.
     """
 
     path: str
@@ -105,6 +107,7 @@ class Recording:
     world: Optional[World]
     communicators: Mapping[int, RecordedCommunicator]
     places: Mapping[str, Place]
+    outer: Mapping[str, str]
     has_finalized: bool
     is_cut: bool
 
@@ -112,6 +115,15 @@ class Recording:
     def calls_of_pmix(self) -> Sequence[Call]:
         """The calls of PMIx alone: they are few beside those of MPI."""
         return [it for it in self.calls if it.is_of_pmix]
+
+    def list_frames(self, number: Optional[str]) -> list[Place]:
+        """The place of a number and those at which the functions were called, from the outermost
+        on; none where the number isn't known."""
+        found: list[Place] = []
+        while number and number in self.places and len(found) < MOST_FRAMES:
+            found.insert(0, self.places[number])
+            number = self.outer.get(number)
+        return found
 
 
 # --- what isn't a call ---
@@ -123,7 +135,7 @@ PLAIN = {
     "world": re.compile(r"world (\d{1,9}) (\d{1,9})"),
     "comm": re.compile(r"comm (\d{1,9}) (\d{1,9}) ([wcgvs]-?\d{1,18}) ([\d,-]+)"),
     "inter": re.compile(r"inter (\d{1,9}) (\d{1,9}) (c-?\d{1,18}) ([\d,-]+) ([\d,-]+)"),
-    "place": re.compile(rf"place (\d{{1,9}}) ({WORD}) ([0-9a-f]{{1,16}})"),
+    "place": re.compile(rf"place (\d{{1,9}}) ({WORD}) ([0-9a-f]{{1,16}})(?: (\d{{1,9}}))?"),
     "line": re.compile(rf"line (\d{{1,9}}) ({WORD}) (\d{{1,9}}) ({WORD})"),
 }
 
@@ -178,6 +190,7 @@ class Records:
     world: Optional[World] = None
     communicators: dict[int, RecordedCommunicator] = field(default_factory=dict)
     places: dict[str, Place] = field(default_factory=dict)
+    outer: dict[str, str] = field(default_factory=dict)
     has_finalized: bool = False
 
     def read(self, number: int, line: str) -> None:
@@ -231,6 +244,7 @@ class Records:
             self.communicators[int(groups[0])] = read_communicator(groups)
         elif verb == "place":
             self.places[groups[0]] = Address(decode_text(groups[1]), int(groups[2], 16))
+            self.outer.update([(groups[0], groups[3])] if groups[3] else [])
         elif verb == "line":
             self.places[groups[0]] = read_line(groups)
 
@@ -298,6 +312,7 @@ def read_recording(path: str, data: bytes) -> Recording:
         world=records.world,
         communicators=records.communicators,
         places=records.places,
+        outer=records.outer,
         has_finalized=records.has_finalized,
         is_cut=end < len(data),
     )

@@ -23,6 +23,7 @@ from wire_up_tools.words import (
     TAKEN,
     UNKNOWN_PLACE,
     VERDICTS,
+    WITHOUT_MPI,
     WRITTEN_OTHERWISE,
     make_printable,
     show,
@@ -100,8 +101,7 @@ def say_mpi(plan: Plan) -> Iterator[str]:
         yield f"# {VERDICTS}{mpi.verdicts}"
     if not choices.with_mpi or not any(it.recording.world for it in plan.processes.all):
         yield (
-            "# MPI's order isn't recorded: if MPI orders the calls of a race, it is reported "
-            "all the same."
+            f"# {WITHOUT_MPI}: if MPI orders the calls of a race, it is reported all the same."
         )
 
 
@@ -135,7 +135,8 @@ def find_texts(process: Process, places: Optional[Places]) -> dict[Optional[str]
     """The texts of the places of a process, by their numbers, as far as they are known."""
     if not places:
         return {}
-    found = ((number, places.find(it)) for number, it in process.recording.places.items())
+    recording = process.recording
+    found = ((number, places.find(recording, number)) for number in recording.places)
     return {number: text for number, text in found if text}
 
 

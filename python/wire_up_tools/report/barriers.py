@@ -1,46 +1,196 @@
-"""The barrier that would order two calls that race: which rank calls it where.
+"""The barrier that would order two calls that race: one that is there already, past which one of
+the calls can be moved, or a new one, and where each rank calls that.
 
-It must not keep a rank from a call for which another waits before the barrier.
+A new one must keep no rank from a call for which another waits before the barrier. So it comes
+after all that comes, in some run, before one of the two calls in every run.
 """
-from collections.abc import Iterator
+import collections
+import re
+from collections.abc import Iterable, Iterator, Mapping, Sequence
+from dataclasses import dataclass
+from typing import Optional
 
-from wire_up_tools.plan import Call
-from wire_up_tools.report.findings import Finding
-from wire_up_tools.report.language import name_bare
+from wire_up_tools import words
+from wire_up_tools.plan import Call, Meeting, Plan, Rank
+from wire_up_tools.report.findings import LOOKUPS, Finding
+from wire_up_tools.report.language import find_message, name_verb
 from wire_up_tools.report.orders import Order
-from wire_up_tools.report.places import name_spot
+from wire_up_tools.report.phrases import name_all, pick
+from wire_up_tools.report.places import name_spot, tell_call
 
-# How many ranks are named besides those of the two calls.
-MOST = 2
-
-
-def say_turns(order: Order, finding: Finding, leader: Call) -> str:
-    """Who calls the barrier where, so that one call of a race comes first."""
-    other = finding.find_other(leader)
-    turns = [
-        f"{leader.rank.name} calls it after {name_spot(leader)}",
-        f"{other.rank.name} before {name_spot(other)}",
-    ]
-    awaited = list(list_awaited(order, finding)) if leader.rank.is_recorded else []
-    if len(awaited) > MOST:
-        turns.append("the others after the calls for which these two wait")
-    else:
-        turns += [f"{it.rank.name} after {name_spot(it)}" for it in awaited]
-    return f"{', '.join(turns)}, so that the {name_bare(leader)} comes first"
+# How many spots are named besides the first.
+SPOTS = 8
+# The name that stands for a part of a collective ends with the number of the collective.
+OF_COLLECTIVE = re.compile(r".*\.all\.(\d+)")
+# What a rank does before a call may depend on what these bring.
+WAITING = ("get", "lookup-wait", "fence")
 
 
-def list_awaited(order: Order, finding: Finding) -> Iterator[Call]:
-    """The last call of each other rank that comes before a call of the race in every run; but for
-    those of which the last is a fence with both ranks of the race."""
-    racing = [it.rank for it in finding.calls]
-    reached: dict[str, int] = {}
-    for call in finding.calls:
-        for rank, reach in order.find_earlier(call).items():
-            if rank not in racing:
-                reached[rank.name] = max(reached.get(rank.name, 0), reach.number)
-    for name, number in reached.items():
-        if number:
-            awaited = order.plan.find_call(name, number)
-            meeting = order.plan.meeting_of.get(awaited)
-            if not meeting or not meeting.members.issuperset(it.name for it in racing):
-                yield awaited
+def is_of_mpi(plan: Plan) -> bool:
+    """Whether the ranks of a recorded plan are known to have a communicator of MPI."""
+    head = plan.declared.head
+    return plan.is_recorded and not any(it.startswith(words.WITHOUT_MPI) for it in head)
+
+
+# --- a barrier that is there ---
+
+
+@dataclass(frozen=True)
+class Move:
+    """A call of a race that can be moved past a fence of both ranks, and the call of that by the
+    same rank."""
+
+    call: Call
+    fence: Call
+    is_later: bool
+
+    @property
+    def distance(self) -> int:
+        """Past how many calls of its rank it goes."""
+        return abs(self.fence.number - self.call.number)
+
+    def say(self, plan: Plan) -> str:
+        """The fix."""
+        where = "after" if self.is_later else "before"
+        return f"move the {tell_call(plan, self.call)} {where} the {tell_call(plan, self.fence)}"
+
+
+def find_move(order: Order, finding: Finding, leader: Call) -> Optional[Move]:
+    """The shortest move by which one call of a race comes first; None where there is none."""
+    found = (find_move_past(order, finding, leader, it) for it in order.plan.meetings)
+    moves = [it for it in found if it]
+    return min(moves, key=lambda it: it.distance) if moves else None
+
+
+def find_move_past(
+    order: Order, finding: Finding, leader: Call, meeting: Meeting
+) -> Optional[Move]:
+    """The move past one fence, if it is the program's and both ranks call it."""
+    other, numbers = finding.find_other(leader), meeting.numbers
+    both = numbers.get(leader.rank.name), numbers.get(other.rank.name)
+    if not meeting.is_whole or None in both:
+        return None
+    ranks = (leader.rank.name, other.rank.name)
+    own, others = (order.plan.find_call(it, numbers[it]) for it in ranks)
+    if is_of_mpi(order.plan) and not own.remark:
+        return None
+    is_after = own.number > leader.number and others.number > other.number
+    if is_after and can_come_after(order, finding, other, others):
+        return Move(other, others, True)
+    is_before = own.number < leader.number and others.number < other.number
+    return Move(leader, own, False) if is_before and can_come_before(order, leader, own) else None
+
+
+def can_come_after(order: Order, finding: Finding, call: Call, fence: Call) -> bool:
+    """Whether a call that only reads can be moved behind a fence and stays before what it came
+    before: each other call that changes its name."""
+    if call.verb not in (*LOOKUPS, "get-now"):
+        return False
+    calls = order.plan.calls_of[call.rank.name]
+    after = calls[fence.number] if fence.number < len(calls) else None
+    changes = list_changes(order, finding)
+    return all(order.is_before(it, fence) or (after and order.is_before(after, it))
+               for it in changes)
+
+
+def list_changes(order: Order, finding: Finding) -> Iterator[Call]:
+    """The calls that change the name of a race, but for those of the race."""
+    for call in order.plan.list_single():
+        is_change = call.verb in ("publish", "unpublish") and call not in finding.calls
+        if is_change and call.about in (finding.about, words.EVERY_NAME):
+            yield call
+
+
+def can_come_before(order: Order, call: Call, fence: Call) -> bool:
+    """Whether a call can be moved before a fence: what is put or published is there before, as far
+    as no call between waits for others."""
+    between = order.plan.calls_of[call.rank.name][fence.number:call.number - 1]
+    is_once = len(order.uses.publishes.get(call.about, ())) == 1
+    is_kept = call.verb == "publish" and is_once and call.about not in order.uses.unpublished
+    return is_kept and not any(it.verb in WAITING for it in between)
+
+
+# --- a new barrier ---
+
+
+def say_turns(order: Order, first: Call, later: Sequence[Call]) -> str:
+    """Who calls a new barrier where, so that one call comes before others, one of each rank."""
+    plan, passed = order.plan, find_passed(order, (first, *later))
+    is_last = passed[first.rank] == first.number
+    own = f"after the {tell_call(plan, first)}" if is_last else say_spot(plan, first.rank, passed)
+    spots = {first.rank: own}
+    for it in later:
+        told, is_free = tell_call(plan, it), passed[it.rank] == it.number
+        moved = f"{say_spot(plan, it.rank, passed)} and moves the {told} behind it"
+        spots[it.rank] = f"before the {told}" if is_free else moved
+    if is_of_all(plan, first, later[0]):
+        of_job = (it for it in plan.ranks if it.job == first.rank.job and it not in spots)
+        spots.update((it, say_spot(plan, it, passed)) for it in [*of_job])
+    return say_spots(spots)
+
+
+def say_spots(spots: Mapping[Rank, str]) -> str:
+    """Which ranks call a barrier where."""
+    ranks_at: dict[str, list[str]] = collections.defaultdict(list)
+    for rank, spot in spots.items():
+        ranks_at[spot].append(rank.name)
+    (spot, ranks), *others = ranks_at.items()
+    said = [f"{name_all(ranks)} {pick(len(ranks), 'calls', 'call')} it {spot}"]
+    said += [f"{name_all(them)} {where}" for where, them in others[:SPOTS]]
+    rest = [name for _, them in others[SPOTS:] for name in them]
+    said += [f"{name_all(rest)} after the last call for which these wait"] if rest else []
+    return ", ".join(said)
+
+
+def is_of_all(plan: Plan, first: Call, second: Call) -> bool:
+    """Whether the barrier between two calls is one of all ranks of their job."""
+    return is_of_mpi(plan) and first.rank.job == second.rank.job
+
+
+def name_barrier(plan: Plan, first: Call, second: Call) -> str:
+    """What can stand between two calls, so that one comes first."""
+    if is_of_all(plan, first, second):
+        return "an MPI_Barrier of MPI_COMM_WORLD"
+    fence = name_verb("fence", plan.is_recorded)
+    return f"a {fence} of a set that has both ranks"
+
+
+def say_spot(plan: Plan, rank: Rank, passed: Mapping[Rank, int]) -> str:
+    """Where a rank calls a barrier that has made so many calls then."""
+    calls, count = plan.calls_of[rank.name], passed.get(rank, 0)
+    if not calls:
+        return "anywhere"
+    near = calls[count - 1] if count else calls[0]
+    where = "after" if count else "before"
+    is_told = near.remark or find_message(near)
+    return f"{where} {f'the {tell_call(plan, near)}' if is_told else name_spot(plan, near)}"
+
+
+def find_passed(order: Order, calls: Sequence[Call]) -> Mapping[Rank, int]:
+    """How many calls each rank has begun when a new barrier orders some calls: all that come before
+    these in every run, and the other parts of collectives of which one does."""
+    collectives = list_collectives(order.plan)
+    passed: collections.Counter[Rank] = collections.Counter()
+    waiting = list(calls)
+    while waiting:
+        for rank, reach in order.find_earlier(waiting.pop()).items():
+            new = order.plan.calls_of[rank.name][passed[rank]:reach.number]
+            passed[rank] = max(passed[rank], reach.number)
+            parts = {number for it in new for number in find_number(it)}
+            waiting += [part for it in parts for part in collectives.pop(it, ())]
+    return passed
+
+
+def list_collectives(plan: Plan) -> dict[str, list[Call]]:
+    """The parts of collectives that are names, by the numbers of these."""
+    found: dict[str, list[Call]] = collections.defaultdict(list)
+    for call in plan.list_single():
+        for number in find_number(call):
+            found[number].append(call)
+    return found
+
+
+def find_number(call: Call) -> Iterable[str]:
+    """The number of the collective of which a call is a part that is a name; none if it isn't."""
+    read = OF_COLLECTIVE.fullmatch(call.about) if find_message(call) else None
+    return [read[1]] if read else []

@@ -15,6 +15,7 @@ from dataclasses import dataclass
 
 from wire_up_tools.plan import Call
 from wire_up_tools.report.findings import Finding, Group, Kind
+from wire_up_tools.report.places import find_own
 from wire_up_tools.words import EVERY_NAME
 
 
@@ -68,7 +69,7 @@ def name_cause(finding: Finding) -> Hashable:
     kind, calls = describe_kind(finding), finding.calls
     if finding.kind is Kind.KEY:
         bringer = next(it for it in calls if it.verb == finding.bringer)
-        return kind, bringer.place or bringer.name
+        return kind, find_own(bringer) or bringer.name
     sweep = next((it.name for it in calls if it.about == EVERY_NAME), None)
     if sweep:
         return kind, sweep
@@ -80,4 +81,4 @@ def name_cause(finding: Finding) -> Hashable:
 
 def name_place(call: Call) -> str:
     """Where a call comes from: its place in the program, or its rank where that isn't known."""
-    return call.place or call.rank.name
+    return find_own(call) or call.rank.name

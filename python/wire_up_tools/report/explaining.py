@@ -2,12 +2,15 @@
 from collections.abc import Sequence
 from typing import Optional
 
-from wire_up_tools.report.barriers import say_turns
+from wire_up_tools.plan import Call
+from wire_up_tools.report.barriers import find_move, name_barrier, say_turns
 from wire_up_tools.report.findings import LOOKUPS, Finding, Kind
-from wire_up_tools.report.language import name_verb
+from wire_up_tools.report.language import name_bare, name_verb
 from wire_up_tools.report.messages import find_late, mend_late
 from wire_up_tools.report.orders import Order
-from wire_up_tools.report.readers import find_readers, say_readers
+from wire_up_tools.report.phrases import VALUE_WIDTH, cut
+from wire_up_tools.report.places import name_shown
+from wire_up_tools.report.readers import find_readers, name_readers, say_readers
 
 # How many keys or names a title has.
 SHOWN = 3
@@ -19,7 +22,6 @@ BY_HAND = {
     "lookup_wait": "lookup-wait",
     "use_get": "use get in place of get-now",
     "use_wait": "use lookup-wait in place of lookup",
-    "barrier": "a fence of a set that has both ranks",
 }
 IN_PROGRAM = {
     "get_now": "PMIx_Get with PMIX_IMMEDIATE or PMIX_OPTIONAL",
@@ -27,15 +29,8 @@ IN_PROGRAM = {
     "lookup_wait": "PMIx_Lookup with PMIX_WAIT",
     "use_get": "leave out PMIX_IMMEDIATE and PMIX_OPTIONAL, so that the get waits",
     "use_wait": "wait for the name with PMIX_WAIT",
-    "barrier": (
-        "a barrier of all ranks of the communicator, or a PMIx_Fence of a set that has both ranks,"
-    ),
 }
 
-MEANING_OF_REWRITE = (
-    "When a rank puts a key again, its next commit replaces the old value. "
-    "A rank that gets the key may see the one value or the other."
-)
 # What a race on a key means, by the verb of the call that brings the key.
 MEANING_OF_KEY = {
     "fence": (
@@ -72,27 +67,28 @@ MEANING_OF_LOOKUP_WAIT = (
     "so {lookup_wait} may find one value or another, or wait for ever."
 )
 
-FIX_OF_REWRITE = "Use a key of its own for each value."
+FIXES_OF_REWRITE = ("put the key once", "put each value under a key of its own")
 FIX_OF_FENCE = (
-    "Let the reader meet in the fence itself: "
-    "make its rank a member, and let it ask after the fence."
+    "let the reader meet in the fence itself: "
+    "make its rank a member, and let it ask after the fence"
 )
 FIX_BY_WAITING = "{use_wait}: it is published once and never taken away"
-FIX_BY_FENCE = "put {barrier} between the two calls"
 NO_WAIT = (
-    " No wait for the name orders them: it is published more than once or taken away again."
+    ". No wait for the name orders them: it is published more than once or taken away again"
 )
 
 
-def title(finding: Finding, abouts: Sequence[str] = ()) -> str:
+def title(finding: Finding, abouts: Sequence[str] = (), order: Optional[Order] = None) -> str:
     """What findings of one cause are, in one line, by the first, and by all keys or names if they
-    have several."""
+    have several; with the order, also who reads a key that is put twice."""
     (one, other), what = finding.verbs, say_what(finding, abouts)
     recorded = finding.first.rank.is_recorded
     said, said_too = name_verb(one, recorded), name_verb(other, recorded)
     has_many = len(abouts) > 1
     if finding.kind is Kind.REWRITE:
-        return f"{what[0].upper()}{what[1:]} {'are' if has_many else 'is'} put again"
+        either = find_readers(order, finding).either if order and not has_many else ()
+        more = f": {name_readers(either)} may get either value" if either else ""
+        return f"{finding.owner} puts {what} twice{more}"
     if finding.kind is Kind.KEY:
         bringer = name_verb(finding.bringer, recorded)
         early = f"can come before the {bringer} that brings {'them' if has_many else 'it'}"
@@ -126,8 +122,30 @@ def quote(finding: Finding, about: str) -> str:
 def explain(finding: Finding, order: Order) -> str:
     """What a finding means."""
     if finding.kind is Kind.REWRITE:
-        return f"{MEANING_OF_REWRITE} {say_readers(find_readers(order, finding))}"
+        return explain_rewrite(finding, order)
     return say(choose_meaning(finding), finding)
+
+
+def explain_rewrite(finding: Finding, order: Order) -> str:
+    """What it means that a key is put twice."""
+    spots = [name_shown(order.plan, it) for it in finding.calls]
+    one, other = map(order.uses.find_commit, finding.calls)
+    puts = f"{finding.owner} puts it at {spots[0]} and again at {spots[1]}"
+    if not other:
+        return f"{puts}. No commit follows, so no other rank sees the second value."
+    if one is other:
+        return f"{puts}. One commit follows both, so other ranks see only the second value."
+    replaced = f"the next {name_bare(other)} replaces the first value by the second"
+    return f"{puts}; {replaced}. {say_readers(order.plan, find_readers(order, finding))}"
+
+
+def role(finding: Finding, call: Call) -> str:
+    """What a call does that is told of a key that is put twice; nothing for another finding."""
+    if finding.kind is not Kind.REWRITE:
+        return ""
+    value = cut(call.words[-1], VALUE_WIDTH)
+    said = {finding.first: f"first value: {value}", finding.second: f"second value: {value}"}
+    return said.get(call, "reads it")
 
 
 def say(text: str, finding: Finding) -> str:
@@ -147,19 +165,24 @@ def choose_meaning(finding: Finding) -> str:
 
 
 def fix(finding: Finding, order: Order) -> str:
-    """How a finding is mended."""
+    """How a finding is mended, in a sentence."""
+    said = "; or ".join(list_fixes(finding, order))
+    return f"{said[0].upper()}{said[1:]}."
+
+
+def list_fixes(finding: Finding, order: Order) -> list[str]:
+    """The ways in which a finding is mended, without their full stops."""
     if finding.kind is Kind.REWRITE:
-        return FIX_OF_REWRITE
+        return list_rewrite_fixes(finding, order)
     if finding.kind is Kind.KEY and finding.bringer == "fence":
-        return FIX_OF_FENCE
+        return [FIX_OF_FENCE]
     late, wait = find_late(order, finding), choose_wait(finding, order)
-    ways = [mend_late(late)] if late else []
+    ways = mend_late(order.plan, late) if late else []
     ways += [say(wait, finding)] if wait else []
     # A barrier may keep a message from its receive, so it isn't named beside one.
     ways += [] if late else [say_barrier(finding, order)]
-    said = "; or ".join(ways)
     no_wait = NO_WAIT if finding.verbs == ("lookup", "publish") and not wait else ""
-    return f"{said[0].upper()}{said[1:]}.{no_wait}"
+    return [*ways[:-1], ways[-1] + no_wait]
 
 
 def choose_wait(finding: Finding, order: Order) -> Optional[str]:
@@ -172,9 +195,29 @@ def choose_wait(finding: Finding, order: Order) -> Optional[str]:
     return FIX_BY_WAITING if is_open else None
 
 
+def list_rewrite_fixes(finding: Finding, order: Order) -> list[str]:
+    """How it is mended that a key is put twice."""
+    commit = order.uses.find_commit(finding.second)
+    either = find_readers(order, finding).either
+    gets = list({it.rank: it for it in reversed(either)}.values())
+    if not commit or not gets or order.plan.declared.keeps or any(it.verb != "get" for it in gets):
+        return [*FIXES_OF_REWRITE]
+    barrier = name_barrier(order.plan, commit, gets[0])
+    turns = say_turns(order, commit, [*reversed(gets)])
+    by_barrier = (
+        f"if the second value is meant, put {barrier} between the {name_bare(commit)} and the "
+        f"{name_bare(gets[0])}: {turns}. The second put is still reported then"
+    )
+    return [*FIXES_OF_REWRITE, by_barrier]
+
+
 def say_barrier(finding: Finding, order: Order) -> str:
-    """The fix by a barrier, with which call it lets come first."""
-    leader, fence = finding.leader, say(FIX_BY_FENCE, finding)
-    if not leader:
-        return f"{fence}, so that the same one always comes first"
-    return f"{fence}: {say_turns(order, finding, leader)}"
+    """The fix by a barrier: one that is there, or else who calls a new one where."""
+    leader = finding.leader or finding.first
+    move = find_move(order, finding, leader)
+    if move:
+        return move.say(order.plan)
+    other = finding.find_other(leader)
+    barrier, turns = name_barrier(order.plan, leader, other), say_turns(order, leader, [other])
+    first = f"the {name_bare(leader)}{'' if finding.leader else f' of {leader.rank.name}'}"
+    return f"put {barrier} between the two calls: {turns}. So {first} comes first"

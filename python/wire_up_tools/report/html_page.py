@@ -6,8 +6,7 @@ import datetime
 import itertools
 from collections.abc import Sequence
 
-from wire_up_tools import words
-from wire_up_tools.plan import Call
+from wire_up_tools.plan import Call, Plan
 from wire_up_tools.report import explaining, verdict
 from wire_up_tools.report.causes import Cause
 from wire_up_tools.report.contents import ENDINGS, MORE_CAUSES, Detail, Report, WireUp
@@ -20,7 +19,7 @@ from wire_up_tools.report.messages import explain_late, find_late
 from wire_up_tools.report.page_style import STYLE
 from wire_up_tools.report.phrases import VALUE_WIDTH, count_of, cut, describe_circle, pick
 from wire_up_tools.report.placements import Placed
-from wire_up_tools.report.places import list_around
+from wire_up_tools.report.places import list_places, say_place
 from wire_up_tools.report.plan_page import write_plan
 from wire_up_tools.report.readers import list_told
 from wire_up_tools.report.runs import Outcome, Run, Runs
@@ -50,7 +49,7 @@ def write_page(report: Report) -> str:
     parts = [write_header(report)]
     parts += [write_detail(report, number, it) for number, it in enumerate(report.details, 1)]
     parts += [write_others(report)] if report.others else []
-    parts += [write_wire_up(report.wire_up)] if report.wire_up else []
+    parts += [write_wire_up(report.plan, report.wire_up)] if report.wire_up else []
     placed = enumerate(elsewhere.placed if elsewhere else (), 1)
     parts += [write_placed(report, number, it) for number, it in placed]
     judged = report.judged
@@ -88,7 +87,7 @@ def choose_badge(report: Report) -> tuple[str, str]:
     """The kind of the verdict, and its words."""
     if report.causes:
         has_race = any(it.first.kind is not Kind.REWRITE for it in report.causes)
-        return "found", "races found" if has_race else "keys put again"
+        return "found", "races found" if has_race else "key put twice"
     if report.reasons:
         return "partly", "in part"
     if report.elsewhere and (report.elsewhere.causes or report.elsewhere.fault):
@@ -111,14 +110,14 @@ def write_contents(report: Report) -> str:
     """A list of the causes that are told in full."""
     rows = []
     for number, detail in enumerate(report.details, 1):
-        link = f'<a href="#cause-{number}">{write_title(detail.cause)}</a>'
+        link = f'<a href="#cause-{number}">{write_title(report, detail.cause)}</a>'
         rows.append(f"<li>{link} {write_count(f'{detail.cause.count:,}')}</li>")
     return f"<ol>{''.join(rows)}</ol>"
 
 
-def write_title(cause: Cause) -> str:
+def write_title(report: Report, cause: Cause) -> str:
     """What a cause is, in one line."""
-    return escape(explaining.title(cause.first, cause.abouts))
+    return escape(explaining.title(cause.first, cause.abouts, report.order))
 
 
 def write_count(said: str) -> str:
@@ -132,19 +131,18 @@ def write_count(said: str) -> str:
 def write_detail(report: Report, number: int, detail: Detail) -> str:
     """A cause that is told in full."""
     cause, one = detail.cause, detail.cause.first
-    title = f"{number}. {write_title(cause)} {write_count(verdict.say_count(cause))}"
-    fix = escape(explaining.fix(one, report.order))
+    title = f"{number}. {write_title(report, cause)} {write_count(verdict.say_count(cause))}"
     calls = " and ".join(f"{it.name} {name_kind(it)}" for it in one.calls)
     figure = draw_figure(detail.diagram, f"Diagram: {calls}", f"diagram-{number}")
     parts = [
         f'<section id="cause-{number}" class="found"><h2>{title}</h2>',
-        write_calls(report, list_told(report.order, one)),
+        write_calls(report, one, list_told(report.order, one)),
         f"<p>{escape(explaining.explain(one, report.order))}</p>",
         *write_late(report, one),
-        f'<p class="fix"><strong>Fix:</strong> {fix}</p>',
+        write_fix(report, one),
         f'<div class="both">{figure}{write_runs(report, one, detail.runs)}</div>',
     ]
-    parts += [write_pairs(cause.group)] if cause.group.count > 1 else []
+    parts += [write_pairs(report.plan, cause.group)] if cause.group.count > 1 else []
     parts += [write_alike(cause)] if len(cause.groups) > 1 else []
     return "\n".join([*parts, "</section>"])
 
@@ -153,35 +151,45 @@ def write_placed(report: Report, number: int, placed: Placed) -> str:
     """A cause that is found on another placement only, with its diagram there."""
     cause, one = placed.cause, placed.cause.first
     count = write_count(verdict.say_count(cause))
-    where, fix = escape(verdict.say_ranks(placed)), escape(explaining.fix(one, report.order))
+    where = escape(verdict.say_ranks(placed))
     about = f"Diagram: {verdict.say_ranks(placed)}"
     figure = draw_figure(placed.diagram, about, f"placement-{number}")
     command = escape(f"wire_up place {','.join(placed.ranks)} {report.plan_name}")
     parts = [
-        f'<section class="found"><h2>{where}: {write_title(cause)} {count}</h2>',
-        write_calls(report, one.calls),
+        f'<section class="found"><h2>{where}: {write_title(report, cause)} {count}</h2>',
+        write_calls(report, one, one.calls),
         f"<p>{escape(explaining.explain(one, report.order))}</p>",
-        f'<p class="fix"><strong>Fix:</strong> {fix}</p>',
+        write_fix(report, one),
         f'<div class="both">{figure}{write_runs(report, one, placed.runs)}</div>',
         f"<p>This placement as a plan: <code>{command}</code></p></section>",
     ]
     return "\n".join(parts)
 
 
+def write_fix(report: Report, finding: Finding) -> str:
+    """How a finding is mended: one way, or a list of them."""
+    ways = [f"{it[0].upper()}{it[1:]}." for it in explaining.list_fixes(finding, report.order)]
+    if len(ways) == 1:
+        return f'<p class="fix"><strong>Fix:</strong> {escape(ways[0])}</p>'
+    rows = "".join(f"<li>{escape(it)}</li>" for it in ways)
+    return f'<div class="fix"><strong>Fix:</strong> one of these<ul>{rows}</ul></div>'
+
+
 def write_late(report: Report, finding: Finding) -> list[str]:
     """The message that would order the calls of a finding, if there is one."""
     late = find_late(report.order, finding)
-    return [f"<p>{escape(explain_late(late))}</p>"] if late else []
+    return [f"<p>{escape(explain_late(report.plan, late))}</p>"] if late else []
 
 
-def write_calls(report: Report, calls: Sequence[Call]) -> str:
-    """Calls with their lines and places."""
+def write_calls(report: Report, finding: Finding, calls: Sequence[Call]) -> str:
+    """Calls that are told of a finding, with their lines and places."""
     has_places = any(it.place for it in calls)
     in_plan = f"line in the {'recorded ' * report.plan.is_recorded}plan"
     heads = ["rank", "call", *["in the program"] * has_places, in_plan]
     rows = ["".join(f"<th>{it}</th>" for it in heads)]
     for call in calls:
-        cells = [escape(call.rank.name), escape(f"{call.number} {name_kind(call)}")]
+        role = write_beside([explaining.role(finding, call)])
+        cells = [escape(call.rank.name), escape(f"{call.number} {name_kind(call)}") + role]
         cells += [write_place(report, call)] if has_places else []
         cells.append(link_to_call(call, f"{report.plan_name}:{call.line}"))
         rows.append("".join(f"<td>{it}</td>" for it in cells))
@@ -190,11 +198,14 @@ def write_calls(report: Report, calls: Sequence[Call]) -> str:
 
 
 def write_place(report: Report, call: Call) -> str:
-    """Where in the program a call comes from, and below that what comes before and after a
-    helper."""
-    around = list_around(report.plan, call)
-    below = "".join(f'<span class="around">{escape(it)}</span>' for it in around)
-    return f"<strong>{escape(call.place or words.UNKNOWN_PLACE)}</strong>{below}"
+    """Where in the program a call comes from, and below that the line of a helper."""
+    first, *beside = list_places(report.plan, call)
+    return f"<strong>{escape(first)}</strong>{write_beside(beside)}"
+
+
+def write_beside(said: Sequence[str]) -> str:
+    """What stands below the first line of a cell."""
+    return "".join(f'<span class="around">{escape(it)}</span>' for it in said if it)
 
 
 def link_to_call(call: Call, said: str) -> str:
@@ -202,9 +213,9 @@ def link_to_call(call: Call, said: str) -> str:
     return f'<a href="#line-{call.line}">{escape(said)}</a>'
 
 
-def link_with_place(call: Call) -> str:
+def link_with_place(plan: Plan, call: Call) -> str:
     """A call as a link to its line, with its place in the program."""
-    place = f" ({escape(call.place)})" if call.place else ""
+    place = f" ({escape(say_place(plan, call))})" if call.place else ""
     return link_to_call(call, f"{call.name} {name_kind(call)}") + place
 
 
@@ -252,9 +263,9 @@ def write_steps(report: Report, finding: Finding, which: str, run: Run) -> str:
     return f'<details class="meta"><summary>{title}</summary><pre>{steps}</pre></details>'
 
 
-def write_pairs(group: Group) -> str:
+def write_pairs(plan: Plan, group: Group) -> str:
     """The pairs of a group after the first."""
-    pairs = [" and ".join(map(link_with_place, it.calls)) for it in group.others]
+    pairs = [" and ".join(link_with_place(plan, it) for it in one.calls) for one in group.others]
     rest = group.count - 1 - len(pairs)
     more = f"<p>{rest:,} more: {LISTS_ALL}</p>" if rest else ""
     ranks = f", {count_of(group.rank_count, 'rank')} in all" if group.rank_count else ""
@@ -285,7 +296,8 @@ def link_to_calls(group: Group) -> str:
 def write_others(report: Report) -> str:
     """The causes that aren't told in full."""
     rows = [
-        f"<li>{write_title(it)} {write_count(f'{it.count:,}')}: {link_to_calls(it.group)}</li>"
+        f"<li>{write_title(report, it)} {write_count(f'{it.count:,}')}: "
+        f"{link_to_calls(it.group)}</li>"
         for it in report.others[:MORE_CAUSES]
     ]
     rest = len(report.others) - len(rows)
@@ -297,33 +309,35 @@ def write_others(report: Report) -> str:
 # --- a plan without findings ---
 
 
-def write_wire_up(wire_up: WireUp) -> str:
+def write_wire_up(plan: Plan, wire_up: WireUp) -> str:
     """The diagram of a wire-up, which calls fail, and who waits for ever."""
     parts = []
     if wire_up.diagram.rows:
         figure = draw_figure(wire_up.diagram, "Diagram of the wire-up", "diagram")
         parts += ["<section><h2>The wire-up</h2>", figure, "</section>"]
-    parts += [write_failures(wire_up)] if wire_up.failed else []
-    parts += [write_waits(wire_up)] if wire_up.waits else []
+    parts += [write_failures(plan, wire_up)] if wire_up.failed else []
+    parts += [write_waits(plan, wire_up)] if wire_up.waits else []
     return "\n".join(parts)
 
 
-def write_failures(wire_up: WireUp) -> str:
+def write_failures(plan: Plan, wire_up: WireUp) -> str:
     """The calls that fail, with their replies."""
     title = count_of(wire_up.failed, "call fails", "calls fail")
     shown = wire_up.failures
-    rows = "".join(f"<li>{link_with_place(it.call)}: {escape(it.reply)}</li>" for it in shown)
+    said = ((link_with_place(plan, it.call), escape(it.reply)) for it in shown)
+    rows = "".join(f"<li>{call}: {reply}</li>" for call, reply in said)
     rest = wire_up.failed - len(shown)
     more = f"<p>And {count_of(rest, 'other call')}.</p>" if rest else ""
     return f"<section><h2>{title}</h2><ul>{rows}</ul>{more}</section>"
 
 
-def write_waits(wire_up: WireUp) -> str:
+def write_waits(plan: Plan, wire_up: WireUp) -> str:
     """Who waits for ever, and why."""
     count = len(wire_up.waits)
     title = f"{count_of(count, 'rank waits', 'ranks wait')} for ever"
     shown = wire_up.waits[:PAIRS]
-    rows = "".join(f"<li>{link_with_place(it.call)}: {escape(it.reason)}</li>" for it in shown)
+    said = ((link_with_place(plan, it.call), escape(it.reason)) for it in shown)
+    rows = "".join(f"<li>{call}: {reason}</li>" for call, reason in said)
     more = f"<p>And {count_of(count - PAIRS, 'other rank')}.</p>" if count > PAIRS else ""
     circle = escape(describe_circle(wire_up.circle)) if wire_up.circle else ""
     parts = [f"<section><h2>{title}</h2>"]

@@ -3,11 +3,11 @@ from collections.abc import Sequence
 from dataclasses import dataclass
 from typing import Optional
 
-from wire_up_tools.plan import Call
+from wire_up_tools.plan import Call, Plan
 from wire_up_tools.report.findings import Finding, Kind
 from wire_up_tools.report.language import find_message, is_from_any, name_bare, name_kind
 from wire_up_tools.report.orders import Order
-from wire_up_tools.report.places import list_later, name_spot
+from wire_up_tools.report.places import list_later, name_spot, tell_call
 
 
 @dataclass(frozen=True)
@@ -41,7 +41,7 @@ def find_late(order: Order, finding: Finding) -> Optional[Late]:
     return None
 
 
-def explain_late(late: Late) -> str:
+def explain_late(plan: Plan, late: Late) -> str:
     """When the message comes, and what it would do if it came in time."""
     sent, received = late.sent, late.received
     sender, receiver = sent.rank.name, received.rank.name
@@ -51,13 +51,14 @@ def explain_late(late: Late) -> str:
     source = f" from {sender}" if is_any else ""
     return (
         f"{sender} sends {receiver} a message after its {after} ({name_kind(sent)}, at "
-        f"{name_spot(sent)}), but {receiver} {why} at {name_spot(received)}. "
+        f"{name_spot(plan, sent)}), but {receiver} {why} at {name_spot(plan, received)}. "
         f"If {receiver} received it{source} before its {before}, the {after} would come first."
     )
 
 
-def mend_late(late: Late) -> str:
-    """The fix by which the message comes in time."""
-    sender, where = late.sent.rank.name, name_spot(late.before)
-    source = f", from {sender} in place of any source" if is_from_any(late.received) else ""
-    return f"let {late.received.rank.name} receive {sender}'s message before {where}{source}"
+def mend_late(plan: Plan, late: Late) -> list[str]:
+    """The fixes by which the message comes in time."""
+    before = tell_call(plan, late.before)
+    moved = f"move the {before} after the {tell_call(plan, late.received)}"
+    named = f"receive from {late.sent.rank.name}, in place of any source, before the {before}"
+    return [moved, *[named] * is_from_any(late.received)]

@@ -50,6 +50,7 @@ figcaption .hint{display:none}@media (max-width:30rem){figcaption .hint{display:
 .runs{border-left:3px solid var(--line);padding-left:.8rem}.runs dl{margin:0}\
 .runs dt{margin-top:.5rem;font-weight:600}.runs dd{margin:0}
 .fix{border-left:3px solid var(--quiet);padding-left:.8rem}\
+.fix ul{margin:.1rem 0;padding-left:1.2rem}\
 .part{border-left:3px solid var(--loud);padding-left:.8rem}
 details{margin:.5rem 0}summary{cursor:pointer}
 pre{margin:.4rem 0;overflow-x:auto}\

@@ -29,6 +29,11 @@ def list_names(names: Sequence[str]) -> str:
     return shown if len(names) <= NAMES else f"{shown} and {len(names) - NAMES:,} more"
 
 
+def name_all(names: Sequence[str]) -> str:
+    """Names as a sentence has them."""
+    return " and ".join(names) if len(names) == 2 else list_names(names)
+
+
 def describe_circle(circle: Sequence[str]) -> str:
     """Names of ranks that wait for each other in a circle, in words."""
     shown = [*circle[1:9], *([".."] if len(circle) > 9 else []), circle[0]]

@@ -6,8 +6,8 @@ from dataclasses import dataclass
 from wire_up_tools.plan import Call, Plan, Series
 from wire_up_tools.report.findings import Finding, Kind
 from wire_up_tools.report.orders import START, Order
-from wire_up_tools.report.phrases import list_names, pick
-from wire_up_tools.report.places import name_spot
+from wire_up_tools.report.phrases import name_all, pick
+from wire_up_tools.report.places import name_shown
 
 # How many gets of a key are looked at.
 MOST = 40
@@ -58,23 +58,27 @@ def list_told(order: Order, finding: Finding) -> Sequence[Call]:
     return [*finding.calls, *find_readers(order, finding).calls[:1]]
 
 
-def say_readers(readers: Readers) -> str:
+def say_readers(plan: Plan, readers: Readers) -> str:
     """Who reads the key and where, and whether the get may give either value."""
     if not readers.calls:
         return "No other rank gets it in this plan."
     if not readers.either:
-        return f"{say_who(readers.others)}."
+        return f"{say_who(plan, readers.others)}, always before or always after that."
     which = pick(len(readers.either), "this get", "each of these gets")
     return (
-        f"{say_who(readers.either)}, and nothing orders that with the second commit: "
+        f"{say_who(plan, readers.either)}, and nothing orders that with this commit: "
         f"{which} may give either value."
     )
 
 
-def say_who(calls: Sequence[Call]) -> str:
+def say_who(plan: Plan, calls: Sequence[Call]) -> str:
     """Which ranks get the key, and where in the program."""
-    names = list(dict.fromkeys(it.rank.name for it in calls))
-    spots = list(dict.fromkeys(name_spot(it) for it in calls if it.place))
-    where = f" at {list_names(spots)}" if spots else ""
-    said = " and ".join(names) if len(names) == 2 else list_names(names)
-    return f"{said} {pick(len(names), 'gets', 'get')} it{where}"
+    spots = list(dict.fromkeys(name_shown(plan, it) for it in calls if it.place))
+    where = f" at {name_all(spots)}" if spots else ""
+    is_one = len({it.rank for it in calls})
+    return f"{name_readers(calls)} {pick(is_one, 'gets', 'get')} it{where}"
+
+
+def name_readers(calls: Sequence[Call]) -> str:
+    """The ranks that make some calls."""
+    return name_all(list(dict.fromkeys(it.rank.name for it in calls)))

@@ -8,7 +8,7 @@ from collections.abc import Mapping, Sequence
 from dataclasses import dataclass
 from typing import Any, Optional
 
-from wire_up_tools.plan import Call
+from wire_up_tools.plan import Call, Plan
 from wire_up_tools.report import explaining
 from wire_up_tools.report.causes import Cause
 from wire_up_tools.report.contents import Report
@@ -16,6 +16,7 @@ from wire_up_tools.report.findings import Finding, Kind
 from wire_up_tools.report.language import name_kind
 from wire_up_tools.report.patterns import PLAN_NAME
 from wire_up_tools.report.phrases import count_of
+from wire_up_tools.report.places import choose_place, list_frames, say_place
 
 SCHEMA = "https://json.schemastore.org/sarif-2.1.0.json"
 NOT_WAITING = "A get that doesn't wait"
@@ -28,7 +29,7 @@ RULES = {
     ),
     "fence-race": f"{NOT_WAITING}, and the fence that brings its key, {EITHER_ORDER}",
     "name-race": f"Two calls on a published name {EITHER_ORDER}",
-    "rewrite": "A key is put again",
+    "rewrite": "A key is put twice",
 }
 # How a place ends: with the name of a file and a line.
 PLACE = re.compile(r".*\((.+):([1-9]\d{0,8})\)")
@@ -93,7 +94,8 @@ def make_result(report: Report, cause: Cause, source: Source) -> dict[str, Any]:
     one, rule = cause.first, choose_rule(cause.first)
     names = {it: f"{it.name} {name_kind(it)}" for it in one.calls}
     fix = explaining.fix(one, report.order)
-    title = f"{explaining.title(one, cause.abouts)} ({count_of(cause.count, 'finding')})."
+    title = explaining.title(one, cause.abouts, report.order)
+    meaning = f"({count_of(cause.count, 'finding')}). {explaining.explain(one, report.order)}"
     plan = PLAN_NAME if report.pattern else "the plan"
     in_plan = [
         {
@@ -102,16 +104,25 @@ def make_result(report: Report, cause: Cause, source: Source) -> dict[str, Any]:
         }
         for number, it in enumerate(one.calls, 1)
     ]
-    in_program = [make_location(source, locate(report, it, source), names[it]) for it in one.calls]
+    in_program = [
+        make_location(source, locate(report, it, source), say_call(report.plan, it))
+        for it in one.calls
+    ]
     return {
         "ruleId": rule,
         "ruleIndex": list(RULES).index(rule),
         "level": "warning",
-        "message": make_message(f"{title} {explaining.explain(one, report.order)} Fix: {fix}"),
+        "message": make_message(f"{title} {meaning} Fix: {fix}"),
         "locations": in_program,
         "relatedLocations": in_plan,
         "partialFingerprints": {"group/v1": one.mistake},
     }
+
+
+def say_call(plan: Plan, call: Call) -> str:
+    """A call with where it comes from, if that is more than one line."""
+    where = f", {say_place(plan, call)}" if len(list_frames(call)) > 1 else ""
+    return f"{call.name} {name_kind(call)}{where}"
 
 
 def choose_rule(finding: Finding) -> str:
@@ -131,7 +142,7 @@ def locate(report: Report, call: Call, source: Source) -> Location:
 
     A place has only the name of a file: its path is found if one file alone has that name.
     """
-    read = PLACE.fullmatch(call.place or "")
+    read = PLACE.fullmatch(choose_place(report.plan, call))
     if not read:
         return locate_in_plan(report, call, source)
     found = source.paths.get(read[1], ())

@@ -5,7 +5,7 @@ from collections.abc import Iterable
 from wire_up_tools.plan import Call
 from wire_up_tools.report import explaining, verdict
 from wire_up_tools.report.contents import ENDINGS, Detail, Report, WireUp
-from wire_up_tools.report.findings import PAIRS
+from wire_up_tools.report.findings import PAIRS, Finding
 from wire_up_tools.report.language import name_kind
 from wire_up_tools.report.library_page import say_library, write_library_text
 from wire_up_tools.report.markup import REPLACEMENT
@@ -60,11 +60,11 @@ def write_detail(report: Report, number: int, detail: Detail) -> list[str]:
     one, count = cause.first, verdict.say_count(cause)
     late = find_late(report.order, one)
     return [
-        f"{number}. {explaining.title(one, cause.abouts)} ({count})",
-        *(f"   {describe_call(report, it)}" for it in list_told(report.order, one)),
+        f"{number}. {explaining.title(one, cause.abouts, report.order)} ({count})",
+        *(f"   {describe_told(report, one, it)}" for it in list_told(report.order, one)),
         "",
         f"   {explaining.explain(one, report.order)}",
-        *([f"   {explain_late(late)}"] if late else []),
+        *([f"   {explain_late(report.plan, late)}"] if late else []),
         f"   Fix: {explaining.fix(one, report.order)}",
         "",
         *draw_lines(detail.diagram),
@@ -76,7 +76,7 @@ def write_detail(report: Report, number: int, detail: Detail) -> list[str]:
 def write_placed(report: Report, placed: Placed) -> list[str]:
     """A cause that is found on another placement only."""
     cause, one = placed.cause, placed.cause.first
-    title = f"{explaining.title(one, cause.abouts)} ({verdict.say_count(cause)})"
+    title = f"{explaining.title(one, cause.abouts, report.order)} ({verdict.say_count(cause)})"
     return [
         f"{verdict.say_ranks(placed)}: {title}",
         *(f"   {describe_call(report, it)}" for it in one.calls),
@@ -87,6 +87,12 @@ def write_placed(report: Report, placed: Placed) -> list[str]:
         *write_runs(placed.runs),
         f"   This placement as a plan: wire_up place {','.join(placed.ranks)} {report.plan_name}",
     ]
+
+
+def describe_told(report: Report, finding: Finding, call: Call) -> str:
+    """A call that is told of a finding."""
+    role = explaining.role(finding, call)
+    return ", ".join(filter(None, [describe_call(report, call), role]))
 
 
 def describe_call(report: Report, call: Call) -> str:

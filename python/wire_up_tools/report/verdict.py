@@ -118,7 +118,7 @@ def say_races(report: Report) -> str:
     if count > rewrites:
         said.append(count_of(count - rewrites, "race"))
     if rewrites:
-        said.append(count_of(rewrites, "key that is put again", "puts of a key again"))
+        said.append(count_of(rewrites, "key put twice", "puts of keys put before"))
     is_cut = sum(len(it.groups) for it in report.causes) >= MOST_GROUPS
     return "at least " * is_cut + " and ".join(said)
 
@@ -146,7 +146,7 @@ def say_doubt(report: Report) -> str:
     if any(it.first.kind is not Kind.REWRITE for it in report.causes):
         return "The replies of some calls may depend on which rank is fast."
     return (
-        "A rank that gets such a key may see its old value or its new one: a bug, unless either "
+        "A rank that gets such a key may see its first value or its second: a bug, unless either "
         "will do."
     )
 
