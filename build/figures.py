@@ -135,6 +135,14 @@ def rows_of(measured: Iterable[Measured], least: int) -> Iterator[list[str]]:
         ]
 
 
+def report_rows(check: Taken, report: Taken, least: int) -> Iterator[list[str]]:
+    """The rows of a check, and of the report that asks for it."""
+    for name, it in (("check", check), ("wire_up-report", report)):
+        times = it.processor / check.processor if check.processor else 0
+        spent = f"{it.processor:.1f}"
+        yield [f"`{name} --large`", seconds(it), spent, f"{times:.1f}", mebibytes(it, least)]
+
+
 def replayed(taken: Taken, least: int) -> tuple[str, str]:
     """The time and the size of a replay."""
     return seconds(taken), mebibytes(taken, least)
@@ -196,8 +204,8 @@ def page(figures: Figures) -> str:
     least, today = floor(), datetime.date.today().isoformat()
     near = table(heads, rows_of(figures.near_the_limits(), least))
     large = table(heads, rows_of(figures.of_machines(), least))
-    check, report = figures.of_a_report()
-    of_report = f"{seconds(report)} s and {mebibytes(report, least)} MiB"
+    reported = report_rows(*figures.of_a_report(), least)
+    report = table(("command", "s", "processor time, s", "times that of `check`", "MiB"), reported)
     return f"""\
 # Figures
 
@@ -215,9 +223,9 @@ in memory, so of more than {MOST_REPLAYED:,} ranks only `check` is measured.
 {large}
 ## A report
 
-`wire_up-report` of `cards.py 8 {CARDS}` takes {of_report}, with the runs of the checker, of which
-`check` alone takes {seconds(check)} s.
+Of `cards.py 8 {CARDS}`, with the runs of the checker:
 
+{report}
 ## Proofs
 
 {proofs()}"""

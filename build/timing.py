@@ -18,11 +18,12 @@ class Command:
 
 @dataclass(frozen=True)
 class Taken:
-    """What a run took: its seconds, with the start of the process in them, and its greatest
-    resident size in KiB."""
+    """What a run took: its seconds, with the start of the process in them, its greatest resident
+    size in KiB, and the seconds of processor time, with those of what it ran."""
 
     seconds: float
     size: int
+    processor: float
 
 
 def run(command: Command) -> Taken:
@@ -38,14 +39,19 @@ def run(command: Command) -> Taken:
     it.returncode = os.waitstatus_to_exitcode(status)
     if it.returncode not in (0, 1):
         sys.exit(f"{' '.join(command.words)}: exit status {it.returncode}")
-    return Taken(seconds, used.ru_maxrss)
+    return Taken(seconds, used.ru_maxrss, used.ru_utime + used.ru_stime)
 
 
 def best_of(runs: int, commands: Sequence[Command]) -> list[Taken]:
-    """The least seconds and the greatest size of each command, run by turns."""
+    """The least times and the greatest size of each command, run by turns."""
     took = [[run(it) for it in commands] for _ in range(runs)]
     return [
-        Taken(min(it.seconds for it in each), max(it.size for it in each)) for each in zip(*took)
+        Taken(
+            min(it.seconds for it in each),
+            max(it.size for it in each),
+            min(it.processor for it in each),
+        )
+        for each in zip(*took)
     ]
 
 

@@ -37,6 +37,9 @@ class Page(unittest.TestCase):
         for name in [it.name for it in bench_plans.KINDS] + [it.name for it in LARGE_PLANS]:
             with self.subTest(name):
                 self.assertIn(f"\n| {name}: ", text)
+        for command in ("check", "wire_up-report"):
+            row = rf"\n\| `{command} --large` \|( [\d.]+ \|){{3}} (under )?[\d.]+ \|\n"
+            self.assertRegex(text, row)
         prose = re.sub(r"(?m)^\|.*\n", "", text)
         self.assertLessEqual(len(prose.split()), MOST_WORDS)
 
