@@ -311,10 +311,14 @@ class OtherWaysTest(LiveTest):
         self.hold("mixed-barrier")
         self.hold("fortran")
         source = read_file(os.path.join(PROGRAMS, "fortran.f90")).splitlines()
-        line = 1 + next(n for n, text in enumerate(source) if 'Publish_name("old"' in text)
+        called, line = (
+            1 + next(n for n, text in enumerate(source) if wanted in text)
+            for wanted in ("call old_way(rank)", 'Publish_name("old"')
+        )
         number = read_scripts(read_file(self.plan))[0].index("publish old port") + 1
         found = run_recorder("--where", "app:0", str(number), self.plan).stdout
-        self.assertEqual(found, f"old_way_ (fortran.f90:{line})\n")
+        place = f"MAIN__ (fortran.f90:{called}) -> old_way_ (fortran.f90:{line})"
+        self.assertEqual(found, f"{place}\n")
 
 
 class MessagesTest(LiveTest):
