@@ -106,7 +106,8 @@ static struct place *make_place(const void *address, struct place *outer)
     return made;
 }
 
-static struct place *find_in_list(struct place *first, const void *address, struct place *outer)
+static struct place *find_in_list(struct place *first, const void *address,
+                                  const struct place *outer)
 {
     struct place *it = first;
     while (it && (it->address != address || it->outer != outer))
