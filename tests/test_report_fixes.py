@@ -126,6 +126,8 @@ class BarriersTest(unittest.TestCase):
         gone = "# at main (m.c:7)\nunpublish port\n"
         said = fix(read(PUBLISH + BARRIER + gone, LOOKUP + BARRIER), "race a:0 1 a:1 1 name port")
         self.assertIn("Put an MPI_Barrier of MPI_COMM_WORLD", said)
+        why = "To wait for it with PMIX_WAIT isn't enough: the name is taken away again."
+        self.assertTrue(said.endswith(f"comes first. {why}"), said)
         got = f"{BARRIER}{RECEIVE}{PUBLISH}"
         said = fix(read(got, BARRIER + LOOKUP), "race a:0 3 a:1 2 name port")
         self.assertIn("put an MPI_Barrier of MPI_COMM_WORLD", said)
@@ -147,8 +149,8 @@ class MessagesTest(unittest.TestCase):
         )
         self.assertEqual(
             explaining.fix(finding, order),
-            "Move the PMIx_Lookup of m.c:8 after the MPI_Recv of m.c:9; or receive from a:0, in "
-            "place of any source, before the PMIx_Lookup of m.c:8; or wait for the name with "
+            "Move the PMIx_Lookup of m.c:8 after the MPI_Recv of m.c:9; or receive from a:0 in "
+            "place of MPI_ANY_SOURCE before the PMIx_Lookup of m.c:8; or wait for the name with "
             "PMIX_WAIT: it is published once and never taken away.",
         )
 
@@ -186,8 +188,9 @@ class RewritesTest(unittest.TestCase):
         again = "a:0 puts it at p.c:10 and again at p.c:20; the next PMIx_Commit replaces the first"
         self.assertTrue(said.startswith(again), said)
         self.assertEqual(self.title, "a:0 puts the key k twice: a:1 and a:2 may get either value")
-        self.assertEqual(self.told, ["a:0 1", "a:0 4", "a:1 3"])
-        self.assertEqual(self.roles, ["first value: v10", "second value: v20", "reads it"])
+        self.assertEqual(self.told, ["a:0 1", "a:0 4", "a:1 3", "a:2 2"])
+        roles = ["first value: v10", "second value: v20", "reads it", "reads it"]
+        self.assertEqual(self.roles, roles)
         self.assertEqual(
             self.fix,
             "Put the key once; or put each value under a key of its own; or if the second value is "

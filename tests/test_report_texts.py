@@ -40,7 +40,7 @@ SAYS = {
         "but app:0 receives from any source, and may have it only at",
         "received it from app:1 before its PMIx_Lookup, the PMIx_Publish would come first.",
         "Move the PMIx_Lookup of look_up (cases.c:30) after the MPI_Recv of wild (cases.c:44);",
-        "or receive from app:1, in place of any source, before the PMIx_Lookup of look_up (cases.",
+        "or receive from app:1 in place of MPI_ANY_SOURCE before the PMIx_Lookup of look_up (",
         "MPI_Recv from 1, tag 0",
         "A recording; what is left out can hide no race",
     ),

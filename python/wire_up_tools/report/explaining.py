@@ -22,6 +22,7 @@ BY_HAND = {
     "lookup_wait": "lookup-wait",
     "use_get": "use get in place of get-now",
     "use_wait": "use lookup-wait in place of lookup",
+    "wait": "use lookup-wait",
 }
 IN_PROGRAM = {
     "get_now": "PMIx_Get with PMIX_IMMEDIATE or PMIX_OPTIONAL",
@@ -29,6 +30,7 @@ IN_PROGRAM = {
     "lookup_wait": "PMIx_Lookup with PMIX_WAIT",
     "use_get": "leave out PMIX_IMMEDIATE and PMIX_OPTIONAL, so that the get waits",
     "use_wait": "wait for the name with PMIX_WAIT",
+    "wait": "wait for it with PMIX_WAIT",
 }
 
 # What a race on a key means, by the verb of the call that brings the key.
@@ -73,9 +75,7 @@ FIX_OF_FENCE = (
     "make its rank a member, and let it ask after the fence"
 )
 FIX_BY_WAITING = "{use_wait}: it is published once and never taken away"
-NO_WAIT = (
-    ". No wait for the name orders them: it is published more than once or taken away again"
-)
+NO_WAIT = ". To {wait} isn't enough: the name is {why}"
 
 
 def title(finding: Finding, abouts: Sequence[str] = (), order: Optional[Order] = None) -> str:
@@ -148,9 +148,9 @@ def role(finding: Finding, call: Call) -> str:
     return said.get(call, "reads it")
 
 
-def say(text: str, finding: Finding) -> str:
+def say(text: str, finding: Finding, **more: str) -> str:
     """A text in the words of the plan that has a finding."""
-    return text.format(**(IN_PROGRAM if finding.first.rank.is_recorded else BY_HAND))
+    return text.format(**(IN_PROGRAM if finding.first.rank.is_recorded else BY_HAND), **more)
 
 
 def choose_meaning(finding: Finding) -> str:
@@ -181,8 +181,8 @@ def list_fixes(finding: Finding, order: Order) -> list[str]:
     ways += [say(wait, finding)] if wait else []
     # A barrier may keep a message from its receive, so it isn't named beside one.
     ways += [] if late else [say_barrier(finding, order)]
-    no_wait = NO_WAIT if finding.verbs == ("lookup", "publish") and not wait else ""
-    return [*ways[:-1], ways[-1] + no_wait]
+    is_lookup = finding.verbs == ("lookup", "publish")
+    return [*ways[:-1], ways[-1] + say_no_wait(finding, order) * (is_lookup and not wait)]
 
 
 def choose_wait(finding: Finding, order: Order) -> Optional[str]:
@@ -209,6 +209,12 @@ def list_rewrite_fixes(finding: Finding, order: Order) -> list[str]:
         f"{name_bare(gets[0])}: {turns}. The second put is still reported then"
     )
     return [*FIXES_OF_REWRITE, by_barrier]
+
+
+def say_no_wait(finding: Finding, order: Order) -> str:
+    """Why a lookup that waits isn't ordered with the publish."""
+    is_gone = finding.about in order.uses.unpublished
+    return say(NO_WAIT, finding, why="taken away again" if is_gone else "published more than once")
 
 
 def say_barrier(finding: Finding, order: Order) -> str:

@@ -60,5 +60,5 @@ def mend_late(plan: Plan, late: Late) -> list[str]:
     """The fixes by which the message comes in time."""
     before = tell_call(plan, late.before)
     moved = f"move the {before} after the {tell_call(plan, late.received)}"
-    named = f"receive from {late.sent.rank.name}, in place of any source, before the {before}"
+    named = f"receive from {late.sent.rank.name} in place of MPI_ANY_SOURCE before the {before}"
     return [moved, *[named] * is_from_any(late.received)]

@@ -9,8 +9,8 @@ from wire_up_tools.report.orders import START, Order
 from wire_up_tools.report.phrases import name_all, pick
 from wire_up_tools.report.places import name_shown
 
-# How many gets of a key are looked at.
-MOST = 40
+# How many gets of a key are looked at, and how many are told.
+MOST, TOLD = 40, 3
 
 
 @dataclass(frozen=True)
@@ -52,10 +52,11 @@ def list_gets(plan: Plan, owner: str, key: str) -> Iterator[Call]:
 
 
 def list_told(order: Order, finding: Finding) -> Sequence[Call]:
-    """The calls of a finding, and of a key that is put again the get that tells most."""
+    """The calls of a finding, and of a key that is put again the gets that tell most."""
     if finding.kind is not Kind.REWRITE:
         return finding.calls
-    return [*finding.calls, *find_readers(order, finding).calls[:1]]
+    readers = find_readers(order, finding)
+    return [*finding.calls, *(readers.either or readers.others)[:TOLD]]
 
 
 def say_readers(plan: Plan, readers: Readers) -> str:

@@ -168,4 +168,4 @@ def say_size(report: Report) -> str:
 
 def say_count(cause: Cause) -> str:
     """How many findings a cause has."""
-    return count_of(cause.count, "put" if cause.first.kind is Kind.REWRITE else "race")
+    return count_of(cause.count, "finding" if cause.first.kind is Kind.REWRITE else "race")
