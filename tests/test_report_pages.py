@@ -16,7 +16,7 @@ ELEMENTS = frozenset(
     "td details summary pre code strong figure figcaption dl dt dd svg g line circle rect polygon "
     "polyline text label input".split()
 )
-GROUP_COUNT = re.compile(r'<h2>\d+\. .*<span class="count">([\d,]+) (?:race|put)')
+GROUP_COUNT = re.compile(r'<h2>\d+\. .*<span class="count">([\d,]+) (?:race|finding)')
 
 
 class PageReader(html.parser.HTMLParser):

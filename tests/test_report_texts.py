@@ -28,7 +28,7 @@ SAYS = {
         "Only the first publish of a name holds",
         "Put a fence of a set that has both ranks between the two calls",
     ),
-    "hostile": ('a&b".c:3', "The key <script>"),
+    "hostile": ('a&b".c:3', "puts the key <script>"),
     "recorded-wild1": (
         "look_up (cases.c:30)",
         "publish (cases.c:23)",

@@ -16,7 +16,7 @@ from wire_up_tools.report.findings import LOOKUPS, Finding
 from wire_up_tools.report.language import find_message, name_verb
 from wire_up_tools.report.orders import Order
 from wire_up_tools.report.phrases import name_all, pick
-from wire_up_tools.report.places import name_spot, tell_call
+from wire_up_tools.report.places import name_spot, tell_call, tell_own
 
 # How many spots are named besides the first.
 SPOTS = 8
@@ -117,12 +117,12 @@ def say_turns(order: Order, first: Call, later: Sequence[Call]) -> str:
     """Who calls a new barrier where, so that one call comes before others, one of each rank."""
     plan, passed = order.plan, find_passed(order, (first, *later))
     is_last = passed[first.rank] == first.number
-    own = f"after the {tell_call(plan, first)}" if is_last else say_spot(plan, first.rank, passed)
+    own = f"after {tell_own(plan, first)}" if is_last else say_spot(plan, first.rank, passed)
     spots = {first.rank: own}
     for it in later:
-        told, is_free = tell_call(plan, it), passed[it.rank] == it.number
-        moved = f"{say_spot(plan, it.rank, passed)} and moves the {told} behind it"
-        spots[it.rank] = f"before the {told}" if is_free else moved
+        told, is_free = tell_own(plan, it), passed[it.rank] == it.number
+        moved = f"{say_spot(plan, it.rank, passed)} and moves {told} behind it"
+        spots[it.rank] = f"before {told}" if is_free else moved
     if is_of_all(plan, first, later[0]):
         of_job = (it for it in plan.ranks if it.job == first.rank.job and it not in spots)
         spots.update((it, say_spot(plan, it, passed)) for it in [*of_job])
@@ -163,7 +163,7 @@ def say_spot(plan: Plan, rank: Rank, passed: Mapping[Rank, int]) -> str:
     near = calls[count - 1] if count else calls[0]
     where = "after" if count else "before"
     is_told = near.remark or find_message(near)
-    return f"{where} {f'the {tell_call(plan, near)}' if is_told else name_spot(plan, near)}"
+    return f"{where} {tell_own(plan, near) if is_told else name_spot(plan, near)}"
 
 
 def find_passed(order: Order, calls: Sequence[Call]) -> Mapping[Rank, int]:

@@ -9,7 +9,7 @@ from dataclasses import dataclass
 from typing import Optional
 
 from wire_up_tools.plan import Call, Meeting
-from wire_up_tools.report.language import name_call
+from wire_up_tools.report.language import HOW, name_call
 from wire_up_tools.report.orders import Order
 from wire_up_tools.report.phrases import count_of, pick
 
@@ -153,8 +153,11 @@ def row_of_meeting(order: Order, meeting: Meeting) -> Row:
 
 
 def label_call(call: Call) -> str:
-    """What stands beside a call."""
-    return f"{call.number} {name_call(call)}"
+    """What stands beside a call. Whether it waits isn't said where the label would be cut."""
+    said = f"{call.number} {name_call(call)}"
+    if len(said) <= LABEL_WIDTH:
+        return said
+    return said.removesuffix(HOW[0]).removesuffix(HOW[1])
 
 
 def make_bars(order: Order, lanes: Mapping[str, int], meetings: Iterable[Meeting]) -> list[Bar]:

@@ -22,7 +22,7 @@ BY_HAND = {
     "lookup_wait": "lookup-wait",
     "use_get": "use get in place of get-now",
     "use_wait": "use lookup-wait in place of lookup",
-    "wait": "use lookup-wait",
+    "wait": "wait for the name with lookup-wait",
 }
 IN_PROGRAM = {
     "get_now": "PMIx_Get with PMIX_IMMEDIATE or PMIX_OPTIONAL",
@@ -30,7 +30,7 @@ IN_PROGRAM = {
     "lookup_wait": "PMIx_Lookup with PMIX_WAIT",
     "use_get": "leave out PMIX_IMMEDIATE and PMIX_OPTIONAL, so that the get waits",
     "use_wait": "wait for the name with PMIX_WAIT",
-    "wait": "wait for it with PMIX_WAIT",
+    "wait": "wait for the name with PMIX_WAIT",
 }
 
 # What a race on a key means, by the verb of the call that brings the key.
@@ -75,7 +75,7 @@ FIX_OF_FENCE = (
     "make its rank a member, and let it ask after the fence"
 )
 FIX_BY_WAITING = "{use_wait}: it is published once and never taken away"
-NO_WAIT = ". To {wait} isn't enough: the name is {why}"
+NO_WAIT = ". To {wait} isn't enough: it is {why}"
 
 
 def title(finding: Finding, abouts: Sequence[str] = (), order: Optional[Order] = None) -> str:
@@ -225,5 +225,4 @@ def say_barrier(finding: Finding, order: Order) -> str:
         return move.say(order.plan)
     other = finding.find_other(leader)
     barrier, turns = name_barrier(order.plan, leader, other), say_turns(order, leader, [other])
-    first = f"the {name_bare(leader)}{'' if finding.leader else f' of {leader.rank.name}'}"
-    return f"put {barrier} between the two calls: {turns}. So {first} comes first"
+    return f"put {barrier} between the two calls: {turns}"

@@ -9,17 +9,19 @@ from typing import Optional
 
 from wire_up_tools.plan import Call
 
+# What is said last of a call: whether it waits.
+HOW = (" that doesn't wait", " with PMIX_WAIT")
 # What the calls of a recorded plan are called, with what they are about in the place of {}.
 NAMES = {
     "put": "PMIx_Put {}",
     "commit": "PMIx_Commit",
     "fence": "PMIx_Fence",
     "get": "PMIx_Get {}",
-    "get-now": "PMIx_Get {} that doesn't wait",
+    "get-now": f"PMIx_Get {{}}{HOW[0]}",
     "publish": "PMIx_Publish {}",
     "unpublish": "PMIx_Unpublish {}",
     "lookup": "PMIx_Lookup {}",
-    "lookup-wait": "PMIx_Lookup {} with PMIX_WAIT",
+    "lookup-wait": f"PMIx_Lookup {{}}{HOW[1]}",
 }
 # The name that stands for a message, or for a part of a collective: from whom, to whom, and which.
 MESSAGE = re.compile(r"mpi_*\.([^.]+)\.([^.]+)\.\d+")

@@ -41,6 +41,13 @@ def tell_call(plan: Plan, call: Call) -> str:
     return f"{name_bare(call)} (call {call.number} of {call.rank.name})"
 
 
+def tell_own(plan: Plan, call: Call) -> str:
+    """The same of a call whose rank is named with it."""
+    if call.place:
+        return f"the {tell_call(plan, call)}"
+    return f"its {name_bare(call)} (call {call.number})"
+
+
 def name_shown(plan: Plan, call: Call) -> str:
     """The line that is shown first of where a call comes from, as short as it can be."""
     return name_frame(choose_place(plan, call)) or f"its call {call.number}"
