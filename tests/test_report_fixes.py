@@ -102,12 +102,27 @@ class BarriersTest(unittest.TestCase):
         moved = "a:1 after the MPI_Bcast of m.c:2 and moves the PMIx_Lookup of m.c:8 behind it"
         self.assertIn(moved, said)
 
+    def test_all_at_one_line_where_they_can(self) -> None:
+        begin, own = "# at main (m.c:1)\nfence all\n", PUBLISH.replace("port", "own")
+        second, last = begin + own + LOOKUP, begin + own.replace("3", "4")
+        plan = read(begin + PUBLISH, second, begin + own, last)
+        said = fix(plan, "race a:0 2 a:1 3 name port")
+        turns = "a:0 and a:2 call it after the PMIx_Publish of serve (s.c:3), a:1 before the"
+        self.assertIn(f"{turns} PMIx_Lookup of m.c:8, a:3 after m.c:1.", said)
+        # What rank 2 does before it is there comes after the lookup.
+        late = f"{begin}{RECEIVE.replace('mpi.0.1.1', 'mpi.1.2.1')}{own}"
+        sent = begin + LOOKUP + SEND.replace("0.1.1", "1.2.1")
+        said = fix(read(begin + PUBLISH, sent, late), "race a:0 2 a:1 2 name port")
+        self.assertIn("a:0 calls it after the PMIx_Publish of serve (s.c:3), a:1 before", said)
+        self.assertIn("a:2 after m.c:1.", said)
+
     def test_without_mpi_two_ranks_meet(self) -> None:
-        ranks = f"rank n\n{PUBLISH}rank n\n{LOOKUP}rank n\n"
+        ranks = f"rank n\n{PUBLISH}rank n\n{LOOKUP}rank n\n{PUBLISH}"
         plan = read_plan(f"{RECORDED}# {WITHOUT_MPI}: more\n{HEAD}{ranks}".encode())
         said = fix(plan, "race a:0 1 a:1 1 name port")
-        self.assertIn("put a PMIx_Fence of a set that has both ranks between", said)
-        self.assertNotIn("a:2", said)
+        self.assertIn("Put a PMIx_Fence of a set that has both ranks between", said)
+        self.assertTrue(said.endswith("before the PMIx_Lookup of m.c:8. To wait for the name with "
+                                      "PMIX_WAIT isn't enough: it is published more than once."))
 
     def test_a_call_moves_past_a_barrier(self) -> None:
         later = BARRIER.replace("6", "60")

@@ -7,7 +7,7 @@ from collections.abc import Mapping
 
 import report_support
 from wire_up_tools.plan import Call, Plan, Rank, read_plan
-from wire_up_tools.report.barriers import Move, find_move, find_passed
+from wire_up_tools.report.barriers import Move, choose_passed, find_move
 from wire_up_tools.report.findings import Finding, read_line
 from wire_up_tools.report.orders import Order, find_order
 
@@ -16,6 +16,8 @@ BARRIER, CAST = "# MPI: barrier\nfence all\n", "# MPI: bcast\n"
 TWO = BARRIER * 2
 ROOT, LEAF = f"{CAST}publish mpi.0.all.1 sent\n", f"{CAST}lookup-wait mpi.0.all.1\n"
 SENT, GOT = "# MPI: send\npublish mpi.3.0.1 sent\n", "# MPI: receive\nlookup-wait mpi.3.0.1\n"
+LAST, LAST_GOT = SENT.replace("3.0.1", "1.2.1"), GOT.replace("3.0.1", "1.2.1")
+AT = "# at main (a.c:3)\n"
 # Scripts of four ranks, by what comes in the way of a barrier.
 PLANS = {
     "a broadcast and a message": (
@@ -28,6 +30,13 @@ PLANS = {
     "gets": (
         "put global k v\ncommit\nget a:3 k\npublish p v\n", "get a:0 k\nlookup p\n",
         "get a:0 k\nget a:3 k\n", "get a:0 k\nput global k v\ncommit\nget a:0 k\n",
+    ),
+    "one line of the program": (
+        f"{BARRIER}{GOT}{AT}publish p v\n", f"{BARRIER}{AT}publish q v\nlookup p\n",
+        f"{BARRIER}{AT}publish r v\n", f"{BARRIER}{SENT}{AT}publish s v\n",
+    ),
+    "one line that comes too late": (
+        f"{AT}publish p v\n", f"lookup p\n{LAST}", f"{LAST_GOT}{AT}publish q v\n", "",
     ),
     "two publishes": (f"{GOT}publish p v\n", "publish p w\n", "", SENT),
 }
@@ -55,7 +64,7 @@ def write(scripts: tuple[str, ...]) -> bytes:
 def add_barrier(order: Order, finding: Finding) -> bytes:
     """The plan with a fence of all ranks, each of which calls it where the report says."""
     other = finding.find_other(find_leader(finding))
-    passed = dict(find_passed(order, finding.calls))
+    passed = dict(choose_passed(order, (find_leader(finding), other)))
     moved = order.plan.lines[other.line - 1] if passed[other.rank] > other.number else None
     passed[other.rank] -= passed[other.rank] == other.number
     ends = {last_line(order.plan, it, passed): it for it in order.plan.ranks}

@@ -5,6 +5,7 @@ A new one must keep no rank from a call for which another waits before the barri
 after all that comes, in some run, before one of the two calls in every run.
 """
 import collections
+import itertools
 import re
 from collections.abc import Iterable, Iterator, Mapping, Sequence
 from dataclasses import dataclass
@@ -115,7 +116,7 @@ def can_come_before(order: Order, call: Call, fence: Call) -> bool:
 
 def say_turns(order: Order, first: Call, later: Sequence[Call]) -> str:
     """Who calls a new barrier where, so that one call comes before others, one of each rank."""
-    plan, passed = order.plan, find_passed(order, (first, *later))
+    plan, passed = order.plan, choose_passed(order, (first, *later))
     is_last = passed[first.rank] == first.number
     own = f"after {tell_own(plan, first)}" if is_last else say_spot(plan, first.rank, passed)
     spots = {first.rank: own}
@@ -124,8 +125,11 @@ def say_turns(order: Order, first: Call, later: Sequence[Call]) -> str:
         moved = f"{say_spot(plan, it.rank, passed)} and moves {told} behind it"
         spots[it.rank] = f"before {told}" if is_free else moved
     if is_of_all(plan, first, later[0]):
-        of_job = (it for it in plan.ranks if it.job == first.rank.job and it not in spots)
-        spots.update((it, say_spot(plan, it, passed)) for it in [*of_job])
+        for rank in plan.ranks:
+            if rank.job == first.rank.job and rank not in spots:
+                count = passed.get(rank, 0)
+                is_same = count and is_alike(plan.find_call(rank.name, count), first)
+                spots[rank] = own if is_same and is_last else say_spot(plan, rank, passed)
     return say_spots(spots)
 
 
@@ -164,6 +168,32 @@ def say_spot(plan: Plan, rank: Rank, passed: Mapping[Rank, int]) -> str:
     where = "after" if count else "before"
     is_told = near.remark or find_message(near)
     return f"{where} {tell_own(plan, near) if is_told else name_spot(plan, near)}"
+
+
+def choose_passed(order: Order, calls: Sequence[Call]) -> Mapping[Rank, int]:
+    """How many calls each rank has begun when a new barrier orders the first of some calls and the
+    others: where it can be, many ranks call it at one line of the program."""
+    passed = find_passed(order, calls)
+    if not is_of_all(order.plan, *calls[:2]):
+        return passed
+    one_line = find_passed(order, [*calls, *list_alike(order.plan, calls, passed)])
+    return one_line if all(one_line[it.rank] == it.number for it in calls) else passed
+
+
+def list_alike(plan: Plan, calls: Sequence[Call], passed: Mapping[Rank, int]) -> list[Call]:
+    """Of each other rank of the job the first call at the place of the first of these that isn't
+    too early."""
+    first, ranks, found = calls[0], [it.rank for it in calls], []
+    for rank in plan.ranks:
+        if rank.job == first.rank.job and rank not in ranks:
+            later = plan.calls_of[rank.name][max(passed.get(rank, 0) - 1, 0):]
+            found += list(itertools.islice((it for it in later if is_alike(it, first)), 1))
+    return found
+
+
+def is_alike(one: Call, other: Call) -> bool:
+    """Whether two calls are known to be the same call of the program."""
+    return one.place is not None and (one.place, one.verb) == (other.place, other.verb)
 
 
 def find_passed(order: Order, calls: Sequence[Call]) -> Mapping[Rank, int]:
