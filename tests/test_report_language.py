@@ -55,8 +55,8 @@ class NamesTest(unittest.TestCase):
 
 
 class PlacesTest(unittest.TestCase):
-    """Where a call comes from: first the line that calls a helper, or else what other functions
-    call before and after it, and then the helper's line."""
+    """Where a call comes from: first the line that calls a helper, or else the lines around it, and
+    then the helper's line."""
 
     def test_a_helper(self) -> None:
         lines = ["# at main (a.c:5)", "# MPI: barrier", "fence all"]
@@ -64,8 +64,9 @@ class PlacesTest(unittest.TestCase):
         later = ("# at look_up (b.c:10)", "lookup port", "# at main (a.c:7)", "commit")
         plan = read_plan("\n".join([RECORDED + HEAD.rstrip(), *lines, *later, ""]).encode())
         said = say_place(plan, plan.calls[1])
-        around = "after the MPI_Barrier of a.c:5, before the PMIx_Commit of a.c:7"
-        self.assertEqual(said, f"{around}, in look_up (b.c:9)")
+        self.assertEqual(said, "between a.c:5 and a.c:7, in look_up (b.c:9)")
+        said = say_place(plan, plan.calls[2])
+        self.assertEqual(said, "between a.c:5 and a.c:7, in look_up (b.c:10)")
         self.assertEqual(say_place(plan, plan.calls[0]), "main (a.c:5)")
 
     def say(self, *places: str, verbs: Sequence[str] = ("lookup port",)) -> list[tuple[str, str]]:

@@ -35,7 +35,7 @@ SAYS = {
         "36 gets of a wildcard rank",
         "or wait for the name with PMIX_WAIT",
         'A PMIx_Lookup of the name "first" can come before the PMIx_Publish',
-        "after the PMIx_Fence of cases.c:178, before the MPI_Recv of cases.c:44, in look_up (",
+        "between cases.c:178 and cases.c:44, in look_up (cases.c:30)",
         "app:1 sends app:0 a message after its PMIx_Publish (MPI_Send to 0, tag 0, at",
         "but app:0 receives from any source, and may have it only at",
         "received it from app:1 before its PMIx_Lookup, the PMIx_Publish would come first.",

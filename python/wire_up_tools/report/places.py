@@ -76,7 +76,7 @@ def choose_place(plan: Plan, call: Call) -> str:
 
 def list_places(plan: Plan, call: Call) -> list[str]:
     """Where a call comes from: first the line that calls a helper, and then that of the helper, and
-    what called these. Where it isn't known what called a helper, the calls around it come first."""
+    what called these. Where it isn't known what called a helper, the lines around it come first."""
     frames = list_frames(call)
     if not frames:
         return [UNKNOWN_PLACE]
@@ -84,23 +84,26 @@ def list_places(plan: Plan, call: Call) -> list[str]:
         at = len(frames) - 1 - is_helper(plan, call)
         below = [f"in {it}" for it in frames[at + 1:]]
         return [frames[at], *below, *(f"called from {it}" for it in reversed(frames[:at]))]
-    around = list_around(plan, call)
-    return [", ".join(around), f"in {frames[0]}"] if around else frames
+    around = say_around(plan, call)
+    return [around, f"in {frames[0]}"] if around else frames
 
 
-def list_around(plan: Plan, call: Call) -> list[str]:
-    """The nearest calls that other functions make before and after a call of a helper, with their
-    lines, as far as these are known: they tell which call of the helper it is.
+def say_around(plan: Plan, call: Call) -> str:
+    """Between which lines a call of a helper comes: those of the nearest calls that other functions
+    make before and after it, as far as these are known.
 
     Nothing for a call of the main program.
     """
     if find_function(call) in MAIN:
-        return []
+        return ""
     earlier = list(itertools.islice(plan.calls_of[call.rank.name], call.number - 1))
     before = next((it for it in reversed(earlier) if is_elsewhere(it, call)), None)
     after = next((it for it in list_later(plan, call) if is_elsewhere(it, call)), None)
-    said = [f"after the {name_bare(before)} of {name_line(before)}"] if before else []
-    return said + ([f"before the {name_bare(after)} of {name_line(after)}"] if after else [])
+    if before and after:
+        return f"between {name_line(before)} and {name_line(after)}"
+    if before:
+        return f"after {name_line(before)}"
+    return f"before {name_line(after)}" if after else ""
 
 
 def is_elsewhere(one: Call, other: Call) -> bool:
