@@ -165,6 +165,31 @@ NAMES = (
     + "rank n\nlookup p\n"
 )
 STAR = "rehearsal 2\nnode n\njob a\nrank n\npublish p 1\nunpublish *\nrank n\nlookup-wait p\n"
+# Plans as recorded of three ranks that put a card twice and read it, and of four that publish a
+# name and take it away, with a collective and a message between. Helpers make the calls.
+BEGUN = "# Recorded by wire_up-record on a day\nrehearsal 1\nnode n\njob app\n"
+INIT = "rank n\n# at main (a.c:20)\nfence all collect\n"
+PUT = (
+    "# at main (a.c:{0}) -> put_card (a.c:8)\nput global card v{0}\n"
+    "# at main (a.c:{0}) -> put_card (a.c:9)\ncommit\n"
+)
+BARRIER = "# at main (a.c:32)\n# MPI: barrier\nfence all\n"
+READ = "# at main (a.c:{}) -> read_card (a.c:15)\nget app:0 card\n"
+CAST = "# at main (a.c:32)\n# MPI: bcast\n{} mpi.0.all.1{}\n"
+GONE = "# at main (a.c:38)\n# MPI: receive, tag 1\nlookup-wait mpi.3.0.1\n# at main (a.c:39)\n"
+TWICE = (
+    BEGUN + INIT
+    + PUT.format(31) + BARRIER + PUT.format(33)
+    + "".join(INIT + BARRIER + READ.format(it) for it in (35, 37))
+)
+TURNS = (
+    BEGUN + INIT + "# at main (a.c:31)\npublish port v\n" + CAST.format("publish", " sent")
+    + f"{GONE}unpublish port\n"
+    + INIT + CAST.format("lookup-wait", "") + "# at main (a.c:35) -> find (a.c:5)\nlookup port\n"
+    + INIT + CAST.format("lookup-wait", "")
+    + INIT + CAST.format("lookup-wait", "")
+    + "# at main (a.c:36)\n# MPI: send, tag 1\npublish mpi.3.0.1 sent\n"
+)
 # Plans by their names. Those of which the name begins with `large` are past the limits of both
 # versions: 2,048 ranks with some 100,000 calls.
 WRITTEN: dict[str, Callable[[], bytes]] = {
@@ -174,6 +199,8 @@ WRITTEN: dict[str, Callable[[], bytes]] = {
     "failing": lambda: FAILING.encode(),
     "names": lambda: NAMES.encode(),
     "star": lambda: STAR.encode(),
+    "twice": lambda: TWICE.encode(),
+    "turns": lambda: TURNS.encode(),
     "empty": lambda: b"rehearsal 1\n",
     "shapes": lambda: write_shapes().encode(),
     "cards": lambda: write_cards(6, 2, 5).encode(),

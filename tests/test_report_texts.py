@@ -64,6 +64,21 @@ SAYS = {
     ),
     "large": ("31,744 races", "takes no plan past the limits of its version"),
     "large-fence": ("no race", "and 2,047 like it"),
+    "twice": (
+        "app:0 puts the key card twice: app:1 and app:2 may get either value",
+        "main (a.c:31), in put_card (a.c:8), first value: v31",
+        "main (a.c:33), in put_card (a.c:8), second value: v33",
+        "main (a.c:35), in read_card (a.c:15), reads it",
+        "app:0 puts it at a.c:31 and again at a.c:33; the next PMIx_Commit replaces",
+        "app:1 and app:2 get it at a.c:35 and a.c:37, and nothing orders that with this commit",
+        "app:0 calls it after the PMIx_Commit of a.c:33, app:1 before the PMIx_Get of a.c:35,",
+        "app:2 before the PMIx_Get of a.c:37.",
+    ),
+    "turns": (
+        "main (a.c:35), in find (a.c:5)",
+        "app:1 calls it after the PMIx_Lookup of a.c:35, app:0 before the PMIx_Unpublish of a.c:39",
+        "app:2 after the MPI_Bcast of a.c:32, app:3 after the MPI_Send of a.c:36.",
+    ),
     "changed-card": (
         "1 key put twice",
         "app:0 puts the key card twice: app:1 may get either value",
