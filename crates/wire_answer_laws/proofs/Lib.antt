@@ -2,6 +2,7 @@ mod Fences
 mod Spread
 mod SameNodes
 mod Calls
+mod HaveReplies
 mod Large
 mod Small
 mod AnySize
