@@ -9,7 +9,7 @@ import model
 from running import ProgramCase, text_of, written
 from support import TOP
 from test_run_parts import run
-from wire_up_tools.plan import read_plan
+from wire_up_tools.plan_reading import read_plan
 from wire_up_tools.run.expected import Expected
 from wire_up_tools.run.libraries.judging import judge
 from wire_up_tools.run.libraries.predicting import Way, explain_differences, predict
