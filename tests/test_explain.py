@@ -79,7 +79,7 @@ def explained_patterns() -> Runs:
         status=2,
         said=(
             b"wire_up: fault 13 BadOrder 2\n  part 2 | v=2\n  expected: NAME=N, each group of "
-            b"the pattern once, N its least number or more\n"
+            b"the pattern once, N its least number or more, below 10^9\n"
         ),
     )
     yield Run(
