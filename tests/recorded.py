@@ -38,7 +38,8 @@ class Program:
     many where MPI's order is left out. `said` is what the recorder says where it runs, and
     `in_part` why a verdict over its recording holds only in part. `words` are what runs it, if that
     isn't its name. `luck` counts the ends that were left to luck, without which there is one more
-    finding, and `received` the receives that could have got another message. `is_replayed` says that the replay of the plan answers as the program was answered."""
+    finding, and `received` the receives that could have got another message. `is_replayed` says
+    that the replay of the plan answers as the program was answered."""
 
     processes: int
     findings: int

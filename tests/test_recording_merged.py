@@ -5,6 +5,9 @@ import unittest
 from collections.abc import Sequence
 
 import support
+from free_programs import Free
+from marks import find_marks_before
+from random_worlds import World
 from tapes import (
     SHIPPED,
     Scripts,
@@ -15,7 +18,6 @@ from tapes import (
     run_recorder,
     write_file,
 )
-from test_recording_random import Free, World, find_marks_before
 from wire_up_tools.failures import Refused
 from wire_up_tools.record.merging import merge_plans
 from wire_up_tools.record.partings import Run

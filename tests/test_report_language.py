@@ -2,7 +2,8 @@
 import unittest
 
 import support
-from wire_up_tools.plan import Call, read_plan
+from wire_up_tools.plan import Call
+from wire_up_tools.plan_reading import read_plan
 from wire_up_tools.report.language import name_call
 from wire_up_tools.report.places import say_place
 

@@ -4,7 +4,7 @@ import tempfile
 import unittest
 
 import report_support
-from wire_up_tools.plan import read_plan
+from wire_up_tools.plan_reading import read_plan
 from wire_up_tools.report.partial import find_reasons
 from wire_up_tools.words import OF_THIS_RUN
 
