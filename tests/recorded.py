@@ -65,8 +65,7 @@ class Program:
         if not self.received:
             return ""
         what = "receives that could have got another message"
-        of_this_run = "what the program did with them is that of this run"
-        return f"wire_up-record: {self.received} {what}: {of_this_run}\n"
+        return f"wire_up-record: {self.received} {what}: another run may do otherwise after them\n"
 
     @property
     def says_in_part(self) -> str:

@@ -29,12 +29,12 @@ OF_LUCK = re.compile(
 class Notes:
     """What a plan can't say of the program, each with how often that was: where the run was cut
     off; what was left out; what is more ordered than the program, so that a race can be missed;
-    with what the program did as it did in this run alone; and what is written otherwise."""
+    after what another run may do otherwise; and what is written otherwise."""
 
     cut_off: Counter[str] = field(default_factory=Counter)
     left_out: Counter[str] = field(default_factory=Counter)
     more_ordered: Counter[str] = field(default_factory=Counter)
-    of_this_run: Counter[str] = field(default_factory=Counter)
+    of_luck: Counter[str] = field(default_factory=Counter)
     otherwise: Counter[str] = field(default_factory=Counter)
 
     def add(self, others: "Notes") -> None:
@@ -42,7 +42,7 @@ class Notes:
         self.cut_off.update(others.cut_off)
         self.left_out.update(others.left_out)
         self.more_ordered.update(others.more_ordered)
-        self.of_this_run.update(others.of_this_run)
+        self.of_luck.update(others.of_luck)
         self.otherwise.update(others.otherwise)
 
 
@@ -56,7 +56,7 @@ def note_recording(recording: Recording, notes: Notes) -> None:
         ] += 1
     notes.more_ordered.update(recording.unseen_pmix)
     for name, count in recording.others.items():
-        noted = notes.of_this_run if OF_LUCK.fullmatch(name) else notes.left_out
+        noted = notes.of_luck if OF_LUCK.fullmatch(name) else notes.left_out
         noted[f"calls of {name}"] += count
     if len({call.thread for call in recording.calls}) > 1:
         notes.more_ordered[

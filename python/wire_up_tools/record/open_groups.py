@@ -267,7 +267,7 @@ def note_open_groups(groups: Sequence[OpenGroup]) -> Ordered:
         "receives that could have got messages of several processes: "
         "they order what holds whichever they got"
     ] += count
-    notes.of_this_run["receives that could have got another message"] += count
+    notes.of_luck["receives that could have got another message"] += count
     luck = sum(
         bool(it.group.chosen) or got.call.is_left_to_luck
         for it in groups

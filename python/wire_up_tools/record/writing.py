@@ -17,7 +17,7 @@ from wire_up_tools.words import (
     LEFT_TO_LUCK,
     MORE_ORDERED,
     MPI_COMMENT,
-    OF_THIS_RUN,
+    OTHERWISE_AFTER,
     PARTED,
     PLACE_COMMENT,
     RECORDED_BY,
@@ -116,7 +116,7 @@ def say_notes(plan: Plan) -> Iterator[str]:
         (CUT_OFF, notes.cut_off),
         (LEFT_OUT, notes.left_out),
         (MORE_ORDERED, notes.more_ordered),
-        (OF_THIS_RUN, notes.of_this_run),
+        (OTHERWISE_AFTER, notes.of_luck),
         (WRITTEN_OTHERWISE, notes.otherwise),
     )
     for title, counted in lists:

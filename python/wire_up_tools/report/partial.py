@@ -49,9 +49,9 @@ def say_polled(plan: Plan) -> Optional[str]:
 
 
 def say_received(plan: Plan) -> Optional[str]:
-    """What of the run the program may have acted on that could have come otherwise."""
-    listed = plan.list_in_head(words.OF_THIS_RUN)
-    return f"what the program did with {list_names(listed)} is that of this run" if listed else None
+    """What could have come otherwise, so that another run may do something else."""
+    listed = plan.list_in_head(words.OTHERWISE_AFTER)
+    return f"another run may do otherwise after {list_names(listed)}" if listed else None
 
 
 def say_parted(plan: Plan) -> Optional[str]:
