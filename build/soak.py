@@ -28,7 +28,7 @@ import pattern_soaking
 import random_patterns
 import random_plans
 import soaking
-from soaking import Difference, Runner
+from soak_runner import Difference, Runner
 
 from build.places import LOGS, WIRE_UP
 

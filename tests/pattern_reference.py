@@ -12,8 +12,9 @@ from typing import NamedTuple, Optional
 import grammar
 import pattern_grammar
 from grammar import Refused
+from pattern_calls import Call, Script
 from pattern_grammar import Line, Loop, Pattern
-from pattern_plan import NOT_FOUND, OUTSIDE, SUCCESS, Call, Finding, Plan, Script, Verdict, answered
+from pattern_plan import NOT_FOUND, OUTSIDE, SUCCESS, Finding, Plan, Verdict, answered
 
 CLEAN = b"findings 0 for every number of ranks on every placement"
 # How many turns may be left out or taken in the largest instance that is judged.

@@ -21,10 +21,10 @@ from typing import NamedTuple, Optional
 import grammar
 import pattern_grammar
 import pattern_reference
-from pattern_plan import Script
+from pattern_calls import Script
 from pattern_reference import CLEAN, Ranks
 from random_plans import styled
-from soaking import Difference, Ran, Runner, same
+from soak_runner import Difference, Ran, Runner, same
 
 # Patterns of more instances aren't held to the reference, or not looked at.
 MOST_INSTANCES, MOST_LOOKED_AT = 200, 4_096

@@ -38,7 +38,8 @@ class Program:
     many where MPI's order is left out. `said` is what the recorder says where it runs, and
     `in_part` why a verdict over its recording holds only in part. `words` are what runs it, if that
     isn't its name. `luck` counts the ends that were left to luck, without which there is one more
-    finding. `is_replayed` says that the replay of the plan answers as the program was answered."""
+    finding, and `received` the receives that could have got another message. `is_replayed` says
+    that the replay of the plan answers as the program was answered."""
 
     processes: int
     findings: int
@@ -47,6 +48,7 @@ class Program:
     in_part: str = ""
     words: tuple[str, ...] = ()
     luck: int = 0
+    received: int = 0
     is_replayed: bool = True
 
     @property
@@ -58,6 +60,14 @@ class Program:
         return f"wire_up-record: {both}, which takes nothing from {self.luck} ends of requests\n"
 
     @property
+    def says_received(self) -> str:
+        """What the recorder says of receives that could have got another message."""
+        if not self.received:
+            return ""
+        what = "receives that could have got another message"
+        return f"wire_up-record: {self.received} {what}: another run may do otherwise after them\n"
+
+    @property
     def says_in_part(self) -> str:
         """What the recorder says of its recording, but for the verdicts."""
         return f"wire_up-record: {self.in_part}" if self.in_part else ""
@@ -65,8 +75,8 @@ class Program:
 
 # The small programs of `cases`, by their names.
 CASES = {
-    "wild1": Program(3, 1, 2),
-    "wild2": Program(3, 1, 2),
+    "wild1": Program(3, 1, 2, received=2),
+    "wild2": Program(3, 1, 2, received=2),
     "poll": Program(2, 0, 1, luck=1),
     "probe": Program(2, 0, 1),
     "matched": Program(2, 0, 1),
@@ -125,8 +135,8 @@ DIRECT = {
 # Those of `luck`.
 LUCK = {
     "cancelled": Program(2, 0, 1, luck=1),
-    "header": Program(3, 0, 1, luck=2),
-    "answer": Program(3, 0, 1, luck=2),
+    "header": Program(3, 0, 1, luck=2, received=2),
+    "answer": Program(3, 0, 1, luck=2, received=2),
     "once": Program(2, 0, 1, IN_PART, f"{IN_PART}{GOES_AWAY}", is_replayed=False),
     "brief": Program(2, 0, 0, IN_PART, f"{IN_PART}{SHORT_WAIT}"),
 }

@@ -11,6 +11,8 @@ from typing import IO, NamedTuple, Optional, Union
 import support
 
 EXAMPLE, ITS_REPORT = "examples/business-card.plan", "examples/business-card.report"
+# An example with a race.
+EARLY_GET = "examples/early-get.plan"
 NOTHING = b"findings 0\n"
 SECONDS = 60
 FAULTS = (
@@ -20,6 +22,8 @@ FAULTS = (
 USAGE = (b"Usage: wire_up",)
 FULL, READ = b"wire_up: fault 11 Write 0\n", b"wire_up: fault 10 Read\n"
 MEMORY = b"wire_up: fault 1 Memory\n"
+# What is said of the file that `odd_plan` writes.
+ODD = b"wire_up: fault 4 BadLine 10\n"
 
 # Gets that are ordered by fences, by a publish and by one another.
 CARDS = b"""\
@@ -124,6 +128,17 @@ def written(room: str, name: str, text: bytes) -> str:
     with open(path, "wb") as it:
         it.write(text)
     return path
+
+
+def odd_plan(room: str) -> str:
+    """The path of a plan whose last line is no call."""
+    return written(room, "odd.plan", text_of(EXAMPLE) + b"getaway app:0 k\n")
+
+
+def fences_plan(room: str) -> str:
+    """The path of a plan in which 256 ranks call 64 fences."""
+    rank = b"rank n0\n" + b"fence all\n" * 64
+    return written(room, "fences.plan", b"rehearsal 1\nnode n0\njob app\n" + rank * 256)
 
 
 def as_lines(lines: Iterable[str]) -> bytes:

@@ -1,5 +1,5 @@
 """Holds the program, on one file, to itself, to a second reader (grammar.py) and to a model of
-plans (model.py).
+plans (model.py, model_runs.py).
 
 - A file that the second reader refuses is refused by every command with the fault and the line that
   this reader names, and no other.
@@ -28,155 +28,25 @@ plans (model.py).
   is the model's too, and which calls are dead.
 """
 import json
-import os
 import random
 import re
-import socket
-import subprocess
-import threading
-import time
-from collections import Counter
 from collections.abc import Callable, Sequence
-from dataclasses import dataclass
-from typing import NamedTuple, Optional, Union
+from typing import Optional
 
 import everywhere
 import grammar
 import model
 import placements
+from model_runs import Run, followed
 from random_plans import NUMBERS, damaged, styled
+from soak_runner import Difference, Ran, Runner, same
 
-SECONDS = 10
 # Longer files aren't handed over one byte at a time, and no complete order of theirs is looked for.
 MOST_BYTES, MOST_STEPS = 4_000, 24
 # Longer plans aren't held to the model, and plans of more ranks not to all their placements.
 MOST_EVENTS, MOST_RANKS = 60, 5
 WORKERS = (1, 2, 7, 64)
-FAULT = re.compile(rb"wire_up: fault (\d+) (\w+)( \d+)?\n")
-FAILED_CALL = re.compile(rb"wire_up: \S+:\d+ \d+ [a-z-]+ (?:[A-Z_]+|waiting|unreached)\n")
 NOT_READY = re.compile(rb"wire_up: fault 12 NotReady (\d+)\n")
-Word = Union[str, bytes]
-
-
-class Ran(NamedTuple):
-    """How a run ended: its status, and what it wrote to standard output and to standard error."""
-
-    status: int
-    wrote: bytes
-    said: bytes
-
-
-class Difference(Exception):
-    """What the program shouldn't have done: in a word or two, and what it was."""
-
-    def __init__(self, name: str, detail: str = "") -> None:
-        super().__init__(name, detail)
-        self.name, self.detail = name, detail
-
-
-@dataclass
-class Slowest:
-    """The run that took longest."""
-
-    seconds: float = 0.0
-    words: str = ""
-
-
-class Runner:
-    """Runs the program in a folder, and counts what it did."""
-
-    def __init__(self, program: str, room: str) -> None:
-        self.program, self.room = program, room
-        self.runs: Counter[str] = Counter()
-        self.faults: Counter[str] = Counter()
-        # How many answers of each command were held to the model.
-        self.held: Counter[str] = Counter()
-        self.slowest = Slowest()
-
-    def written(self, name: str, text: bytes) -> str:
-        """The path of a file of this text."""
-        path = os.path.join(self.room, name)
-        with open(path, "wb") as it:
-            it.write(text)
-        return path
-
-    def run(self, *words: Word, given: Optional[bytes] = None, by_byte: bool = False) -> Ran:
-        """Runs a command, and answers how it ended. What no run may do is a difference."""
-        command = str(words[0])
-        named = " ".join(map(str, words)).replace(self.room + os.sep, "")
-        self.runs[command] += 1
-        began = time.monotonic()
-        try:
-            run = run_by_byte if by_byte else run_whole
-            ran = run([self.program, *words], given)
-        except subprocess.TimeoutExpired as slow:
-            why = f"{named}: had not ended after {SECONDS} seconds"
-            raise Difference(f"no end of {command}", why) from slow
-        took = time.monotonic() - began
-        if took > self.slowest.seconds:
-            self.slowest = Slowest(took, named)
-        self.judge(command, named, ran, "--complete" in words)
-        return ran
-
-    def judge(self, command: str, named: str, ran: Ran, is_complete: bool) -> None:
-        """Raises a difference where a run ended as none may."""
-        fault = FAULT.fullmatch(ran.said)
-        is_told = is_complete and ran.status == 1 and FAILED_CALL.fullmatch(ran.said)
-        is_silent = ran.status in (0, 1) and not ran.said
-        if not (is_silent or is_told or (ran.status in (2, 3, 4) and fault)):
-            what = f"{named}: ended with {ran.status}, and said {ran.said[:300]!r}"
-            raise Difference(f"a crash of {command}", what)
-        if fault:
-            self.faults[fault[2].decode()] += 1
-        if fault and ran.wrote:
-            what = f"{named}: said {ran.said!r}, and wrote {ran.wrote[:300]!r}"
-            raise Difference(f"output of {command} after a fault", what)
-
-
-def run_whole(words: Sequence[Word], given: Optional[bytes]) -> Ran:
-    """Runs a command, with this or nothing on standard input."""
-    nothing = subprocess.DEVNULL if given is None else None
-    ran = subprocess.run(
-        words, stdin=nothing, input=given, capture_output=True, timeout=SECONDS, check=False
-    )
-    return Ran(ran.returncode, ran.stdout, ran.stderr)
-
-
-def run_by_byte(words: Sequence[Word], given: Optional[bytes]) -> Ran:
-    """Hands each byte over as a message of its own, so that each read gets one."""
-    ours, its = socket.socketpair(socket.AF_UNIX, socket.SOCK_SEQPACKET)
-
-    def hand_over() -> None:
-        try:
-            for byte in given or b"":
-                ours.send(bytes([byte]))
-        except OSError:
-            pass
-        ours.close()
-
-    thread = threading.Thread(target=hand_over, daemon=True)
-    with its, subprocess.Popen(
-        words, stdin=its.fileno(), stdout=subprocess.PIPE, stderr=subprocess.PIPE
-    ) as it:
-        its.close()
-        thread.start()
-        try:
-            wrote, said = it.communicate(timeout=SECONDS)
-        except subprocess.TimeoutExpired:
-            it.kill()
-            raise
-    thread.join()
-    return Ran(it.returncode, wrote, said)
-
-
-def same(name: str, wanted: object, got: object, what: object = "") -> None:
-    """Raises a difference where two things aren't the same."""
-    if wanted != got:
-        raise Difference(name, f"{what}: {show(wanted)} and {show(got)}")
-
-
-def show(it: object) -> str:
-    return repr(it)[:400]
 
 
 class Look:
@@ -286,7 +156,7 @@ class Look:
         run = self.runner.run
         report = self.at_inputs("replay")
         same("the status of a report", (0, b""), (report.status, report.said))
-        self.hold("replay", report.wrote, lambda it: model.Run(it).go().report())
+        self.hold("replay", report.wrote, lambda it: Run(it).go().report())
         as_form = report._replace(wrote=as_json(self.scripts, report.wrote))
         for workers in WORKERS:
             ran = run("replay", f"--workers={workers}", self.path)
@@ -324,7 +194,7 @@ class Look:
             raise Difference("an order that is refused", why)
 
         def report(plan: model.Plan) -> bytes:
-            return model.followed(plan, order.split())[0].report()
+            return followed(plan, order.split())[0].report()
 
         self.hold("follow", ran.wrote, report, order.split())
         return ran
@@ -353,8 +223,8 @@ class Look:
         count, _, order = rest.partition(b"\n")
         wanted = 1, b"unsettled", b"order ", order.count(b"\n")
         same("a run anyway", wanted, (ran.status, head, told, int(count or b"-1")))
-        followed = self.at_order(order, f"{workers} workers")
-        same("another report of the order told", report, followed.wrote)
+        again = self.at_order(order, f"{workers} workers")
+        same("another report of the order told", report, again.wrote)
         if b" ready\n" in report:
             why = f"{workers} workers: {order.split()}"
             raise Difference("a run anyway that could go on", why)
@@ -365,8 +235,8 @@ class Look:
         ran = self.runner.run(*words, self.path)
         form = json.loads(ran.wrote)
         order = "".join(it + "\n" for it in form["order"]).encode()
-        followed = self.at_order(order, f"JSON, {workers} workers")
-        whole = json.loads(as_json(self.scripts, followed.wrote))
+        again = self.at_order(order, f"JSON, {workers} workers")
+        whole = json.loads(as_json(self.scripts, again.wrote))
         whole |= {"order": form["order"], "unsettled": True}
         same("the form of a run anyway", (1, dumped(whole)), (ran.status, ran.wrote))
 
@@ -421,7 +291,7 @@ class Look:
         if ran.status:
             self.at_late_step(order, steps, ran)
         else:
-            self.hold("follow", ran.wrote, lambda it: model.followed(it, steps)[0].report(), order)
+            self.hold("follow", ran.wrote, lambda it: followed(it, steps)[0].report(), order)
 
     def at_late_step(self, order: bytes, steps: Sequence[bytes], ran: Ran) -> None:
         """An order of which a step can't be taken."""
@@ -433,7 +303,7 @@ class Look:
         lines = self.at_order(before, "the steps before it").wrote.splitlines()
         stands = [it for it in lines if it.startswith(steps[at] + b" ") and it.endswith(b" ready")]
         same("a step that was ready", [], stands, order)
-        self.hold("follow", late[1], lambda it: b"%d" % (model.followed(it, steps)[1] or 0), order)
+        self.hold("follow", late[1], lambda it: b"%d" % (followed(it, steps)[1] or 0), order)
 
 
 def answer_of(plan: model.Plan, x: tuple[bytes, str], y: tuple[bytes, str]) -> bytes:

@@ -1,34 +1,25 @@
-"""Runs the commands with `--json` and `--lines`."""
+"""Runs the commands with `--json`."""
 import json
 import unittest
 
+from forms import Placed, answer_as_json, as_json, found_as_json, tried_as_json, witness_as_json
 from running import (
     CARDS,
     CARDS_REPORT,
+    EARLY_GET,
     EXAMPLE,
+    FULL,
     NOTHING,
     RACY,
     ProgramCase,
     Run,
     Runs,
-    as_lines,
     examples,
     onto,
     start,
     text_of,
     written,
 )
-from forms import (
-    Placed,
-    answer_as_json,
-    as_json,
-    found_as_json,
-    one_line,
-    tried_as_json,
-    witness_as_json,
-)
-
-NO_FORM: list[str] = []
 
 
 def forms(room: str) -> Runs:
@@ -43,10 +34,9 @@ def forms(room: str) -> Runs:
 
 def forms_of_findings() -> Runs:
     """Findings as JSON."""
-    racy = "examples/early-get.plan"
     yield Run(
         "findings as JSON",
-        ["check", "--json", racy],
+        ["check", "--json", EARLY_GET],
         status=1,
         wrote=b'{"findings":["race app:0 2 app:1 1 key app:0 card"]}\n',
     )
@@ -60,7 +50,6 @@ def forms_of_findings() -> Runs:
 
 def forms_of_chains() -> Runs:
     """Answers of `why` as JSON."""
-    racy = "examples/early-get.plan"
     fence = "examples/card-fence.plan"
     still = "examples/standstill.plan"
     question = ["why", "--json", "app:0", "3", "app:1", "4"]
@@ -80,7 +69,7 @@ def forms_of_chains() -> Runs:
     )
     yield Run(
         "no chain, as JSON",
-        ["why", "--json", "app:0", "2", "app:1", "1", racy],
+        ["why", "--json", "app:0", "2", "app:1", "1", EARLY_GET],
         wrote=b'{"before":null,"dead":[]}\n',
     )
     yield Run(
@@ -95,7 +84,6 @@ def forms_of_chains() -> Runs:
 
 def forms_of_orders(room: str) -> Runs:
     """Reports of orders as JSON."""
-    racy = "examples/early-get.plan"
     cards = written(room, "cards.plan", CARDS)
     order = written(
         room, "lowest.order", "".join(f"app:{rank}\n" for rank in "00001112001222").encode()
@@ -106,7 +94,7 @@ def forms_of_orders(room: str) -> Runs:
         b"app:1 1 get-now PMIX_ERR_NOT_FOUND\nwaiting 0\n"
     )
     yield Run("an order as JSON", ["follow", "--json", order, cards], wrote=as_json(CARDS_REPORT))
-    yield Run("a step as JSON", ["follow", "--json", late, racy], wrote=as_json(told))
+    yield Run("a step as JSON", ["follow", "--json", late, EARLY_GET], wrote=as_json(told))
 
 
 def forms_of_examples() -> Runs:
@@ -140,9 +128,7 @@ def forms_of_examples() -> Runs:
 
 def forms_of_witnesses() -> Runs:
     """What `witness` writes as JSON."""
-    racy = "examples/early-get.plan"
-    full = b"wire_up: fault 11 Write 0\n"
-    asked = ["witness", "--json", "app:0", "2", "app:1", "1", racy]
+    asked = ["witness", "--json", "app:0", "2", "app:1", "1", EARLY_GET]
     runs_of_it = (
         b'{"first":{"order":["app:0","app:0","app:1"],"reply":"PMIX_SUCCESS","value":"10.0.0.'
         b'1:7000"},"race":true,'
@@ -158,27 +144,25 @@ def forms_of_witnesses() -> Runs:
     yield Run("a witness as JSON", asked, status=1, wrote=runs_of_it)
     yield Run(
         "no race, as JSON",
-        ["witness", "--json", "app:0", "1", "app:1", "1", racy],
+        ["witness", "--json", "app:0", "1", "app:1", "1", EARLY_GET],
         wrote=b'{"race":false,"shown":null}\n',
     )
     yield Run(
         "a witness as JSON, and a full device",
         asked,
         status=4,
-        said=full,
+        said=FULL,
         set_up=onto("/dev/full", 1),
     )
-    yield Run("no race tried, as JSON", ["witness", "--json", "--most", "0", racy], wrote=none)
-    yield Run("the races as JSON", ["witness", "--json", racy], status=1, wrote=tried)
+    yield Run("no race tried, as JSON", ["witness", "--json", "--most", "0", EARLY_GET], wrote=none)
+    yield Run("the races as JSON", ["witness", "--json", EARLY_GET], status=1, wrote=tried)
 
 
 def forms_that_fail(room: str) -> Runs:
     """Refusals and full devices, where JSON is asked for."""
-    racy = "examples/early-get.plan"
     odd = written(room, "odd.plan", b"# only\n")
     fence = "examples/card-fence.plan"
     question = ["why", "--json", "app:0", "3", "app:1", "4"]
-    full = b"wire_up: fault 11 Write 0\n"
     late = written(room, "late.order", b"app:1\n")
     yield Run(
         "a file that is refused, for JSON",
@@ -188,302 +172,21 @@ def forms_that_fail(room: str) -> Runs:
     )
     yield Run(
         "a wrong word, for JSON",
-        ["why", "--json", "app:0", "9", "app:1", "1", racy],
+        ["why", "--json", "app:0", "9", "app:1", "1", EARLY_GET],
         status=2,
         said=b"wire_up: fault 13 BadOrder 2\n",
     )
     for words, plan in (
-        (["check", "--json"], racy),
+        (["check", "--json"], EARLY_GET),
         (question, fence),
-        (["follow", "--json", late], racy),
+        (["follow", "--json", late], EARLY_GET),
     ):
         yield Run(
             f"{words[0]} as JSON, and a full device",
             [*words, plan],
             status=4,
-            said=full,
+            said=FULL,
             set_up=onto("/dev/full", 1),
-        )
-
-
-def placings(room: str) -> Runs:
-    """The runs of `check`, `why` and `witness` with `--lines`, and with `--json` besides."""
-    yield from placings_of_calls()
-    yield from placings_of_findings()
-    yield from placings_that_fail(room)
-    yield from misused_placings()
-    yield from placings_of_examples()
-
-
-def placings_of_calls() -> Runs:
-    """Chains and runs with lines."""
-    yield from lines_of_two_calls()
-    yield from lines_of_races()
-
-
-def lines_of_two_calls() -> Runs:
-    """A chain and the runs of two calls, with lines."""
-    racy = "examples/early-get.plan"
-    pair = ["app:0", "2", "app:1", "1"]
-    chain = as_lines(
-        ["before", "<stdin>:6: app:0 1 put", "<stdin>:7: app:0 2 commit", "<stdin>:9: app:1 1 get"]
-    )
-    shown = (
-        "%s:9: shown app:1 1 get-now\n%s:7: note: app:0 2 commit\n"
-        "first PMIX_SUCCESS 10.0.0.1:7000\nsecond PMIX_ERR_NOT_FOUND\n"
-    )
-    orders = "order 3\napp:0\napp:0\napp:1\norder 3\napp:0\napp:1\napp:0\n"
-    yield Run(
-        "a question with lines",
-        ["why", "--lines", "app:0", "1", "app:1", "1"],
-        given=text_of(EXAMPLE),
-        wrote=chain,
-    )
-    yield Run(
-        "a witness with lines",
-        ["witness", "--lines", *pair, racy],
-        status=1,
-        wrote=(shown % (racy, racy) + orders).encode(),
-    )
-    yield Run(
-        "no race, with lines",
-        ["witness", "--lines", "app:0", "1", "app:1", "1", racy],
-        wrote=(b"no race\n",),
-    )
-
-
-def lines_of_races() -> Runs:
-    """The races with lines."""
-    racy = "examples/early-get.plan"
-    tried = (
-        "%s:7: shown app:1 1 race app:0 2 app:1 1 key app:0 card\n"
-        "%s:9: note: app:1 1 get-now\nraces 1 shown 1 not-shown 0 not-tried 0\n"
-    )
-    none = b'{"counts":{"not_shown":0,"not_tried":1,"races":1,"shown":0},"races":[]}\n'
-    yield Run(
-        "the races with lines",
-        ["witness", "--lines", racy],
-        status=1,
-        wrote=(tried % (racy, racy)).encode(),
-    )
-    yield Run(
-        "the races with lines, and none tried",
-        ["witness", "--lines", "--most", "0", racy],
-        wrote=b"races 1 shown 0 not-shown 0 not-tried 1\n",
-    )
-    yield Run(
-        "no race tried, as JSON with lines",
-        ["witness", "--lines", "--json", "--most", "0", racy],
-        wrote=none,
-    )
-
-
-def placings_of_findings() -> Runs:
-    """Findings as JSON with lines."""
-    racy = "examples/early-get.plan"
-    found = (
-        b'{"findings":[{"calls":[{"call":2,"line":7,"proc":"app:0","verb":"commit"},{"call":1,'
-        b'"line":9,"proc":"app:1","verb":"get-now"}],'
-        b'"finding":"race app:0 2 app:1 1 key app:0 card"}],"groups":[{"count":1,"first":0}]}\n'
-    )
-    quoted = b'rehearsal 1\nnode n0\njob "\\\nrank n0\nput global k 1\nput global k 2\n'
-    escaped = b'"proc":"\\"\\\\:0","verb":"put"}'
-    yield Run(
-        "findings as JSON with lines", ["check", "--lines", "--json", racy], status=1, wrote=found
-    )
-    yield Run(
-        "no findings, as JSON with lines",
-        ["check", "--json", "--lines", "--large", EXAMPLE],
-        wrote=b'{"findings":[],"groups":[]}\n',
-    )
-    yield Run(
-        "a quote in a name, as JSON with lines",
-        ["check", "--json", "--lines"],
-        given=quoted,
-        status=1,
-        wrote=(escaped,),
-    )
-
-
-def placings_that_fail(room: str) -> Runs:
-    """Refusals and full devices, where lines are asked for."""
-    racy = "examples/early-get.plan"
-    odd = written(room, "odd.plan", b"# only\n")
-    full = b"wire_up: fault 11 Write 0\n"
-    pair = ["app:0", "2", "app:1", "1"]
-    for words in (["check"], ["why", *pair], ["witness"], ["witness", *pair]):
-        for form in NO_FORM, ["--json"]:
-            name = " ".join([*words, "--lines", *form])
-            yield Run(
-                f"{name}: a file that is refused",
-                [*words, "--lines", *form, odd],
-                status=2,
-                said=b"wire_up: fault 3 BadHeader 2\n",
-            )
-            yield Run(
-                f"{name}: a full device",
-                [*words, "--lines", *form, racy],
-                status=4,
-                said=full,
-                set_up=onto("/dev/full", 1),
-            )
-    for words in (["why"], ["witness"]):
-        yield Run(
-            f"a wrong word of {words[0]}, with lines",
-            [*words, "--lines", "app:0", "9", "app:1", "1", racy],
-            status=2,
-            said=b"wire_up: fault 13 BadOrder 2\n",
-        )
-
-
-def misused_patterns(file: str) -> Runs:
-    """What doesn't go with `--pattern`."""
-    usage = b"wire_up: usage --pattern\n"
-    for option in ("--anywhere", "--same", "--lines", "--large"):
-        words = ["check", option, "--pattern", file]
-        yield Run(f"check with --pattern and {option}", words, status=5, said=usage)
-        words = ["check", "--pattern", "--answers", "--json", "--explain", option, file]
-        yield Run(f"check with --answers and {option}", words, status=5, said=usage)
-    for option in ("--answers", "--complete"):
-        words = ["check", option, "--anywhere", file]
-        yield Run(f"check with {option} and without --pattern", words, status=5, said=usage)
-    words = ["check", "--answers", "--same", file]
-    yield Run("check with --answers and --same", words, status=5, said=usage)
-    words = ["check", "--pattern", "--anywhere", "--same", "--json"]
-    yield Run("check with --pattern and three options", words, status=5, said=usage)
-    words = ["check", "--pattern", file, file]
-    yield Run("check with --pattern and two files", words, status=5, said=(b"Usage: wire_up",))
-    for command in ("replay", "migrate"):
-        yield Run(
-            f"{command} with --pattern",
-            [command, "--pattern", file],
-            status=5,
-            said=(b"Usage: wire_up",),
-        )
-    yield Run(
-        "--pattern in the help on check",
-        ["check", "--help"],
-        wrote=(
-            b"--pattern",
-            b"Judges a pattern: every number of ranks on every placement",
-            b"--answers",
-            b"--complete",
-        ),
-    )
-
-
-def misused_spreads(file: str) -> Runs:
-    """Options of `expand` that don't say on which nodes ranks are."""
-    usage = b"wire_up: usage expand\n"
-    wrong = {
-        "no ranks on a node": "--per-node 0",
-        "ranks on a node that are no number": "--per-node x",
-        "no nodes": "--by node --nodes 0",
-        "nodes that are no number": "--by node --nodes 2x",
-        "another way": "--by slot --nodes 2",
-        "a way without nodes": "--by node",
-        "nodes without a way": "--nodes 2",
-        "two ways": "--per-node 2 --by node --nodes 2",
-        "ranks on a node, and nodes": "--per-node 2 --nodes 2",
-    }
-    for name, options in wrong.items():
-        words = ["expand", "--ranks", "workers=2", *options.split(), file]
-        yield Run(f"expand with {name}", words, status=5, said=usage)
-    for option in ("--json", "--lines"):
-        yield Run(
-            f"expand with {option}",
-            ["expand", option, file],
-            status=5,
-            said=(b"Usage: wire_up",),
-        )
-    yield Run(
-        "the options in the help on expand",
-        ["expand", "--help"],
-        wrote=(b"--ranks <GROUPS>", b"--per-node <COUNT>", b"--by <WAY>", b"--nodes <COUNT>"),
-    )
-
-
-def misused_ranks(file: str) -> Runs:
-    """Parts of `--ranks` that say nothing, or what the pattern can't have. Its one group is
-    `workers`."""
-    wrong = {
-        "": 1,
-        "workers": 1,
-        "workers=": 1,
-        "workers=x": 1,
-        "workers=-1": 1,
-        "worker=2": 1,
-        "workers=2,": 2,
-        "workers=2,workers=3": 2,
-    }
-    for word, part in wrong.items():
-        yield Run(
-            f"expand --ranks {word}",
-            ["expand", "--ranks", word, file],
-            status=2,
-            said=b"wire_up: fault 13 BadOrder %d\n" % part,
-        )
-
-
-def misused_placings() -> Runs:
-    """Where lines don't go."""
-    racy = "examples/early-get.plan"
-    pair = ["app:0", "2", "app:1", "1"]
-    usage = (b"Usage: wire_up",)
-    misfit = b"wire_up: usage witness\n"
-    for order in ("--first", "--second"):
-        yield Run(
-            f"witness {order} with lines",
-            ["witness", order, "--lines", *pair, racy],
-            status=5,
-            said=misfit,
-        )
-        yield Run(
-            f"witness {order} with lines of the races",
-            ["witness", order, "--lines", racy],
-            status=5,
-            said=misfit,
-        )
-    yield Run(
-        "check with --same alone",
-        ["check", "--same", "--lines", racy],
-        status=5,
-        said=b"wire_up: usage --same\n",
-    )
-    yield from misused_patterns(racy)
-    pattern = "examples/patterns/business-cards.pattern"
-    yield from misused_spreads(pattern)
-    yield from misused_ranks(pattern)
-    for words in (["replay"], ["follow", racy], ["migrate"]):
-        yield Run(f"{words[0]} with lines", [*words, "--lines", racy], status=5, said=usage)
-    for command in ("check", "why", "witness"):
-        yield Run(
-            f"lines in the help on {command}", [command, "--help"], wrote=(b"--lines", b"--json")
-        )
-
-
-def placings_of_examples() -> Runs:
-    """The runs of the examples' findings and questions, with lines."""
-    for it in examples(".findings"):
-        placed, text = Placed(it), text_of(f"examples/{it}.findings")
-        yield Run(
-            f"findings of {it} as JSON with lines",
-            ["check", "--lines", "--json", placed.plan],
-            status=int(text != NOTHING),
-            wrote=placed.findings(text),
-        )
-    for it in examples(".question"):
-        asked = text_of(f"examples/{it}.question").decode().split()
-        placed, answer = Placed(it), text_of(f"examples/{it}.answer")
-        yield Run(
-            f"a question about {it}, with lines",
-            ["why", "--lines", *asked, placed.plan],
-            wrote=placed.answer(answer),
-        )
-        yield Run(
-            f"a question about {it}, as JSON with lines",
-            ["why", "--lines", "--json", *asked, placed.plan],
-            wrote=one_line(placed.with_lines(json.loads(answer_as_json(answer)))),
         )
 
 
@@ -492,9 +195,6 @@ class Forms(ProgramCase):
 
     def test_forms(self) -> None:
         self.hold_all(forms(self.room))
-
-    def test_placings(self) -> None:
-        self.hold_all(placings(self.room))
 
     def test_anyway(self) -> None:
         """A plan with a race is run with `--anyway`, and gives the same report when it is followed

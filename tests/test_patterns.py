@@ -10,6 +10,7 @@ from collections.abc import Iterator
 
 import grammar
 import model
+import model_runs
 import pattern_faults
 import pattern_reference
 import pattern_soaking
@@ -19,7 +20,7 @@ from forms import one_line, pattern_as_json
 from pattern_plan import Plan, Verdict, answered
 from pattern_soaking import Instance
 from running import ProgramCase, Run, Runs, as_lines, start
-from soaking import Runner
+from soak_runner import Runner
 
 FOLDER = os.path.join(support.TOP, "examples", "patterns")
 # How many random patterns are tried, of at most so many instances.
@@ -128,7 +129,7 @@ class Checker(unittest.TestCase):
         lines.append(b"findings %d" % len(found))
         self.assertEqual(modelled.findings(), pattern_reference.text_of(lines), text)
         if not found:
-            report = model.Run(modelled).go().report().splitlines()[:-1]
+            report = model_runs.Run(modelled).go().report().splitlines()[:-1]
             wanted = [it.split(b" ")[2:4] for it in report]
             self.assertEqual(wanted, [*ends(instance, verdict, wanted)], text)
 

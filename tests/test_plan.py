@@ -4,7 +4,7 @@ import os
 import unittest
 
 import support
-from wire_up_tools.plan import Lines, read_calls, read_plan, read_set
+from wire_up_tools.plan_reading import Lines, read_calls, read_plan, read_set
 
 PLAN = b"""\
 # Recorded by wire_up-record

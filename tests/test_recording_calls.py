@@ -5,7 +5,7 @@ from dataclasses import dataclass
 from typing import Optional
 
 from tapes import Recorded, Tape, read_scripts, write_plan_of
-from wire_up_tools.words import MORE_ORDERED
+from wire_up_tools.words import LEFT_OUT, MORE_ORDERED, OTHERWISE_AFTER
 
 PUT, COMMIT, FENCE = ("put global k text:v", "0"), ("commit", "0"), ("fence blocks all -", "0")
 COLLECTS = ("fence nb job:* pmix.collect=number:1:1", "0")
@@ -240,6 +240,12 @@ class CallsTest(unittest.TestCase):
                 plan = write_plan_of([tape])
                 self.assertEqual(MORE_ORDERED in plan, bool(said))
                 self.assertIn(said, plan)
+
+    def test_calls_whose_result_depends_on_speed(self) -> None:
+        """They are told apart from calls that are left out."""
+        plan = write_plan_of([Tape(0).say("other MPI_Fetch_and_op").say("other MPI_Win_flush")])
+        self.assertIn(f"{OTHERWISE_AFTER}\n#   1 calls of MPI_Fetch_and_op\n", plan)
+        self.assertIn(f"{LEFT_OUT}\n#   1 calls of MPI_Win_flush\n", plan)
 
     def test_a_name_that_goes_away(self) -> None:
         """At its first read, if another may look it up, or with its process."""

@@ -5,6 +5,10 @@ import unittest
 from collections.abc import Sequence
 
 import support
+from free_programs import Free
+from marks import find_marks_before
+from random_worlds import World
+from recorded import CASES
 from tapes import (
     SHIPPED,
     Scripts,
@@ -15,7 +19,6 @@ from tapes import (
     run_recorder,
     write_file,
 )
-from test_recording_random import Free, World, find_marks_before
 from wire_up_tools.failures import Refused
 from wire_up_tools.record.merging import merge_plans
 from wire_up_tools.record.partings import Run
@@ -150,8 +153,9 @@ class MergedTest(unittest.TestCase):
             first, second = (os.path.join(SHIPPED, name) for name in ("wild1", "wild2"))
             ran = run_recorder(*words, "--from", first, "--from", second)
             each = "by themselves they have findings 1, findings 1"
-            said = f"what the runs share has findings 1; {each}"
-            self.assertEqual((ran.returncode, ran.stderr), (0, f"wire_up-record: {said}\n"))
+            received = CASES["wild1"].says_received.replace("2", "4")
+            said = f"wire_up-record: what the runs share has findings 1; {each}\n"
+            self.assertEqual((ran.returncode, ran.stderr), (0, received + said))
             self.assertIn("# 2 runs: ", read_file(plan))
             told = os.path.join(SHIPPED, "told")
             ran = run_recorder(*words, "--from", told, "--from", told)

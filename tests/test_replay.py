@@ -20,7 +20,7 @@ from running import (
 NO_OPTION: list[str] = []
 
 
-def rehearsals(room: str) -> Runs:
+def replays(room: str) -> Runs:
     """The runs of `replay` by workers, with its options."""
     yield from replays_by_workers(room)
     yield from replays_of_races(room)
@@ -348,8 +348,8 @@ def refused_keepings() -> Runs:
 class Replay(ProgramCase):
     """Runs of `replay`."""
 
-    def test_rehearsals(self) -> None:
-        self.hold_all(rehearsals(self.room))
+    def test_replays(self) -> None:
+        self.hold_all(replays(self.room))
 
     def test_completions(self) -> None:
         self.hold_all(completions(self.room))

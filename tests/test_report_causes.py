@@ -3,7 +3,7 @@ import unittest
 from collections.abc import Sequence
 
 import report_support
-from wire_up_tools.plan import read_plan
+from wire_up_tools.plan_reading import read_plan
 from wire_up_tools.report import explaining
 from wire_up_tools.report.causes import Cause, find_causes
 from wire_up_tools.report.findings import Group, read_line, tally_up

@@ -4,7 +4,7 @@ import xml.etree.ElementTree
 from typing import Optional
 
 import report_support
-from wire_up_tools.plan import read_plan
+from wire_up_tools.plan_reading import read_plan
 from wire_up_tools.report import drawing, text_drawing
 from wire_up_tools.report.diagram import LANES, ROWS, Diagram, Style
 from wire_up_tools.report.layout import lay_out

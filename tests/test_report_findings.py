@@ -5,7 +5,7 @@ from unittest import mock
 import report_support
 import support
 from wire_up_tools.checker import Checker
-from wire_up_tools.plan import read_plan
+from wire_up_tools.plan_reading import read_plan
 from wire_up_tools.report import findings
 from wire_up_tools.report.asking import Asker
 from wire_up_tools.report.findings import Group

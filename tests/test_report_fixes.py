@@ -2,7 +2,8 @@
 import unittest
 
 import support
-from wire_up_tools.plan import Plan, read_plan
+from wire_up_tools.plan import Plan
+from wire_up_tools.plan_reading import read_plan
 from wire_up_tools.report import explaining
 from wire_up_tools.report.findings import read_line
 from wire_up_tools.report.messages import explain_late, find_late

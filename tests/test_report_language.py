@@ -3,7 +3,8 @@ import unittest
 from collections.abc import Sequence
 
 import support
-from wire_up_tools.plan import Call, read_plan
+from wire_up_tools.plan import Call
+from wire_up_tools.plan_reading import read_plan
 from wire_up_tools.report.language import name_call
 from wire_up_tools.report.places import name_spot, say_place
 

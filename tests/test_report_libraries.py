@@ -6,7 +6,7 @@ import unittest
 
 import report_support
 from wire_up_tools.failures import Refused
-from wire_up_tools.plan import read_plan
+from wire_up_tools.plan_reading import read_plan
 from wire_up_tools.run.expected import Expected
 from wire_up_tools.run.libraries.judging import MOST_CALLS, Judged, hold_small, judge
 from wire_up_tools.run.libraries.traits import LIBRARIES, find_recorded

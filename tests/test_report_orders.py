@@ -4,7 +4,8 @@ import unittest
 from typing import Optional
 
 import report_support
-from wire_up_tools.plan import Call, read_plan
+from wire_up_tools.plan import Call
+from wire_up_tools.plan_reading import read_plan
 from wire_up_tools.report.orders import Order, find_order
 
 # About how many pairs of calls of a plan `why` is asked.

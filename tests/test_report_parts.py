@@ -4,7 +4,7 @@ from unittest import mock
 
 import support
 from wire_up_tools.checker import Checker
-from wire_up_tools.plan import read_plan
+from wire_up_tools.plan_reading import read_plan
 from wire_up_tools.report import plan_parts
 from wire_up_tools.report.asking import Asker
 from wire_up_tools.report.replies import Replies, find_replies

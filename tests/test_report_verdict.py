@@ -4,8 +4,9 @@ import tempfile
 import unittest
 
 import report_support
-from wire_up_tools.plan import read_plan
+from wire_up_tools.plan_reading import read_plan
 from wire_up_tools.report.partial import find_reasons
+from wire_up_tools.words import OTHERWISE_AFTER
 
 HEAD = "# Recorded by wire_up-record on a day: 2 processes\n"
 PLAN = "rehearsal 1\nnode n\njob app\nrank n\nput global k v\ncommit\n"
@@ -83,6 +84,11 @@ class ReasonsTest(unittest.TestCase):
         threads = "2 processes that called from several threads"
         title = "More ordered than the program, so that a race can be missed:"
         self.assertEqual(find_reasons_in(title, f"  {threads}"), [threads])
+
+    def test_receives_that_could_have_got_another_message(self) -> None:
+        what = "2 receives that could have got another message"
+        found = find_reasons_in(OTHERWISE_AFTER, f"  {what}")
+        self.assertEqual(found, [f"another run may do otherwise after {what}"])
 
     def test_a_recording_that_was_cut_off(self) -> None:
         title, last = "Left out:", "  1 last lines of recordings, which were cut"

@@ -6,10 +6,11 @@ from collections.abc import Mapping
 
 import grammar
 import model
+import model_runs
 from running import ProgramCase, text_of, written
 from support import TOP
 from test_run_parts import run
-from wire_up_tools.plan import read_plan
+from wire_up_tools.plan_reading import read_plan
 from wire_up_tools.run.expected import Expected
 from wire_up_tools.run.libraries.judging import judge
 from wire_up_tools.run.libraries.predicting import Way, explain_differences, predict
@@ -47,7 +48,7 @@ PLANS = {it.name: it for it in read_suite()}
 def rules_report(plan: SuitePlan) -> Report:
     """The report of the rules, by the model of the tests."""
     scripts = grammar.read(plan.text.encode())
-    return read_report(model.Run(model.Plan(scripts)).go().report().decode())
+    return read_report(model_runs.Run(model.Plan(scripts)).go().report().decode())
 
 
 def list_seen(recorded: Recorded) -> set[str]:

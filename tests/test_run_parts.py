@@ -13,7 +13,8 @@ from xml.etree import ElementTree
 
 from support import TOP
 from wire_up_tools.failures import Refused
-from wire_up_tools.plan import Rank, read_plan
+from wire_up_tools.plan import Rank
+from wire_up_tools.plan_reading import read_plan
 from wire_up_tools.run import channels, fake_nodes, launchers, ranks, turns
 from wire_up_tools.run.answers import Case, Seen, write_junit
 from wire_up_tools.run.channels import Channel

@@ -17,7 +17,8 @@ import support
 from hostile_plans import COMMITS, HEAD, PLAN, REPORT, Form, forms, refused
 from refusing import Outcome, library, run_with
 from running import CARDS, EXAMPLE, RACE, RACY, READ, SECONDS, ProgramCase, Run, written
-from soaking import Runner, difference_of
+from soak_runner import Runner
+from soaking import difference_of
 
 PIPE_BYTES = 4096
 # After how many bytes a reader goes away.

@@ -29,6 +29,7 @@ from typing import Optional
 
 import grammar
 import model
+import model_runs
 import support
 from random_plans import Maker, MeetingMaker
 from running import SECONDS, ProgramCase
@@ -135,7 +136,7 @@ class Look:
         """Looks at a race, of which the list has a line, and also at its orders if that is asked.
         Answers whether it is shown."""
         x, y = race.x, race.y
-        shown, words = model.witness(self.model, x, y), self.words(x, y)
+        shown, words = model_runs.witness(self.model, x, y), self.words(x, y)
         if not line.startswith("shown "):
             want(not shown, f"{words}: not shown, and the model shows it")
             self.at_not_shown(words, "not shown")
@@ -144,10 +145,10 @@ class Look:
         call = self.at_shown(words, shown, is_far)
         want(call == line.split()[1:3], f"{words}: {call}, and in the list {line}")
         if is_far:
-            self.at_shown(self.words(y, x), model.witness(self.model, y, x), True)
+            self.at_shown(self.words(y, x), model_runs.witness(self.model, y, x), True)
         return True
 
-    def at_shown(self, words: Lines, shown: Optional[model.Shown], is_far: bool) -> Lines:
+    def at_shown(self, words: Lines, shown: Optional[model_runs.Shown], is_far: bool) -> Lines:
         """Looks at two calls of a race that is called shown, beside what shows it in the model.
         Answers the call that ends differently."""
         status, lines = self.witness(*words)
@@ -155,7 +156,7 @@ class Look:
         first, second = lines[1].removeprefix("first "), lines[2].removeprefix("second ")
         want(first != second, f"witness {words}: both ends read alike, {first}")
         if shown:
-            text = model.witness_text(self.model, shown).decode("latin-1")
+            text = model_runs.witness_text(self.model, shown).decode("latin-1")
             want(lines == text.splitlines(), f"{words}: other runs than in the model")
         if is_far:
             self.at_orders(words, lines)

@@ -25,6 +25,7 @@ CUT_OFF = "The run was cut off, so that a verdict holds only in part:"
 PARTED = "The runs part, so that a verdict holds only in part:"
 LEFT_OUT = "Left out:"
 MORE_ORDERED = "More ordered than the program, so that a race can be missed:"
+OTHERWISE_AFTER = "Another run may do otherwise after these, so that a race can be missed:"
 WRITTEN_OTHERWISE = "Written otherwise:"
 # What the head says of ends that were left to luck, after their number, and how it ends where
 # their order is taken. And how the line begins that has the verdicts with and without --strict.

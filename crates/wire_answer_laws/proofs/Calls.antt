@@ -1,5 +1,5 @@
 -- The calls of scripts, their events and their lines.
-use Rattle.std.proofs.Common.{◌≡◌, ◌∙◌, ap, sym, subst, refl, ℕ, zero, suc, pred, ◌<◌, List, [], ◌∷◌, Bool, true, false, not, length, map, Option, Some, None, option_map, if◌then◌else◌, zero-add, arith}
+use Rattle.std.proofs.Common.{◌≡◌, ◌∙◌, ap, sym, subst, refl, ℕ, pred, ◌<◌, List, Bool, true, false, length, map, Option, Some, option_map, if◌then◌else◌, zero-add}
 use Rattle.std.specs.Prelude.{slice_get}
 use Rattle.std.proofs.lemmas.Bool.{true≢false, cond-false}
 use Rattle.std.proofs.lemmas.List.{length-map}
@@ -26,11 +26,11 @@ use Rattle.wire_pattern.specs.Instances.{Cast, cast_of}
 use Rattle.wire_pattern_laws.specs.Lines.{numbers_from, IsOfLine}
 use Rattle.wire_instance_laws.specs.Reading.{IsInstance, IsOfCast}
 use Rattle.wire_instance_laws.proofs.Calls.{instance_calls}
+use Rattle.wire_sweep.proofs.Texts.{there_is}
 use Rattle.wire_pattern_waits.specs.Places.{steps_places}
 use Rattle.wire_pattern_answers.specs.FewPlacings.{asks_now}
 use Rattle.wire_pattern_answers.proofs.Calls.{first_kind, kind_there, place_in, planned_there}
 use Rattle.wire_pattern_answers.proofs.Events.{kinds_are}
-use Rattle.wire_answer_laws.specs.AnySize.{asks_plainly}
 use Rattle.wire_answer_laws.proofs.Fences.{is_fence, is_leave, leaves_of, leaves_are, one_list, place_is, leaves_without, leaves_image}
 use Rattle.wire_answer_laws.proofs.Spread.{spread, spread_at, HasCall, at_spread, of_steps}
 
@@ -40,23 +40,6 @@ pub record AsksPlainly (s : Scripts) (o : Option Said) : Type 0 where
   pub key : ℕ
   pub is : o ≡ Some (said.GetNow owner key)
   pub plain : is_reserved (text_at s.keys key) ≡ false
-
-from_not : (b : Bool) → not b ≡ true → b ≡ false
-from_not true h = absurd (true≢false (sym h))
-from_not false h = refl
-
-pub asks : (s : Scripts) (o : Option Said) → asks_plainly s o ≡ true → AsksPlainly s o
-asks s None other_call = absurd (true≢false (sym other_call))
-asks s (Some (said.GetNow owner key)) plain = record { owner = owner; key = key; is = refl; plain = from_not _ plain }
-asks s (Some (said.Put scope key value)) other_call = absurd (true≢false (sym other_call))
-asks s (Some said.Commit) other_call = absurd (true≢false (sym other_call))
-asks s (Some (said.Fence set collect)) other_call = absurd (true≢false (sym other_call))
-asks s (Some (said.Get owner key)) other_call = absurd (true≢false (sym other_call))
-asks s (Some (said.Publish name value)) other_call = absurd (true≢false (sym other_call))
-asks s (Some (said.Lookup name)) other_call = absurd (true≢false (sym other_call))
-asks s (Some (said.LookupWait name)) other_call = absurd (true≢false (sym other_call))
-asks s (Some (said.Unpublish name)) other_call = absurd (true≢false (sym other_call))
-asks s (Some said.UnpublishAll) other_call = absurd (true≢false (sym other_call))
 
 -- the event of such a call
 pub kind_of_call : (s : Scripts) (v c : ℕ) (a : AsksPlainly s (call_at s.processes v c))
@@ -92,11 +75,6 @@ planned_asks s (said.Lookup name) h = absurd (none_asked (text_at s.names name) 
 planned_asks s (said.LookupWait name) h = absurd (none_asked (text_at s.names name) (bare BadParam) (CallLookupWait name) refl h)
 planned_asks s (said.Unpublish name) h = absurd (none_asked (text_at s.names name) (bare BadParam) (CallUnpublish name) refl h)
 planned_asks s said.UnpublishAll h = absurd (true≢false (sym h))
-
-pub there_is : {A : Type 0} (xs : List A) (i : ℕ) → i < length xs → (x : A) × (slice_get xs i ≡ Some x)
-there_is [] i lt = absurd (omega (arith, lt))
-there_is (x ∷ xs) zero lt = (x, refl)
-there_is (x ∷ xs) (suc i) lt = there_is xs i (omega (arith, lt))
 
 pub asked_call : (s : Scripts) (v c owner key : ℕ) → c < length (calls_in (slice_get s.processes v))
     → kind (plan_of s) (record { proc = v; at = place_in s v c }) ≡ Some (GetNow owner key) → asks_now (call_at s.processes v c) ≡ true

@@ -1,5 +1,5 @@
 -- What a get-now is answered in an instance of any size, one of its line finds in a small instance.
-use Rattle.std.proofs.Common.{◌≡◌, ◌∙◌, ap, sym, subst, refl, ℕ, pred, ◌<◌, length, true, Some, arith}
+use Rattle.std.proofs.Common.{◌≡◌, ◌∙◌, ap, sym, subst, refl, ℕ, pred, ◌<◌, length, Some, arith}
 use Rattle.std.specs.Prelude.{slice_get}
 use Rattle.std.proofs.lemmas.Option.{slice_get_within}
 use Rattle.wire_types.specs.declared.Status.{Status}
@@ -36,13 +36,12 @@ use Rattle.wire_instance_laws.specs.Reading.{IsInstance, IsOfCast}
 use Rattle.wire_sweep_laws.specs.Promised.{IsAnyCast, IsSettledForAll}
 use Rattle.wire_sweep_laws.proofs.Few.{most_at, three}
 use Rattle.wire_sweep.specs.Texts.{HaveLeast}
-use Rattle.wire_sweep.proofs.Texts.{any_cast}
+use Rattle.wire_sweep.proofs.Texts.{there_is, any_cast}
 use Rattle.wire_pattern_answers.specs.Answers.{IsAnswered}
 use Rattle.wire_pattern_answers.proofs.Calls.{place_in}
 use Rattle.wire_pattern_answers.proofs.Events.{row_to, said_status, end_reached}
-use Rattle.wire_answer_laws.specs.AnySize.{asks_plainly}
 use Rattle.wire_answer_laws.proofs.SameNodes.{agree_all, finds_there}
-use Rattle.wire_answer_laws.proofs.Calls.{AsksPlainly, asks, kind_of_call, event_line, there_is}
+use Rattle.wire_answer_laws.proofs.Calls.{AsksPlainly, kind_of_call, event_line}
 
 -- a get-now under other numbers is one
 record IsAsked (key name : ℕ → ℕ) (k : Kind) (owner there : ℕ) : Type 0 where
@@ -82,10 +81,8 @@ instance_there p cast s of nodes v lt =
     (of.instances have_coding nodes).renumbered.nodes v ∙ instance_node (pattern_of p) have_coding (on_nodes nodes (cast_of cast)) v role.0 role.1
 
 module _ (p : Pattern) (sound : IsSound p) (settled : IsSettledForAll p) (cast : Cast) (s : Scripts) (is_cast : IsCast p cast) (least : HaveLeast p.roles cast.sizes) (of : IsOfCast p cast s)
-    (here : IsSettled (plan_of s)) (role line : ℕ) (status : Status) (a : IsAnswered p cast s role line status) (plain : asks_plainly s (call_at s.processes a.process a.call) ≡ true) where
-  abbrev asked : AsksPlainly s (call_at s.processes a.process a.call)
-  asked = asks s (call_at s.processes a.process a.call) plain
-
+    (here : IsSettled (plan_of s)) (role line : ℕ) (status : Status) (a : IsAnswered p cast s role line status)
+    (asked : AsksPlainly s (call_at s.processes a.process a.call)) where
   abbrev x : Event
   x = record { proc = a.process; at = place_in s a.process a.call }
 

@@ -2,6 +2,12 @@ mod Fences
 mod Spread
 mod SameNodes
 mod Calls
+mod TurnedLines
+mod Largest
+mod ReservedStatus
+mod AskedLines
+mod HaveReplies
+mod Reserved
 mod Large
 mod Small
 mod AnySize

@@ -1,21 +1,15 @@
 -- A get-now finds the same in two placings in which the processes are on the same nodes.
-use Rattle.std.proofs.Common.{◌≡◌, ◌∙◌, ap, sym, ℕ, ◌<◌, ◌≤◌, false, inl, inr, ◌==◌, eq-eqb, arith}
+use Rattle.std.proofs.Common.{◌≡◌, ◌∙◌, ap, sym, ℕ, ◌<◌, false, inl, inr, ◌==◌, eq-eqb, arith}
 use Rattle.std.proofs.lemmas.Bool.{true≢false, cases_lt}
-use Rattle.std.proofs.lemmas.Option.{slice_get_past}
 use Rattle.wire_types.specs.declared.Status.{Status}
-use Rattle.wire_runs.specs.Plan as runs
 use Rattle.wire_runs.specs.Plan.{Plan, Event, process_count, node_of, same_node}
 use Rattle.wire_runs.specs.Races.{Delivery, ByFence, ByGet, IsOf}
 use Rattle.wire_runs.specs.Placings.{IsPlacing, Carries, HasSurely}
 use Rattle.wire_runs.specs.PlacingLaws.{AreAlike}
 use Rattle.wire_runs.proofs.PlacingKeeps.{turned, placing_keeps, surely_kept}
-use Rattle.wire_runs.proofs.Anywhere.{to_node, to_process}
+use Rattle.wire_runs.proofs.Anywhere.{no_node, to_node, to_process}
 use Rattle.wire_pattern_laws.specs.Finds.{far_nothing, far_value, Finds, from_own, from_near, from_far}
 use Rattle.wire_pattern_answers.proofs.Same.{own_there, near_there}
-
-no_node : (plan : Plan) (q : ℕ) → process_count plan ≤ q → node_of plan q ≡ 0
-unfolding node_of
-no_node plan q past = ap runs.process_node (slice_get_past plan.processes q past)
 
 -- on the same nodes, those of no process too
 pub agree_all : (plan other : Plan) → process_count plan ≡ process_count other → ((q : ℕ) → q < process_count plan → node_of other q ≡ node_of plan q)

@@ -1,17 +1,14 @@
 -- What a get-now finds in a small instance, one of its line is answered in an instance that is judged.
-use Rattle.std.proofs.Common.{◌≡◌, ◌∙◌, ap, sym, subst, refl, ℕ, pred, ◌<◌, ◌≤◌, ◌^◌, List, Bool, true, length, map, Some, arith}
-use Rattle.std.specs.Prelude.{slice_get, Ok}
+use Rattle.std.proofs.Common.{◌≡◌, ◌∙◌, ap, sym, subst, refl, ℕ, pred, ◌<◌, ◌≤◌, ◌^◌, List, [], Bool, true, length, map, Some, arith}
+use Rattle.std.specs.Prelude.{slice_get, slice_index_or, Ok}
 use Rattle.std.proofs.lemmas.List.{length-map}
 use Rattle.std.proofs.lemmas.Option.{slice_get_within}
-use Rattle.wire_types.specs.declared.CallEnd.{CallEnd}
 use Rattle.wire_types.specs.declared.CallEnd.TheVariants.{Replied}
 use Rattle.wire_types.specs.declared.Reply.{Reply}
 use Rattle.wire_types.specs.declared.Status.{Status}
 use Rattle.wire_runs.specs.Plan.{Plan, GetNow, kind, process_count, node_of}
 use Rattle.wire_runs.specs.State.{Answer, IsDone}
-use Rattle.wire_runs.specs.Step.{run}
-use Rattle.wire_runs.specs.PlainRun.{plain_run}
-use Rattle.wire_runs.specs.Ends.{row, calls_of}
+use Rattle.wire_runs.specs.Ends.{calls_of}
 use Rattle.wire_runs.specs.Races.{IsSettled}
 use Rattle.wire_runs.specs.Laws.{plain_end}
 use Rattle.wire_runs.specs.Placings.{IsPlacing, IsSettledAnywhere}
@@ -21,18 +18,17 @@ use Rattle.wire_runs.specs.Patterns.{instance_of}
 use Rattle.wire_runs.specs.Restrictions.{on_nodes}
 use Rattle.wire_runs.proofs.Anywhere.{settled_there}
 use Rattle.wire_runs.proofs.Codings.{have_coding}
-use Rattle.wire_runs.proofs.Ends.{rows_are_whole}
 use Rattle.wire_runs.proofs.FindingsAnywhere.{placings_are}
 use Rattle.wire_runs.proofs.PlacingKeeps.{turned, kind_kept}
 use Rattle.wire_runs.proofs.PlacingReplies.{reflexive}
-use Rattle.wire_runs.proofs.PlacingRuns.{run_alike}
-use Rattle.wire_runs.proofs.PlainRun.{plain_runs}
+use Rattle.wire_runs.proofs.PlacingRuns.{done_alike}
 use Rattle.wire_runs.proofs.Renumbered.{embeds}
 use Rattle.wire_content.specs.Scripts.{Scripts, call_at}
 use Rattle.wire_content.specs.Planned.{planned_process, plan_of}
 use Rattle.wire_content.specs.Placed.{moved}
 use Rattle.wire_content.proofs.Moved.{moved_length, as_placing, node_moved}
 use Rattle.wire_content.proofs.PlannedCalls.{as_many_planned}
+use Rattle.wire_core.specs.EndsAfter.{plain_ends}
 use Rattle.wire_script.specs.declared.Size.TheVariants.{OfVersion}
 use Rattle.wire_script.specs.Reads.{Reads}
 use Rattle.wire_pattern.specs.Pattern.{Pattern}
@@ -59,7 +55,7 @@ use Rattle.wire_sweep.proofs.Selected.{selection_there, selections_few}
 use Rattle.wire_sweep.proofs.Texts.{any_cast}
 use Rattle.wire_pattern_waits.specs.Places.{steps_places}
 use Rattle.wire_pattern_waits.specs.Waits.{alone}
-use Rattle.wire_pattern_waits.proofs.Answered.{row_of, places_between}
+use Rattle.wire_pattern_waits.proofs.Answered.{places_between}
 use Rattle.wire_pattern_waits.proofs.Replied.{alone_cast}
 use Rattle.wire_pattern_answers.specs.FewPlacings.{asks_now, IsAnsweredWith}
 use Rattle.wire_pattern_answers.specs.Answers.{Answers}
@@ -70,12 +66,9 @@ use Rattle.wire_answer_laws.specs.AnySize.{IsAllAnswered}
 use Rattle.wire_answer_laws.proofs.SameNodes.{agree_all, finds_there}
 use Rattle.wire_answer_laws.proofs.Spread.{HasCall}
 use Rattle.wire_answer_laws.proofs.Fences.{is_fence}
-use Rattle.wire_answer_laws.proofs.Calls.{there_is, asked_call, fences, event_call, call_stands}
+use Rattle.wire_answer_laws.proofs.Calls.{asked_call, fences, event_call, call_stands}
+use Rattle.wire_answer_laws.proofs.HaveReplies.{has_reply}
 use Rattle.wire_answer_laws.proofs.Large.{instance_there}
-
--- as much is done at the end on all nodes
-far_done : (plan other : Plan) → IsPlacing plan other → (p : ℕ) → (plain_end plan).done p ≡ (plain_end other).done p
-far_done plan other same p = ((run_alike plan other same).runs (plain_run plan)).done p ∙ ap (λ w. (run other w).done p) (run_alike plan other same).plain
 
 -- lines are counted from 1
 pub line_from_one : (p : Pattern) (cast : Cast) (v role c line : ℕ) → slice_get (steps_places cast v 0 1 (steps_in (slice_get p.roles role))) c ≡ Some line → 1 ≤ line
@@ -203,25 +196,17 @@ module _ (p : Pattern) (all : IsAllAnswered p) (role n : ℕ) (status : Status)
   low_call = subst (λ k. call.call < k) (length-map (calls_of here f.get.proc) is_fence) call.within
 
   -- it has its reply where each has a node of its own
-  end_there : (end : CallEnd) × (slice_get (row here (plain_end here) f.get.proc) call.call ≡ Some end)
-  end_there =
-      there_is (row here (plain_end here) f.get.proc) call.call
-      (let whole = rows_are_whole here (plain_end here) f.get.proc (plain_run here, (plain_runs here).is_run, refl) in omega (arith, low_call, whole))
-
-  replied : (reply : Reply) × (end_there.0 ≡ Replied reply)
-  replied =
-      all.replied at.0 selection s f.get.proc call.call end_there.0 at.1 reads
-      (ap (λ ends. slice_get ends call.call) (row_of here (plain_end here) (process_count here) f.get.proc within) ∙ end_there.1)
+  replied : (reply : Reply) × (slice_get (slice_index_or (plain_ends s).rows f.get.proc []) call.call ≡ Some (Replied reply))
+  replied = has_reply p all.replied at.0 selection s at.1 reads f.get.proc call.call within low_call
 
   done_here : IsDone (plain_end here) f.get
   done_here =
-      let r = row_to here settled_here f.get.proc call.call f.get.at (GetNow owner key) within stands kind_here refl replied.0
-      (ap (λ ends. slice_get ends call.call) (row_of here (plain_end here) (process_count here) f.get.proc within) ∙ end_there.1 ∙ ap Some replied.1) in
+      let r = row_to here settled_here f.get.proc call.call f.get.at (GetNow owner key) within stands kind_here refl replied.0 replied.1 in
       replied_done here settled_here f.get r.0 r.1
 
   -- and so on these nodes
   abbrev said : (b : Answer) × (plain_reply third f.get ≡ Some b)
-  said = done_replied third settled_third f.get (let d = done_here in let same = far_done here third placing f.get.proc in omega (arith, d, same))
+  said = done_replied third settled_third f.get (let d = done_here in let same = done_alike here third placing f.get.proc in omega (arith, d, same))
 
   on_these : (q : ℕ) → q < process_count third → node_of i.other q ≡ node_of third q
   on_these q lt =

@@ -2,7 +2,8 @@
 use Rattle.std.proofs.Common.{◌≡◌, ◌∙◌, ap, sym, refl, ℕ, zero, suc, pred, ◌+◌, ◌<◌, List, [], ◌∷◌, ◌++◌, Bool, true, false, length, map, flat_map, Some, replicate, arith}
 use Rattle.std.specs.Prelude.{slice_get}
 use Rattle.std.specs.List.{range_with_len}
-use Rattle.std.proofs.lemmas.List.{length-append, length-map, map-append}
+use Rattle.std.proofs.lemmas.List.{length-map, map-append}
+use Rattle.std.proofs.lemmas.List.FromFn.{length-range_with_len}
 use Rattle.std.proofs.lemmas.Option.{same_Some}
 use Rattle.wire_runs.specs.Plan.{Call}
 use Rattle.wire_runs.specs.Patterns as plan
@@ -14,6 +15,7 @@ use Rattle.wire_pattern.specs.Planned.{line_of, step_of}
 use Rattle.wire_pattern.specs.Instances.{Cast, cast_of}
 use Rattle.wire_pattern_laws.specs.Lines.{line_size, numbers, turn_numbers, step_numbers, step_lines, numbers_from}
 use Rattle.wire_pattern_waits.specs.Places.{line_count, step_places, steps_places}
+use Rattle.wire_pattern_waits.proofs.Answered.{turns_count}
 use Rattle.wire_answer_laws.proofs.Fences.{is_fence, leaves_of, place_by}
 
 -- of each event of calls the number of its line from 0, by the numbers from 1 of the lines of the calls
@@ -66,10 +68,6 @@ spread_append (x ∷ xs) ys [] more e = absurd (omega (arith, e))
 spread_append (x ∷ xs) ys (true ∷ fences) more e = ap (λ ns. pred x ∷ (pred x ∷ ns)) (spread_append xs ys fences more (omega (arith, e)))
 spread_append (x ∷ xs) ys (false ∷ fences) more e = ap (λ ns. pred x ∷ ns) (spread_append xs ys fences more (omega (arith, e)))
 
-range_count : (n k : ℕ) → length (range_with_len n k) ≡ k
-range_count n zero = refl
-range_count n (suc k) = ap suc (range_count (n + 1) k)
-
 module _ (coding : Coding) (cast : plan.Cast) (v : ℕ) where
   -- one line
   one_line : (e n : ℕ) (line : plan.Line) (rest lines : List ℕ) (fences : List Bool) → rest ≡ spread lines fences
@@ -98,7 +96,7 @@ module _ (coding : Coding) (cast : plan.Cast) (v : ℕ) where
 
   some_count : (e n : ℕ) (lines : List plan.Line) → length (range_with_len n (length lines)) ≡ length (map is_fence (map (call_in coding cast v e) lines))
   some_count e n lines =
-      range_count n (length lines) ∙ sym (length-map (map (call_in coding cast v e) lines) is_fence ∙ length-map lines (call_in coding cast v e))
+      length-range_with_len n (length lines) ∙ sym (length-map (map (call_in coding cast v e) lines) is_fence ∙ length-map lines (call_in coding cast v e))
 
   -- a loop
   all_turns : (n : ℕ) (lines : List plan.Line) (es : List ℕ)
@@ -132,22 +130,15 @@ module _ (roles : List Role) (coding : Coding) (cast : Cast) (nodes : ℕ → �
       fences : List Bool
       fences = map is_fence (loop_calls coding on v (map (λ l. line_of roles l.call) lines) (turns on v i role mode))
 
-  turns_count : (n : ℕ) (lines : List plan.Line) (es : List ℕ) → length (flat_map (λ (e : ℕ). range_with_len n (length lines)) es) ≡ length (loop_calls coding on v lines es)
-  turns_count n lines [] = refl
-  turns_count n lines (e ∷ es) =
-      let one = length-append (range_with_len n (length lines)) (flat_map (λ (e : ℕ). range_with_len n (length lines)) es) in
-      let other = length-append (map (call_in coding on v e) lines) (loop_calls coding on v lines es) in
-      let here = range_count n (length lines) in
-      let said = length-map lines (call_in coding on v e) in
-      let rest = turns_count n lines es in
-      omega (arith, one, other, here, said, rest)
-
   step_count : (i n : ℕ) (step : Step) → length (step_places cast v i n step) ≡ length (step_calls coding on v i (step_of roles step))
   step_count i n (Once line) = refl
   step_count i n (Loop number role mode lines) =
-      ap (λ k. length (flat_map (λ (e : ℕ). range_with_len n k) (turns (cast_of cast) v i role mode))) (sym (length-map lines (λ l. line_of roles l.call)))
-      ∙ ap (λ es. length (flat_map (λ (e : ℕ). range_with_len n (length (map (λ l. line_of roles l.call) lines))) es)) (sym (turns_same nodes (cast_of cast) v i role mode))
-      ∙ turns_count n (map (λ l. line_of roles l.call) lines) (turns on v i role mode)
+      turns_count (λ e. map (call_in coding on v e) planned) (loop_calls coding on v planned) n (length lines) refl (λ e es. refl)
+      (λ e. length-map planned (call_in coding on v e) ∙ length-map lines (λ l. line_of roles l.call)) (turns (cast_of cast) v i role mode)
+      ∙ ap (λ es. length (loop_calls coding on v planned es)) (sym (turns_same nodes (cast_of cast) v i role mode))
+    where
+      planned : List plan.Line
+      planned = map (λ l. line_of roles l.call) lines
 
   lines_alike : (step : Step) → step_lines (step_of roles step) ≡ line_count step
   lines_alike (Once line) = refl

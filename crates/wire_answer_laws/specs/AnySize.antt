@@ -1,10 +1,7 @@
 -- What the answers of the instances that are judged tell of instances of any size.
-use Rattle.std.specs.Prelude.{◌≡◌, ◌<◌, ◌^◌, ℕ, Bool, true, false, not, Option, Some, Ok, slice_get}
-use Rattle.wire_types.specs.declared.Call.{Call}
-use Rattle.wire_types.specs.declared.Call.TheVariants.{GetNow}
+use Rattle.std.specs.Prelude.{◌<◌, ◌^◌, ℕ, Ok}
 use Rattle.wire_types.specs.declared.Status.{Status}
-use Rattle.wire_types.specs.Said.{is_reserved}
-use Rattle.wire_content.specs.Scripts.{Scripts, text_at, call_at}
+use Rattle.wire_content.specs.Scripts.{Scripts}
 use Rattle.wire_script.specs.declared.limits.Size.{Size}
 use Rattle.wire_script.specs.Reads.{Reads}
 use Rattle.wire_pattern.specs.Pattern.{Pattern}
@@ -17,11 +14,6 @@ use Rattle.wire_sweep.specs.Texts.{HaveLeast}
 use Rattle.wire_pattern_waits.specs.Waits.{AllRead, AllReplied}
 use Rattle.wire_pattern_answers.specs.Answers.{IsAnswered, Answers}
 
--- whether there is a call, and it is a get-now of a key that isn't reserved
-abbrev pub asks_plainly : Scripts → Option Call → Bool
-asks_plainly s (Some (GetNow owner key)) = not (is_reserved (text_at s.keys key))
-asks_plainly s _ = false
-
 -- nothing is found for any number of processes; and the texts of the instances that are judged read as plans, in which
 -- each call has its reply
 pub record IsAllAnswered (p : Pattern) : Type 0 where
@@ -31,10 +23,9 @@ pub record IsAllAnswered (p : Pattern) : Type 0 where
   pub read : AllRead p
   pub replied : AllReplied p
 
--- then, with whatever status a get-now of a key that isn't reserved is answered in what the text of an instance reads
--- as, of any size and on any nodes, a get-now of its line is answered in an instance that is judged
+-- then, with whatever status a get-now is answered in what the text of an instance reads as, of any size and on any
+-- nodes, a get-now of its line is answered in an instance that is judged
 abbrev pub AnswersOfSmall : Type 0
 AnswersOfSmall = (p : Pattern) → IsAllAnswered p → (cast : Cast) (size : Size) (s : Scripts) → IsCast p cast
     → HaveLeast p.roles cast.sizes → Reads size (instance_text p cast) (Ok s)
-    → (role line : ℕ) (status : Status) (answered : IsAnswered p cast s role line status)
-    → asks_plainly s (call_at s.processes answered.process answered.call) ≡ true → Answers p role line status
+    → (role line : ℕ) (status : Status) → IsAnswered p cast s role line status → Answers p role line status

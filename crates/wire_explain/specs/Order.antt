@@ -35,4 +35,4 @@ rank_explanation number word = explained_word (codes "  rank ") number word (cod
 -- a part of a list that says how many ranks the groups of a pattern have
 abbrev pub part_explanation : ℕ → List ℕ → List ℕ
 part_explanation number word =
-    explained_word (codes "  part ") number word (codes "NAME=N, each group of the pattern once, N its least number or more")
+    explained_word (codes "  part ") number word (codes "NAME=N, each group of the pattern once, N its least number or more, below 10^9")

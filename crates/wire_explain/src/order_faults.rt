@@ -121,7 +121,7 @@ pub fn explain_part(alloc: Global, number: u64, part: &str) -> Result<Vec<u8>, A
     ensures printable { IfOk result (λ text. is_printable_text text.items ≡ true) }
 {
     let flat = flat_word(alloc, part.as_bytes())?;
-    let wanted = "NAME=N, each group of the pattern once, N its least number or more";
+    let wanted = "NAME=N, each group of the pattern once, N its least number or more, below 10^9";
     let explanation = explained_word(alloc, b"  part ", number, flat.as_slice(), wanted)?;
     shown_text(alloc, explanation.as_slice())
 }

@@ -14,11 +14,13 @@ use Rattle.wire_runs.specs.Ends.{given, replies_of, process_calls, calls_of, row
 use Rattle.wire_runs.specs.Races.{IsSettled}
 use Rattle.wire_runs.specs.Laws.{plain_end}
 use Rattle.wire_runs.specs.PlacingLaws.{plain_reply}
+use Rattle.wire_runs.proofs.Ends.{gives}
 use Rattle.wire_runs.proofs.Known.{Known, known_start, reachable_known}
 use Rattle.wire_runs.proofs.PlainRun.{plain_runs}
 use Rattle.wire_runs.proofs.PlacingReplies.{CameTo, came_to_run}
 use Rattle.wire_pattern_laws.specs.Finds.{status_of}
-use Rattle.wire_pattern_answers.proofs.Rows.{reply_count, place, said, Fits, row_says, replied_in, replied_there, row_is}
+use Rattle.wire_pattern_waits.proofs.Answered.{row_of}
+use Rattle.wire_pattern_answers.proofs.Rows.{place, said, Fits, row_says, replied_in, replied_there}
 
 seen_gives : (plan : Plan) (owner : ℕ) (sight : Sight) → length (given plan (sight_reply owner sight)) ≡ 1
 seen_gives plan owner Nothing = refl
@@ -30,7 +32,7 @@ found_gives plan None = refl
 found_gives plan (Some publish) = refl
 
 -- an event gives as many replies as it should
-gives_so : (plan : Plan) (s : State) (x : Event) (k : Kind) → length (given plan (reply plan s x (Some k))) ≡ reply_count k
+gives_so : (plan : Plan) (s : State) (x : Event) (k : Kind) → length (given plan (reply plan s x (Some k))) ≡ gives (Some k)
 gives_so plan s x (Put key scope) = refl
 gives_so plan s x Commit = refl
 gives_so plan s x (Arrive members collect) = refl
@@ -93,7 +95,7 @@ module _ (plan : Plan) (settled : IsSettled plan) where
   unfolding kind_at
   fits p i k a is at = let r = answer_is (record { proc = p; at = i }) a k is at in ap (λ b. length (given plan b)) r.1 ∙ gives_so plan r.0 (record { proc = p; at = i }) k
 
-  module _ (p c n : ℕ) (k : Kind) (within : p < process_count plan) (stands : n ≡ place (calls_of plan p) c) (is : kind plan (record { proc = p; at = n }) ≡ Some k) (one : reply_count k ≡ 1) where
+  module _ (p c n : ℕ) (k : Kind) (within : p < process_count plan) (stands : n ≡ place (calls_of plan p) c) (is : kind plan (record { proc = p; at = n }) ≡ Some k) (one : gives (Some k) ≡ 1) where
     abbrev event : Event
     event = record { proc = p; at = n }
 
@@ -110,7 +112,7 @@ module _ (plan : Plan) (settled : IsSettled plan) where
         ∙ ap (λ m. said plan (slice_get ((plain_end plan).replies p) m)) (sym stands)
 
     here : slice_index_or (rows_below plan (plain_end plan) (process_count plan)) p [] ≡ row plan (plain_end plan) p
-    here = row_is plan (plain_end plan) (process_count plan) p within
+    here = row_of plan (plain_end plan) (process_count plan) p within
 
     pub row_to : (r : Reply) → slice_get (slice_index_or (rows_below plan (plain_end plan) (process_count plan)) p []) c ≡ Some (Replied r)
         → (a : Answer) × (plain_reply plan event ≡ Some a) × (slice_get (given plan a) 0 ≡ Some r)

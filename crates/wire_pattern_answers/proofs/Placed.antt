@@ -1,11 +1,11 @@
 -- A get-now is answered on all nodes as it is on a few placings.
 use Rattle.std.proofs.Common.{◌≡◌, ◌∙◌, ap, sym, subst, refl, ℕ, suc, ◌+◌, ◌<◌, ◌≤◌, ◌⊎◌, List, [], ◌∷◌, Bool, true, false, length, Option, Some, None, inl, inr, arith, eq-eqb, ne_eqb, eqb-true, zero-add}
-use Rattle.std.specs.Prelude.{slice_get, nat_lt, codes, ◌==◌, if◌then◌else◌}
+use Rattle.std.specs.Prelude.{slice_get, nat_lt, codes, if◌then◌else◌}
 use Rattle.std.specs.Str.{bytes_eq}
 use Rattle.std.proofs.Math.Bool.{beq}
-use Rattle.std.proofs.lemmas.Bool.{cond-true, cond-false, or_cases, cases_Bool, cases_eq, cases_lt, true≢false}
+use Rattle.std.proofs.lemmas.Bool.{cond-true, cond-false, cases_Bool, cases_eq, cases_lt, true≢false}
 use Rattle.std.proofs.lemmas.List.{length-map}
-use Rattle.std.proofs.lemmas.Option.{slice_get_within, slice_get_past}
+use Rattle.std.proofs.lemmas.Option.{slice_get_within}
 use Rattle.wire_types.specs.declared.Call.{Call}
 use Rattle.wire_types.specs.declared.Call.TheVariants.{Put, Commit, Fence, Get, GetNow, Publish, Lookup, LookupWait, Unpublish, UnpublishAll}
 use Rattle.wire_types.specs.declared.Proc.{Proc}
@@ -18,8 +18,6 @@ use Rattle.wire_runs.specs.Plan as runs
 use Rattle.wire_runs.specs.Plan.{Plan, Event, Kind, kind, kind_at, kinds, process_count, node_of, same_node, admits}
 use Rattle.wire_runs.specs.Fences.{is_member}
 use Rattle.wire_runs.specs.State.{Answer}
-use Rattle.wire_runs.specs.Step.{run}
-use Rattle.wire_runs.specs.PlainRun.{plain_run}
 use Rattle.wire_runs.specs.Ends.{calls_of}
 use Rattle.wire_runs.specs.Order.{Before}
 use Rattle.wire_runs.specs.Puts.{scope_of}
@@ -27,9 +25,10 @@ use Rattle.wire_runs.specs.Races.{Delivery, IsOf, Delivers, ComesSurely, IsSettl
 use Rattle.wire_runs.specs.Laws.{plain_end}
 use Rattle.wire_runs.specs.Placings.{IsPlacing, IsSettledAnywhere}
 use Rattle.wire_runs.specs.PlacingLaws.{IsOneANode, plain_reply}
-use Rattle.wire_runs.proofs.Anywhere.{settled_there, to_process, owner_within}
+use Rattle.wire_runs.proofs.Anywhere.{no_node, settled_there, to_process, owner_within}
+use Rattle.wire_runs.proofs.Ends.{gives}
 use Rattle.wire_runs.proofs.FindingsAnywhere.{placings_are}
-use Rattle.wire_runs.proofs.PlacingRuns.{run_alike}
+use Rattle.wire_runs.proofs.PlacingRuns.{done_alike}
 use Rattle.wire_content.specs.Process.{Process}
 use Rattle.wire_content.specs.Reserved.{reserved_reply}
 use Rattle.wire_content.specs.Scripts.{Scripts, text_at, call_at, calls_in}
@@ -40,7 +39,6 @@ use Rattle.wire_pattern_laws.specs.Finds.{status_of, found_status, shown_status,
 use Rattle.wire_pattern_laws.proofs.FindsByOrder.{absent}
 use Rattle.wire_pattern_laws.proofs.SmallFinds.{finds_are_said}
 use Rattle.wire_pattern_answers.specs.FewPlacings.{asks_now, IsAnsweredWith, IsFoundOutside, FewPlacingsTell, IsOfThree, ThreeStatuses}
-use Rattle.wire_pattern_answers.proofs.Rows.{reply_count}
 use Rattle.wire_pattern_answers.proofs.Calls.{first_kind, kind_there, place_in, same_call, same_place, planned_there}
 use Rattle.wire_pattern_answers.proofs.Events.{kinds_are, said_status, end_reached, replied_done, answer_is, done_replied, row_to, row_from}
 use Rattle.wire_pattern_answers.proofs.Same.{own_there, near_there, nothing_there, value_there, IsCommitted, brought_is_committed}
@@ -50,8 +48,8 @@ alike true x y u v h k = h
 alike false x y u v h k = k
 
 -- the status for a reserved key is the same of all processes
-reserved_alike : (ps qs : List Process) (p : ℕ) (key : List ℕ) → (reserved_reply ps p key).status ≡ (reserved_reply qs p key).status
-reserved_alike ps qs p key =
+pub reserved_alike : (ps qs : List Process) (p q : ℕ) (key : List ℕ) → (reserved_reply ps p key).status ≡ (reserved_reply qs q key).status
+reserved_alike ps qs p q key =
     alike (bytes_eq key (codes "PMIX_RANK")) _ _ _ _ refl (alike (bytes_eq key (codes "PMIX_LOCAL_RANK")) _ _ _ _ refl (alike (bytes_eq key (codes "PMIX_NODE_RANK")) _ _ _ _ refl
     (alike (bytes_eq key (codes "PMIX_JOB_SIZE")) _ _ _ _ refl (alike (bytes_eq key (codes "PMIX_HOSTNAME")) _ _ _ _ refl refl))))
 
@@ -60,7 +58,7 @@ key_alike s t owner key keys count =
     ap (λ b. (if b then reserved_reply s.processes owner (text_at s.keys key) else bare NotFound).status) (ap (nat_lt owner) count)
     ∙ alike (nat_lt owner (length t.processes)) (reserved_reply s.processes owner (text_at s.keys key)) (bare NotFound)
     (reserved_reply t.processes owner (text_at t.keys key)) (bare NotFound)
-    (ap (λ ks. (reserved_reply s.processes owner (text_at ks key)).status) keys ∙ reserved_alike s.processes t.processes owner (text_at t.keys key)) refl
+    (ap (λ ks. (reserved_reply s.processes owner (text_at ks key)).status) keys ∙ reserved_alike s.processes t.processes owner owner (text_at t.keys key)) refl
 
 found_three : (b : Bool) (t : Status) → t ≡ found_status b → IsOfThree t
 found_three true t e = inl e
@@ -92,19 +90,11 @@ key_three : (s : Scripts) (owner key : ℕ) → IsOfThree (reply_of_key s owner 
 key_three s owner key =
     either_three (nat_lt owner (length s.processes)) (reserved_reply s.processes owner (text_at s.keys key)) (bare NotFound) (reserved_three s.processes owner (text_at s.keys key)) (inr (inl refl))
 
--- as much is done at the end on all nodes
-far_done : (plan other : Plan) → IsPlacing plan other → (p : ℕ) → (plain_end plan).done p ≡ (plain_end other).done p
-far_done plan other same p = ((run_alike plan other same).runs (plain_run plan)).done p ∙ ap (λ w. (run other w).done p) (run_alike plan other same).plain
-
 its_member : (rank : ℕ) → is_member (rank ∷ []) rank ≡ true
 its_member rank = rw (eq-eqb rank rank refl) refl
 
 no_member : (rank m : ℕ) → (rank ≡ m → ⊥) → is_member (rank ∷ []) m ≡ false
 no_member rank m ne = rw (ne_eqb rank m ne) refl
-
-no_node : (plan : Plan) (q : ℕ) → process_count plan ≤ q → node_of plan q ≡ 0
-unfolding node_of
-no_node plan q past = ap runs.process_node (slice_get_past plan.processes q past)
 
 -- the node on which a process stands
 abbrev pub node_in : Option Process → ℕ
@@ -174,7 +164,7 @@ module _ (s : Scripts) (everywhere : IsSettledAnywhere (plan_of s)) (p c : ℕ) 
       go (Some process) e = slice_get_within s.processes p process e
 
   module _ (k : (names : List (List ℕ)) (nodes : ℕ → ℕ) → Kind) (kind_k : (names : List (List ℕ)) (nodes : ℕ → ℕ) → kind (other names nodes) x ≡ Some (k names nodes))
-      (one : (names : List (List ℕ)) (nodes : ℕ → ℕ) → reply_count (k names nodes) ≡ 1) (names : List (List ℕ)) (nodes : ℕ → ℕ) where
+      (one : (names : List (List ℕ)) (nodes : ℕ → ℕ) → gives (Some (k names nodes)) ≡ 1) (names : List (List ℕ)) (nodes : ℕ → ℕ) where
     within : p < process_count (other names nodes)
     within = let n = count names nodes in let w = process_within in omega (arith, n, w)
 
@@ -193,8 +183,8 @@ module _ (s : Scripts) (everywhere : IsSettledAnywhere (plan_of s)) (p c : ℕ) 
     answered_too : (a : Answer) → plain_reply (other names nodes) x ≡ Some a → (names' : List (List ℕ)) (nodes' : ℕ → ℕ) → (b : Answer) × (plain_reply (other names' nodes') x ≡ Some b)
     answered_too a at names' nodes' =
         let d = replied_done (other names nodes) (settled names nodes) x a at in
-        let here = far_done (plan_of s) (other names nodes) (placing names nodes) p in
-        let there_too = far_done (plan_of s) (other names' nodes') (placing names' nodes') p in
+        let here = done_alike (plan_of s) (other names nodes) (placing names nodes) p in
+        let there_too = done_alike (plan_of s) (other names' nodes') (placing names' nodes') p in
         done_replied (other names' nodes') (settled names' nodes') x (omega (arith, d, here, there_too))
 
   -- a get-now of a reserved key

@@ -1,7 +1,6 @@
 -- What is noted of the scripts that an instance's text reads as is noted of the instance.
-use Rattle.std.proofs.Common.{◌≡◌, ◌∙◌, ap, sym, subst, ℕ, List, [], true, Ok, Err, Result}
+use Rattle.std.proofs.Common.{◌≡◌, ◌∙◌, ap, sym, subst, ℕ, List, true, Ok, Err, Result}
 use Rattle.wire_types.specs.declared.Fault.{Fault}
-use Rattle.wire_types.specs.declared.Status.{Status}
 use Rattle.wire_content.specs.Scripts.{Scripts}
 use Rattle.wire_content.specs.Placed.{placed}
 use Rattle.wire_script.specs.declared.Size.TheVariants.{OfVersion}

@@ -1,21 +1,14 @@
 -- What the row of a process tells of a call that is one event: the answer to that event.
-use Rattle.std.proofs.Common.{◌≡◌, ◌∙◌, ap, sym, refl, ℕ, zero, suc, ◌<◌, List, [], ◌∷◌, ◌++◌, Bool, true, false, length, map, take, replicate, Option, Some, None, ◌⊎◌, inl, inr, arith}
-use Rattle.std.specs.Prelude.{slice_get, slice_index_or}
-use Rattle.std.proofs.lemmas.Bool.{cases_eq}
-use Rattle.std.proofs.lemmas.List.{length-append}
+use Rattle.std.proofs.Common.{◌≡◌, ◌∙◌, ap, sym, refl, ℕ, zero, suc, List, [], ◌∷◌, ◌++◌, Bool, true, false, length, map, take, replicate, Option, Some, None, arith}
+use Rattle.std.specs.Prelude.{slice_get}
 use Rattle.std.proofs.lemmas.List.Concat.{flat_map-cons}
-use Rattle.std.proofs.lemmas.Option.{same_Some, get_or_from_slice_get}
+use Rattle.std.proofs.lemmas.Option.{same_Some}
 use Rattle.wire_types.specs.declared.CallEnd.TheVariants.{Replied, Unreached}
 use Rattle.wire_types.specs.declared.Reply.{Reply}
 use Rattle.wire_runs.specs.Plan.{Plan, Call, CallPut, CallCommit, CallFence, CallGet, CallGetNow, CallPublish, CallLookup, CallLookupWait, CallUnpublish, CallUnpublishAll, CallFixed, Kind, Put, Commit, Arrive, Leave, Get, GetNow, Publish, Lookup, LookupWait, Unpublish, UnpublishAll, Fixed, set_of, kinds_of}
-use Rattle.wire_runs.specs.State.{State, Answer}
-use Rattle.wire_runs.specs.Ends.{given, replies_of, unanswered, row, rows_below}
-use Rattle.wire_runs.proofs.Lists.{slice_get_push_kept, slice_get_push_last}
-
--- how many replies an event gives
-abbrev pub reply_count : Kind → ℕ
-reply_count (Arrive members collect) = 0
-reply_count _ = 1
+use Rattle.wire_runs.specs.State.{Answer}
+use Rattle.wire_runs.specs.Ends.{given, replies_of, unanswered}
+use Rattle.wire_runs.proofs.Ends.{gives}
 
 -- the number of a call's first event
 abbrev pub place : List Call → ℕ → ℕ
@@ -38,20 +31,20 @@ nothing (x ∷ xs) is = absurd (omega (arith, is))
 module _ (plan : Plan) where
   -- each answer gives as many replies as its event
   abbrev pub Fits : List Kind → List Answer → Type 0
-  Fits ks answers = (i : ℕ) (k : Kind) (a : Answer) → slice_get ks i ≡ Some k → slice_get answers i ≡ Some a → length (given plan a) ≡ reply_count k
+  Fits ks answers = (i : ℕ) (k : Kind) (a : Answer) → slice_get ks i ≡ Some k → slice_get answers i ≡ Some a → length (given plan a) ≡ gives (Some k)
 
   fits_rest : (k : Kind) (ks : List Kind) (a : Answer) (answers : List Answer) → Fits (k ∷ ks) (a ∷ answers) → Fits ks answers
   fits_rest k ks a answers fits i l b at is = fits (suc i) l b at is
 
   -- one event, and those behind it
-  first_one : (k : Kind) → reply_count k ≡ 1 → (ks : List Kind) (answers : List Answer) → Fits (k ∷ ks) answers
+  first_one : (k : Kind) → gives (Some k) ≡ 1 → (ks : List Kind) (answers : List Answer) → Fits (k ∷ ks) answers
       → slice_get (replies_of plan answers) 0 ≡ said plan (slice_get answers 0)
   first_one k one ks [] fits = refl
   first_one k one ks (a ∷ answers) fits =
       let r = single (given plan a) (fits 0 k a refl refl ∙ one) in
       ap (λ rs. slice_get rs 0) (flat_map-cons (given plan) a answers ∙ ap (λ rs. rs ++ replies_of plan answers) r.1) ∙ ap (λ rs. slice_get rs 0) (sym r.1)
 
-  says_one : (k : Kind) → reply_count k ≡ 1 → (ks : List Kind) (answers : List Answer) (c n : ℕ) → Fits (k ∷ ks) answers
+  says_one : (k : Kind) → gives (Some k) ≡ 1 → (ks : List Kind) (answers : List Answer) (c n : ℕ) → Fits (k ∷ ks) answers
       → ((rest : List Answer) → Fits ks rest → slice_get (replies_of plan rest) c ≡ said plan (slice_get rest n))
       → slice_get (replies_of plan answers) (suc c) ≡ said plan (slice_get answers (suc n))
   says_one k one ks [] c n fits more = refl
@@ -60,7 +53,7 @@ module _ (plan : Plan) where
       ap (λ rs. slice_get rs (suc c)) (flat_map-cons (given plan) a answers ∙ ap (λ rs. rs ++ replies_of plan answers) r.1)
       ∙ more answers (fits_rest k ks a answers fits)
 
-  says_none : (k : Kind) → reply_count k ≡ 0 → (ks : List Kind) (answers : List Answer) (c n : ℕ) → Fits (k ∷ ks) answers
+  says_none : (k : Kind) → gives (Some k) ≡ 0 → (ks : List Kind) (answers : List Answer) (c n : ℕ) → Fits (k ∷ ks) answers
       → ((rest : List Answer) → Fits ks rest → slice_get (replies_of plan rest) c ≡ said plan (slice_get rest n))
       → slice_get (replies_of plan answers) c ≡ said plan (slice_get answers (suc n))
   says_none k none ks [] c n fits more = refl
@@ -72,13 +65,13 @@ module _ (plan : Plan) where
   Says calls c answers = slice_get (replies_of plan answers) c ≡ said plan (slice_get answers (place calls c))
 
   -- the reply to a call is that of its event
-  pub row_says : (calls : List Call) (c : ℕ) (k : Kind) (answers : List Answer) → slice_get (kinds_of calls) (place calls c) ≡ Some k → reply_count k ≡ 1
+  pub row_says : (calls : List Call) (c : ℕ) (k : Kind) (answers : List Answer) → slice_get (kinds_of calls) (place calls c) ≡ Some k → gives (Some k) ≡ 1
       → Fits (kinds_of calls) answers → Says calls c answers
   row_says [] c k answers is one fits = cc
   row_says (CallPut key scope ∷ calls) zero k answers is one fits = first_one (Put key scope) refl (kinds_of calls) answers fits
   row_says (CallCommit ∷ calls) zero k answers is one fits = first_one Commit refl (kinds_of calls) answers fits
   row_says (CallFence members collect ∷ calls) zero k answers is one fits =
-      absurd (let none : reply_count k ≡ 0 = ap reply_count (sym (same_Some (Arrive (set_of members) collect) k is)) in omega (arith, one, none))
+      absurd (let none : gives (Some k) ≡ 0 = ap (λ e. gives (Some e)) (sym (same_Some (Arrive (set_of members) collect) k is)) in omega (arith, one, none))
   row_says (CallGet owner key ∷ calls) zero k answers is one fits = first_one (Get owner key) refl (kinds_of calls) answers fits
   row_says (CallGetNow owner key ∷ calls) zero k answers is one fits = first_one (GetNow owner key) refl (kinds_of calls) answers fits
   row_says (CallPublish name ∷ calls) zero k answers is one fits = first_one (Publish name) refl (kinds_of calls) answers fits
@@ -132,20 +125,3 @@ pub replied_there : (replies : List Reply) (ready : Bool) (n c : ℕ) (r : Reply
 replied_there [] ready n c r h = cc
 replied_there (x ∷ replies) ready n zero r h = cc
 replied_there (x ∷ replies) ready n (suc c) r h = replied_there replies ready n c r h
-
-rows_length : (plan : Plan) (s : State) (n : ℕ) → length (rows_below plan s n) ≡ n
-rows_length plan s zero = refl
-rows_length plan s (suc n) = let before = rows_length plan s n in let more = length-append (rows_below plan s n) (row plan s n ∷ []) in omega (arith, before, more)
-
-row_there : (plan : Plan) (s : State) (n p : ℕ) → p < n → slice_get (rows_below plan s n) p ≡ Some (row plan s p)
-row_there plan s zero p lt = absurd (omega (arith, lt))
-row_there plan s (suc n) p lt = go (row_there plan s n p) (cases_eq p n)
-  where
-    go : (p < n → slice_get (rows_below plan s n) p ≡ Some (row plan s p)) → (p ≡ n) ⊎ (p ≡ n → ⊥) → slice_get (rows_below plan s n ++ row plan s n ∷ []) p ≡ Some (row plan s p)
-    go before (inl e) =
-        ap (slice_get (rows_below plan s n ++ row plan s n ∷ [])) (e ∙ sym (rows_length plan s n)) ∙ slice_get_push_last (rows_below plan s n) (row plan s n)
-        ∙ ap (λ q. Some (row plan s q)) (sym e)
-    go before (inr ne) = slice_get_push_kept (rows_below plan s n) (row plan s n) p (row plan s p) (before (omega (arith, lt, ne)))
-
-pub row_is : (plan : Plan) (s : State) (n p : ℕ) → p < n → slice_index_or (rows_below plan s n) p [] ≡ row plan s p
-row_is plan s n p lt = get_or_from_slice_get (rows_below plan s n) p (row plan s p) [] (row_there plan s n p lt)

@@ -1,6 +1,5 @@
 -- What the text of an instance reads as is settled on all nodes, where nothing is found for any number of processes.
-use Rattle.std.proofs.Common.{◌≡◌, ◌∙◌, ap, sym, refl, ℕ, suc, zero, ◌<◌, List, [], ◌∷◌, length, Some, ◌==◌, arith}
-use Rattle.std.specs.Prelude.{slice_get}
+use Rattle.std.proofs.Common.{◌≡◌, ◌∙◌, ap, sym, ℕ, suc, zero, ◌<◌, List, [], ◌∷◌, length, arith}
 use Rattle.wire_runs.specs.Plan.{Plan, process_count, node_of}
 use Rattle.wire_runs.specs.Races.{IsSettled}
 use Rattle.wire_runs.specs.Placings.{IsPlacing, IsSettledAnywhere}
@@ -24,7 +23,7 @@ use Rattle.wire_sweep_laws.specs.Sizes.{AreFewSizes}
 use Rattle.wire_sweep_laws.specs.Promised.{IsSettledForAll}
 use Rattle.wire_sweep.specs.Texts.{HaveLeast}
 use Rattle.wire_sweep.proofs.Alike.{settled_alike}
-use Rattle.wire_sweep.proofs.Texts.{any_cast}
+use Rattle.wire_sweep.proofs.Texts.{there_is, any_cast, same_nodes}
 
 pub have_least : (roles : List Role) (sizes : List ℕ) → AreFewSizes roles sizes → HaveLeast roles sizes
 have_least [] sizes are r role size is at = cc
@@ -36,14 +35,6 @@ have_least (x ∷ roles) (n ∷ sizes) are zero role size is at =
     let same : x.least ≡ role.least = ap (λ (q : Role). q.least) e in
     omega (arith, low, same, f)
 have_least (x ∷ roles) (n ∷ sizes) are (suc r) role size is at = have_least roles sizes are.1 r role size is at
-
-there_is : {A : Type 0} (xs : List A) (i : ℕ) → i < length xs → (x : A) × (slice_get xs i ≡ Some x)
-there_is [] i lt = absurd (omega (arith, lt))
-there_is (x ∷ xs) zero lt = (x, refl)
-there_is (x ∷ xs) (suc i) lt = there_is xs i (omega (arith, lt))
-
-same_nodes : (a b c d : ℕ) → a ≡ c → b ≡ d → (a == b) ≡ (c == d)
-same_nodes a b c d e f = ap (λ n. n == b) e ∙ ap (λ n. c == n) f
 
 module _ (p : Pattern) (cast : Cast) (s : Scripts) (settled : IsSettledForAll p) (is_cast : IsCast p cast) (least : HaveLeast p.roles cast.sizes) (of : IsOfCast p cast s)
     (roles_count : length (cast_of cast).roles ≡ text.process_count cast) (third : Plan) (same : IsPlacing (plan_of s) third) where

@@ -1,5 +1,5 @@
 -- What is told of an instance, placing by placing.
-use Rattle.std.proofs.Common.{◌≡◌, ◌∙◌, ap, sym, subst, refl, ℕ, ◌+◌, ◌<◌, ◌≤◌, ◌||◌, ◌&&◌, ◌==◌, List, [], ◌∷◌, Bool, true, false, not, length, inl, inr, ◌⊎◌, ◌↔◌, arith}
+use Rattle.std.proofs.Common.{◌≡◌, ◌∙◌, ap, sym, subst, refl, ℕ, ◌+◌, ◌||◌, ◌&&◌, ◌==◌, List, [], ◌∷◌, Bool, true, false, not, length, inl, inr, ◌⊎◌, arith}
 use Rattle.std.proofs.lemmas.Bool.{true≢false, cases_eq}
 use Rattle.wire_types.specs.declared.Status.{Status}
 use Rattle.wire_types.specs.declared.Status.TheVariants.{Success, NotFound, ExistsOutsideScope, DuplicateKey, BadParam}
@@ -11,7 +11,7 @@ use Rattle.wire_pattern_waits.proofs.Noted.{or_either}
 use Rattle.wire_pattern_answers.specs.declared.notes.Note.{Note}
 use Rattle.wire_pattern_answers.specs.declared.told.Told.{Told}
 use Rattle.wire_pattern_answers.specs.FewPlacings.{IsOfThree}
-use Rattle.wire_pattern_answers.specs.Notes.{place_of, is_at, is_noted, AreNoted, IsAnsweredThere, IsAnsweredApart, IsAnsweredByOne, is_told, AreToldToo, is_outside, is_open_note, is_open, AreToldTogether, AreToldByFew}
+use Rattle.wire_pattern_answers.specs.Notes.{place_of, is_at, is_noted, AreNoted, IsAnsweredApart, IsAnsweredByOne, is_told, AreToldToo, is_outside, is_open, AreToldTogether}
 
 -- notes of these are told too
 pub told_too : (before after : Told) (notes : List Note) (those : ℕ → ℕ → Status → Type 0) → AreNoted notes those

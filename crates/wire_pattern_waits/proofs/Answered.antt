@@ -4,6 +4,7 @@ use Rattle.std.specs.Prelude.{slice_get, slice_index_or}
 use Rattle.std.specs.List.{range_with_len}
 use Rattle.std.proofs.lemmas.Bool.{cases_lt, cases_Bool}
 use Rattle.std.proofs.lemmas.List.{length-append, length-map}
+use Rattle.std.proofs.lemmas.List.FromFn.{length-range_with_len}
 use Rattle.std.proofs.lemmas.Option.{same_Some, slice_get_past, get_or_from_slice_get, unwrap_or-slice_get}
 use Rattle.std.proofs.Common.{unwrap_or}
 use Rattle.wire_types.specs.declared.CallEnd.{CallEnd}
@@ -15,7 +16,7 @@ use Rattle.wire_runs.specs.State.{State}
 use Rattle.wire_runs.specs.Ends.{row, rows_below, unanswered}
 use Rattle.wire_runs.specs.Patterns.{turns}
 use Rattle.wire_runs.proofs.Lists.{slice_get-append_kept, slice_get_push_last, not_in_empty}
-use Rattle.wire_pattern.specs.Pattern.{Pattern, Step, Once, Loop, Line, Role}
+use Rattle.wire_pattern.specs.Pattern.{Pattern, Step, Once, Loop, Role}
 use Rattle.wire_pattern.specs.Instances.{Cast, cast_of, call_said, turns_said, step_said, steps_said}
 use Rattle.wire_pattern_waits.specs.declared.lines.CallLine.{CallLine}
 use Rattle.wire_pattern_waits.specs.Lines.{verb_of, lines_in, verbs_in, numbered, roles_lines, call_lines}
@@ -57,24 +58,24 @@ replied_or_waits (reply ∷ replies) k (suc call) end h = replied_or_waits repli
 
 -- each call has a line
 
-range_count : (n k : ℕ) → length (range_with_len n k) ≡ k
-range_count n zero = refl
-range_count n (suc k) = ap suc (range_count (n + 1) k)
-
-turns_count : (p : Pattern) (cast : Cast) (v n : ℕ) (lines : List Line) (es : List ℕ)
-    → length (flat_map (λ (e : ℕ). range_with_len n (length lines)) es) ≡ length (turns_said p cast v lines es)
-turns_count p cast v n lines [] = refl
-turns_count p cast v n lines (e ∷ es) =
-    let one = length-append (range_with_len n (length lines)) (flat_map (λ (e : ℕ). range_with_len n (length lines)) es) in
-    let other = length-append (map (λ l. call_said p cast v e l.call) lines) (turns_said p cast v lines es) in
-    let here = range_count n (length lines) in
-    let said = length-map lines (λ l. call_said p cast v e l.call) in
-    let rest = turns_count p cast v n lines es in
-    omega (arith, one, other, here, said, rest)
+-- the calls of all turns, those of a turn before those of the turns behind it: each turn has one for each line
+pub turns_count : {A : Type 0} (turn : ℕ → List A) (all : List ℕ → List A) (n count : ℕ) → all [] ≡ []
+    → ((e : ℕ) (es : List ℕ) → all (e ∷ es) ≡ turn e ++ all es)
+    → ((e : ℕ) → length (turn e) ≡ count) → (es : List ℕ) → length (flat_map (λ (e : ℕ). range_with_len n count) es) ≡ length (all es)
+turns_count turn all n count none more each [] = sym (ap length none)
+turns_count turn all n count none more each (e ∷ es) =
+    let one = length-append (range_with_len n count) (flat_map (λ (e : ℕ). range_with_len n count) es) in
+    let other = ap length (more e es) ∙ length-append (turn e) (all es) in
+    let here = length-range_with_len n count in
+    let calls = each e in
+    let rest = turns_count turn all n count none more each es in
+    omega (arith, one, other, here, calls, rest)
 
 step_count : (p : Pattern) (cast : Cast) (v i n : ℕ) (step : Step) → length (step_places cast v i n step) ≡ length (step_said p cast v i step)
 step_count p cast v i n (Once line) = refl
-step_count p cast v i n (Loop number role mode lines) = turns_count p cast v n lines (turns (cast_of cast) v i role mode)
+step_count p cast v i n (Loop number role mode lines) =
+    turns_count (λ e. map (λ l. call_said p cast v e l.call) lines) (turns_said p cast v lines) n (length lines) refl (λ e es. refl)
+    (λ e. length-map lines (λ l. call_said p cast v e l.call)) (turns (cast_of cast) v i role mode)
 
 pub places_count : (p : Pattern) (cast : Cast) (v i n : ℕ) (steps : List Step) → length (steps_places cast v i n steps) ≡ length (steps_said p cast v i steps)
 places_count p cast v i n [] = refl

@@ -1,5 +1,5 @@
 -- What sets of call lines have.
-use Rattle.std.proofs.Common.{◌≡◌, ◌∙◌, ap, sym, refl, ℕ, zero, suc, ◌-◌, ◌<◌, ◌≤◌, ◌||◌, ◌&&◌, List, [], ◌∷◌, ◌++◌, Bool, true, false, length, map, take, get_or, Some, Vec, Global, eq-eqb, ne_eqb, inl, inr, arith}
+use Rattle.std.proofs.Common.{◌≡◌, ◌∙◌, ap, sym, refl, ℕ, zero, suc, ◌<◌, ◌≤◌, ◌||◌, ◌&&◌, List, [], ◌∷◌, ◌++◌, Bool, true, false, length, take, get_or, Some, Vec, Global, eq-eqb, ne_eqb, inl, inr, arith}
 use Rattle.std.specs.Prelude.{replicate, slice_get, ◌==◌}
 use Rattle.std.proofs.Math.ListN.{set}
 use Rattle.std.proofs.lemmas.Bool.{cases_eq}

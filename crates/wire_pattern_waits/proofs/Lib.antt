@@ -7,3 +7,4 @@ pub mod Judged
 pub mod Answered
 pub mod Replied
 pub mod Leads
+pub mod AllNodes

@@ -3,3 +3,4 @@ pub mod Lines
 pub mod Places
 pub mod Stops
 pub mod Waits
+pub mod AllNodes

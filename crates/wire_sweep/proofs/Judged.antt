@@ -12,6 +12,9 @@ use Rattle.wire_sweep_laws.specs.Choices.{callers_turns, optional_turns, chosen_
 use Rattle.wire_sweep_laws.specs.Promised.{AreFewSettled, IsChoiceSettled}
 use Rattle.wire_sweep.specs.declared.selections.Selection.{Selection}
 use Rattle.wire_sweep.specs.declared.counterexample.Counterexample.{Counterexample}
+use Rattle.wire_instances.specs.Shown.{cast_by}
+use Rattle.wire_sweep.specs.FirstNodes.{AreFirstNodes}
+use Rattle.wire_sweep.proofs.FirstNodes.{nodes_moved}
 use Rattle.wire_sweep.specs.Selections as spec
 use Rattle.wire_sweep.specs.Selections.{most_sizes, selections, IsSelectionSettled, IsCastFor}
 use Rattle.wire_sweep.specs.Shown.{selection_by, IsShownFor, IsFoundAt, IsFoundFor}
@@ -53,25 +56,32 @@ all_settled p all i is past before = few_settled p (λ k s at.
 pub first_found : (p : Pattern) (all : List Selection) (i : ℕ) (v : Selection) (c : Counterexample) → map selection_by all ≡ selections p → i < length all
     → v ≡ get_or all i v → AreSettledTo p all i → IsFoundAt p (selection_by v) c → IsFoundFor p c
 first_found p all i v c is lt at before found = record {
-  shows = found.0;
+  shows = found.shows;
+  nodes = found.nodes;
   first = record {
     number = i;
     selection = selection_by v;
     is = listed_at p all i v is lt at;
-    of = found.1;
+    of = found.of;
     before = λ k s less there. before k s less (ap (λ ss. slice_get ss k) is ∙ there);
   };
 }
 
 -- what is shown of a cast is found at its selection
-found_at : (p : Pattern) (s : spec.Selection) (cast : Cast) (c : Counterexample) → IsCastFor p s cast → IsShownFor p cast c → IsFoundAt p s c
-found_at p s cast c of shown = (shown.0, record { sizes = shown.1.0 ∙ of.sizes; chosen = shown.1.1 ∙ of.chosen })
+found_at : (p : Pattern) (s : spec.Selection) (cast : Cast) (c : Counterexample) → IsCastFor p s cast → IsShownFor p cast c
+    → AreFirstNodes p cast c.cast.nodes.of.items → IsFoundAt p s c
+found_at p s cast c of shown nodes = record {
+  shows = shown.0;
+  of = record { sizes = shown.1.0 ∙ of.sizes; chosen = shown.1.1 ∙ of.chosen };
+  nodes = nodes_moved p cast (cast_by c.cast) c.cast.nodes.of.items shown.1 nodes;
+}
 
 pub found_by : (p : Pattern) (s : spec.Selection) (cast : Cast) (r : Result (Option Counterexample) Fault) → IsCastFor p s cast
-    → IfOk r (λ found. IfSome found (λ c. IsShownFor p cast c)) → IfOk r (λ found. IfSome found (λ c. IsFoundAt p s c))
-found_by p s cast (Err e) of shown = tt
-found_by p s cast (Ok None) of shown = tt
-found_by p s cast (Ok (Some c)) of shown = found_at p s cast c of shown
+    → IfOk r (λ found. IfSome found (λ c. IsShownFor p cast c)) → IfOk r (λ found. IfSome found (λ c. AreFirstNodes p cast c.cast.nodes.of.items))
+    → IfOk r (λ found. IfSome found (λ c. IsFoundAt p s c))
+found_by p s cast (Err e) of shown nodes = tt
+found_by p s cast (Ok None) of shown nodes = tt
+found_by p s cast (Ok (Some c)) of shown nodes = found_at p s cast c of shown nodes
 
 pub settled_at : (p : Pattern) (s : spec.Selection) (cast : Cast) → IsCastFor p s cast → IsChoiceSettled p cast.sizes cast.chosen → IsSelectionSettled p s
 settled_at p s cast of settled =

@@ -16,3 +16,4 @@ pub mod Alike
 pub mod Texts
 mod OnNodes
 mod Pairs
+mod FirstNodes

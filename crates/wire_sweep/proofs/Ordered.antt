@@ -1,12 +1,12 @@
 -- Which selections are listed, and that those with fewer processes come first.
-use Rattle.std.proofs.Common.{◌≡◌, ◌∙◌, ap, sym, subst, ℕ, zero, suc, ◌+◌, ◌≤◌, ◌<◌, List, [], ◌∷◌, length, Bool, true, false, ◌==◌, Some, inl, inr, ◌⊎◌, arith}
+use Rattle.std.proofs.Common.{◌≡◌, ap, subst, ℕ, zero, suc, ◌+◌, ◌≤◌, ◌<◌, List, [], ◌∷◌, length, Bool, true, false, ◌==◌, Some, inl, inr, arith}
 use Rattle.std.specs.Prelude.{slice_get, flat_map}
 use Rattle.std.proofs.lemmas.Bool.{cond-true, cond-false, cases_Bool, eqb-true}
 use Rattle.wire_pattern.specs.Pattern.{Pattern}
 use Rattle.wire_sweep_laws.specs.Sizes.{all_sizes, total_of, numbers_from}
 use Rattle.wire_sweep_laws.specs.Choices.{optional_turns}
 use Rattle.wire_sweep.specs.Selections.{Selection, most_sizes, ways, select, of_sizes, of_total, selections}
-use Rattle.wire_sweep.specs.Ordered.{IsSelection, ListsAll, SelectionsAreAll, FirstHasFewest}
+use Rattle.wire_sweep.specs.Ordered.{IsSelection, SelectionsAreAll, FirstHasFewest}
 use Rattle.wire_sweep.proofs.Members.{In, in_parts, in_place, at_place, map_in, flat_in, left_before, right_before}
 use Rattle.wire_sweep.proofs.Listed.{sizes_are}
 use Rattle.wire_sweep.proofs.Selected.{selection_there}

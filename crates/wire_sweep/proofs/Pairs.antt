@@ -20,7 +20,6 @@ use Rattle.wire_script.specs.Reads.{Reads}
 use Rattle.wire_pattern.specs.Pattern.{Pattern}
 use Rattle.wire_pattern.specs.Planned.{pattern_of}
 use Rattle.wire_pattern.specs.Lawful.{IsSound}
-use Rattle.wire_pattern.specs.Instances as text
 use Rattle.wire_pattern.specs.Instances.{Cast, cast_of, process_count, instance_text}
 use Rattle.wire_pattern_laws.proofs.NumbersBack.{renumbered_both}
 use Rattle.wire_instances.specs.declared.cast.Cast.{Cast as Placed}
@@ -92,7 +91,7 @@ module _ (p : Pattern) (cast : Cast) (s : Scripts) (of : IsOfCast p cast s) (nod
       within lt = omega (arith, lt, of.count)
 
 -- of the cast that was moved, what is said of the one that was
-moved_on : (p : Pattern) (cast moved : Cast) (nodes : ℕ → ℕ) → AreMoved cast moved → IsSettledOn p moved nodes → IsSettledOn p cast nodes
+pub moved_on : (p : Pattern) (cast moved : Cast) (nodes : ℕ → ℕ) → AreMoved cast moved → IsSettledOn p moved nodes → IsSettledOn p cast nodes
 moved_on p cast moved nodes same settled = λ coding.
     subst (λ cs. IsSettled (instance_of (pattern_of p) coding (cast_on cast.sizes cs nodes))) same.1
     (subst (λ ns. IsSettled (instance_of (pattern_of p) coding (cast_on ns moved.chosen nodes))) same.0 (settled coding))
@@ -108,6 +107,13 @@ settled_like p cast moved nodes s sound few same at reads settled = λ f share.
     λ v w lv lw. subst (λ (ns : Nodes). (f v == f w) ≡ (placed.node_of ns v == placed.node_of ns w)) (sym at)
     (share v w (omega (arith, lv, count)) (omega (arith, lw, count))) in
     moved_on p cast (cast_by moved) f same (λ coding. settled_there p (cast_by moved) s of f own coding settled)
+
+-- nodes on which each process is alone are those of their numbers
+pub alone_settled : (p : Pattern) (cast : Cast) (processes : ℕ) (nodes : Nodes) → processes ≡ process_count cast → AreAlone processes nodes
+    → IsSettledLike p cast nodes → IsSettledOn p cast (λ v. v)
+alone_settled p cast processes nodes is alone settled =
+    settled (λ v. v) (λ v w lv lw.
+    same_nodes v w (placed.node_of nodes v) (placed.node_of nodes w) (sym (alone.node v (omega (arith, lv, is)))) (sym (alone.node w (omega (arith, lw, is)))))
 
 -- one pair more
 pub one_pair : (p : Pattern) (cast : Cast) (processes a b : ℕ) (nodes : Nodes) → processes ≡ process_count cast → ArePaired processes a b nodes

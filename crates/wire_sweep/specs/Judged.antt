@@ -14,6 +14,7 @@ use Rattle.wire_instances.specs.Faults.{fault_by}
 use Rattle.wire_sweep_laws.specs.Sizes.{AreFewSizes, numbers_from, total_of}
 use Rattle.wire_sweep_laws.specs.Choices.{optional_turns}
 use Rattle.wire_sweep.specs.Selections.{most_sizes, IsFirstFound}
+use Rattle.wire_sweep.specs.FirstNodes.{AreFirstNodes}
 
 -- a cast with few processes of each role, in which no node is without a process
 pub record IsFewCast (p : Pattern) (cast : Cast) : Type 0 where
@@ -32,10 +33,11 @@ pub record IsUnsettled (p : Pattern) (cast : Cast) (text : List ℕ) (scripts : 
   pub reads : Reads OfVersion text (Ok scripts)
   pub found_in : IsFoundIn scripts found
 
--- the first instance that is judged in which something is found
+-- the first instance that is judged in which something is found, on the first nodes on which it is
 pub record IsCounterexample (p : Pattern) (cast : Cast) (text : List ℕ) (scripts : Scripts) (found : List Finding) : Type 0 where
   pub shows : IsUnsettled p cast text scripts found
   pub first : IsFirstFound p cast
+  pub nodes : AreFirstNodes p cast cast.nodes
 
 -- the same processes with the same turns, maybe on other nodes
 abbrev pub AreMoved : Cast → Cast → Type 0

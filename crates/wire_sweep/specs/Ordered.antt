@@ -1,11 +1,11 @@
 -- What the list of selections is, without its order of making: which selections there are, and which come first.
-use Rattle.std.specs.Prelude.{◌≡◌, ◌<◌, ℕ, Bool, List, length, Some, slice_get}
+use Rattle.std.specs.Prelude.{◌≡◌, ◌<◌, ℕ, List, length, Some, slice_get}
 use Rattle.wire_pattern.specs.Pattern.{Pattern}
 use Rattle.wire_pattern.specs.Instances.{Cast}
 use Rattle.wire_sweep_laws.specs.Sizes.{AreFewSizes, total_of}
 use Rattle.wire_sweep_laws.specs.Choices.{optional_turns}
 use Rattle.wire_sweep_laws.specs.Promised.{AreSizesSettled}
-use Rattle.wire_sweep.specs.Selections.{Selection, select, selections, IsFirstFound}
+use Rattle.wire_sweep.specs.Selections.{Selection, selections, IsFirstFound}
 
 -- few processes of each role, and for each turn that may be left out whether it is taken
 pub record IsSelection (p : Pattern) (selection : Selection) : Type 0 where

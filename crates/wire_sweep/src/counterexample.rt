@@ -8,9 +8,10 @@ ghost use Rattle.wire_findings.specs.Findings.{AreFindings};
 ghost use Rattle.wire_pattern.specs.Instances.{process_count};
 ghost use Rattle.wire_instances.specs.Nodes.{AreNodes};
 ghost use Rattle.wire_instances.specs.Shown.{cast_by};
+ghost use Rattle.wire_sweep.specs.FirstNodes.{AreFirstNodes};
 ghost use Rattle.wire_sweep.specs.Judged.{IsFewCast, IsFoundIn, IsJudgeFault};
 ghost use Rattle.wire_sweep.specs.Sharing.{IsSettledLike, IsPairSettled};
-ghost use Rattle.wire_sweep.specs.Shown.{AreUsed, IsShownFor};
+ghost use Rattle.wire_sweep.specs.Shown.{AreUsed, IsShownFor, IsShownBeside};
 ghost use Rattle.wire_sweep_laws.specs.Promised.{IsChoiceSettled};
 
 use crate::judge::instance_scripts;
@@ -125,6 +126,7 @@ fn find_on(
     requires nodes { AreNodes (process_count (cast_by cast.now)) nodes }
     requires used { AreUsed nodes }
     ensures found { IfOk result (λ r. IfSome r (λ c. IsShownFor pattern.now (cast_by cast.now) c)) }
+    ensures there { IfOk result (λ r. IfSome r (λ c. c.cast.nodes ≡ nodes)) }
     ensures settled { result ≡ Ok None → IsSettledLike pattern.now (cast_by cast.now) nodes }
     ensures err { IfErr result (λ e. IsJudgeFault pattern.now e) }
 {
@@ -145,6 +147,7 @@ fn find_beside(
     requires cast { IsFewCast pattern.now (cast_by cast.now) }
     requires there { a < process_count (cast_by cast.now) }
     ensures found { IfOk result (λ r. IfSome r (λ c. IsShownFor pattern.now (cast_by cast.now) c)) }
+    ensures beside { IfOk result (λ r. IfSome r (λ c. IsShownBeside pattern.now (cast_by cast.now) a c)) }
     ensures settled { result ≡ Ok None → (b : ℕ) → a < b → b < process_count (cast_by cast.now)
         → IsPairSettled pattern.now (cast_by cast.now) a b }
     ensures err { IfErr result (λ e. IsJudgeFault pattern.now e) }
@@ -170,6 +173,7 @@ pub(crate) fn find_counterexample(
 ) -> Result<Option<Counterexample>, Fault>
     requires { IsFewCast pattern.now (cast_by cast.now) }
     ensures found { IfOk result (λ r. IfSome r (λ c. IsShownFor pattern.now (cast_by cast.now) c)) }
+    ensures nodes { IfOk result (λ r. IfSome r (λ c. AreFirstNodes pattern.now (cast_by cast.now) c.cast.nodes.of.items)) }
     ensures settled { result ≡ Ok None → IsChoiceSettled pattern.now (cast_by cast.now).sizes (cast_by cast.now).chosen }
     ensures err { IfErr result (λ e. IsJudgeFault pattern.now e) }
 {

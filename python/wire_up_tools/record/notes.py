@@ -1,4 +1,5 @@
 """Notes what a plan can't say of the program: the head of the plan tells it."""
+import re
 import sys
 from collections import Counter
 from collections.abc import Sequence
@@ -17,16 +18,23 @@ from wire_up_tools.record.directives import KNOWN, find_ending, gives_up, stands
 from wire_up_tools.record.recordings import Recording
 from wire_up_tools.words import show
 
+# Functions of MPI whose result depends on which rank was faster. They order nothing.
+OF_LUCK = re.compile(
+    r"MPI_(Cancel|Fetch_and_op|Compare_and_swap|(Get|Rget)_accumulate(_c)?"
+    r"|File_i?(read|write)_shared(_c)?)"
+)
+
 
 @dataclass(frozen=True)
 class Notes:
     """What a plan can't say of the program, each with how often that was: where the run was cut
     off; what was left out; what is more ordered than the program, so that a race can be missed;
-    and what is written otherwise."""
+    after what another run may do otherwise; and what is written otherwise."""
 
     cut_off: Counter[str] = field(default_factory=Counter)
     left_out: Counter[str] = field(default_factory=Counter)
     more_ordered: Counter[str] = field(default_factory=Counter)
+    of_luck: Counter[str] = field(default_factory=Counter)
     otherwise: Counter[str] = field(default_factory=Counter)
 
     def add(self, others: "Notes") -> None:
@@ -34,6 +42,7 @@ class Notes:
         self.cut_off.update(others.cut_off)
         self.left_out.update(others.left_out)
         self.more_ordered.update(others.more_ordered)
+        self.of_luck.update(others.of_luck)
         self.otherwise.update(others.otherwise)
 
 
@@ -47,7 +56,8 @@ def note_recording(recording: Recording, notes: Notes) -> None:
         ] += 1
     notes.more_ordered.update(recording.unseen_pmix)
     for name, count in recording.others.items():
-        notes.left_out[f"calls of {name}"] += count
+        noted = notes.of_luck if OF_LUCK.fullmatch(name) else notes.left_out
+        noted[f"calls of {name}"] += count
     if len({call.thread for call in recording.calls}) > 1:
         notes.more_ordered[
             "processes that called from several threads: "

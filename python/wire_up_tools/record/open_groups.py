@@ -262,11 +262,12 @@ def order_open_groups(
 
 def note_open_groups(groups: Sequence[OpenGroup]) -> Ordered:
     """Notes messages that could have come otherwise, and which of their ends were left to luck."""
-    notes = Notes()
+    notes, count = Notes(), sum(it.group.receive_count for it in groups)
     notes.otherwise[
         "receives that could have got messages of several processes: "
         "they order what holds whichever they got"
-    ] += sum(it.group.receive_count for it in groups)
+    ] += count
+    notes.of_luck["receives that could have got another message"] += count
     luck = sum(
         bool(it.group.chosen) or got.call.is_left_to_luck
         for it in groups

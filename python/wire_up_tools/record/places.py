@@ -9,7 +9,7 @@ from dataclasses import dataclass
 from typing import Optional
 
 from wire_up_tools.failures import Refused
-from wire_up_tools.plan import read_calls
+from wire_up_tools.plan_reading import read_calls
 from wire_up_tools.record.draft import Draft, Line
 from wire_up_tools.record.forms import WORD, decode_text
 from wire_up_tools.record.processes import Process

@@ -100,6 +100,9 @@ def say_part(notes: Notes) -> None:
     for before, noted in (("the run was cut off: ", notes.cut_off), ("", notes.more_ordered)):
         if any(noted.values()):
             say(f"{before}{in_part}: {count_notes(noted)}")
+    if any(notes.of_luck.values()):
+        received = count_notes(notes.of_luck)
+        say(f"{received}: another run may do otherwise after them")
 
 
 def write_pattern(plan: Plan, path: str) -> None:

@@ -6,7 +6,7 @@ from typing import Optional
 
 from wire_up_tools.checker import Checker
 from wire_up_tools.failures import Refused
-from wire_up_tools.plan import read_plan
+from wire_up_tools.plan_reading import read_plan
 from wire_up_tools.record.planning import Plan
 from wire_up_tools.run.expected import expect
 from wire_up_tools.run.libraries.judging import MOST_CALLS, Judged, judge

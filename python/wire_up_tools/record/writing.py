@@ -17,6 +17,7 @@ from wire_up_tools.words import (
     LEFT_TO_LUCK,
     MORE_ORDERED,
     MPI_COMMENT,
+    OTHERWISE_AFTER,
     PARTED,
     PLACE_COMMENT,
     RECORDED_BY,
@@ -115,6 +116,7 @@ def say_notes(plan: Plan) -> Iterator[str]:
         (CUT_OFF, notes.cut_off),
         (LEFT_OUT, notes.left_out),
         (MORE_ORDERED, notes.more_ordered),
+        (OTHERWISE_AFTER, notes.of_luck),
         (WRITTEN_OTHERWISE, notes.otherwise),
     )
     for title, counted in lists:

@@ -6,7 +6,8 @@ from dataclasses import dataclass
 from typing import Optional
 
 from wire_up_tools import words
-from wire_up_tools.plan import Plan, read_plan
+from wire_up_tools.plan import Plan
+from wire_up_tools.plan_reading import read_plan
 from wire_up_tools.report.asking import CLEAN, FOUND, Asker
 from wire_up_tools.report.causes import Cause, find_causes
 from wire_up_tools.report.diagram import Diagram

@@ -25,7 +25,8 @@ def find_reasons(plan: Plan) -> list[str]:
         return []
     cut_off, left_out = say_cut_off(plan), say_left_out(plan)
     ordered = plan.list_in_head(words.MORE_ORDERED)
-    reasons = [say_parted(plan), cut_off, say_polled(plan), *ordered, left_out]
+    received = say_received(plan)
+    reasons = [say_parted(plan), cut_off, say_polled(plan), *ordered, received, left_out]
     return [it for it in reasons if it]
 
 
@@ -45,6 +46,12 @@ def say_polled(plan: Plan) -> Optional[str]:
     verdicts = find_verdicts(plan)
     both = f": {verdicts}" if verdicts else ""
     return f"the order of {count_of(count, 'polled request')} is that of this run{both}"
+
+
+def say_received(plan: Plan) -> Optional[str]:
+    """What could have come otherwise, so that another run may do something else."""
+    listed = plan.list_in_head(words.OTHERWISE_AFTER)
+    return f"another run may do otherwise after {list_names(listed)}" if listed else None
 
 
 def say_parted(plan: Plan) -> Optional[str]:

@@ -11,7 +11,8 @@ from dataclasses import dataclass
 from typing import Optional, Union
 
 from wire_up_tools.failures import Refused
-from wire_up_tools.plan import Plan, split_lines
+from wire_up_tools.plan import Plan
+from wire_up_tools.plan_reading import split_lines
 from wire_up_tools.report.asking import CLEAN, FOUND, Asker
 from wire_up_tools.report.phrases import count_of
 

@@ -10,7 +10,8 @@ from dataclasses import dataclass
 from typing import Optional
 
 from wire_up_tools.failures import Refused
-from wire_up_tools.plan import Plan, read_plan
+from wire_up_tools.plan import Plan
+from wire_up_tools.plan_reading import read_plan
 from wire_up_tools.report.asking import CLEAN, Asker, stream_lines
 from wire_up_tools.report.causes import Cause, find_causes
 from wire_up_tools.report.diagram import Diagram, Lane

@@ -10,7 +10,7 @@ from typing import Optional
 
 from wire_up_tools.checker import Checker
 from wire_up_tools.failures import Refused
-from wire_up_tools.plan import read_plan
+from wire_up_tools.plan_reading import read_plan
 from wire_up_tools.run.answers import Seen, count_runs
 from wire_up_tools.run.expected import Expected, expect
 from wire_up_tools.run.libraries.predicting import explain_differences

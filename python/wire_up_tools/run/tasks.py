@@ -10,7 +10,8 @@ from typing import Optional, Union
 from wire_up_tools.checker import Checker, find_checker
 from wire_up_tools.failures import Refused
 from wire_up_tools.files import STANDARD_OUTPUT, write_each, write_whole
-from wire_up_tools.plan import Plan, read_plan
+from wire_up_tools.plan import Plan
+from wire_up_tools.plan_reading import read_plan
 from wire_up_tools.run import answers, fake_nodes
 from wire_up_tools.run.expected import Expected, ask_witness, expect, expect_in_order
 from wire_up_tools.run.launchers import find_launcher, read_command

@@ -4,7 +4,8 @@ from collections.abc import Mapping
 from dataclasses import dataclass, field
 from typing import Optional
 
-from wire_up_tools.plan import Call, Plan, Rank, find_sets
+from wire_up_tools.plan import Call, Plan, Rank
+from wire_up_tools.plan_reading import find_sets
 from wire_up_tools.run.libraries.rules import Rule
 from wire_up_tools.run.libraries.traits import Traits
 

@@ -1,4 +1,4 @@
-use Rattle.std.proofs.Common.{◌≡◌, ◌||◌, ◌∙◌, ap}
+use Rattle.std.proofs.Common.{◌||◌, ◌∙◌, ap}
 use Rattle.wire_instances.specs.Shown.{cast_by}
 use Rattle.wire_pattern_answers.specs.Notes.{is_told, is_noted, IsAnsweredThere}
 use Rattle.wire_pattern_answers.proofs.Tellings.{told_too}

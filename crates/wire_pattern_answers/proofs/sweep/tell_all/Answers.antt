@@ -1,4 +1,4 @@
-use Rattle.std.proofs.Common.{◌∙◌, ap, arith}
+use Rattle.std.proofs.Common.{arith}
 use Rattle.wire_sweep.specs.Shown.{selection_by}
 use Rattle.wire_sweep.proofs.Judged.{item_sizes, item_total}
 use Rattle.wire_pattern_waits.proofs.Judged.{listed_at, none_before, one_before, all_before}

@@ -1,5 +1,3 @@
-use Rattle.std.proofs.Common.{◌≡◌, ◌↔◌, ℕ, true}
-use Rattle.wire_types.specs.declared.Status.{Status}
 use Rattle.wire_pattern_waits.proofs.Judged.{IsBefore}
 use Rattle.wire_pattern_answers.specs.Answers.{AnswersIn}
 use Rattle.wire_pattern_answers.specs.Notes.{AreTold}

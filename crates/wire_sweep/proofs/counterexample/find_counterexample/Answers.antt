@@ -1,6 +1,9 @@
 use Rattle.std.proofs.Common.{ap, sym, subst, arith, Ok}
+use Rattle.std.specs.Prelude.{IfSome}
 use Rattle.wire_instances.specs.Shown.{cast_by}
-use Rattle.wire_sweep.proofs.Pairs.{AreBesideSettled, one_process, all_pairs}
+use Rattle.wire_sweep.specs.Shown.{IsShownBeside}
+use Rattle.wire_sweep.proofs.FirstNodes.{pair_first}
+use Rattle.wire_sweep.proofs.Pairs.{AreBesideSettled, alone_settled, one_process, all_pairs}
 use Rattle.wire_sweep.proofs.Used.{alone_used}
 use Rattle.wire_sweep.proofs.counterexample.find_counterexample.Goals as goal
 
@@ -21,3 +24,11 @@ pub returns-clause-settled : goal.returns-clause-settled
 returns-clause-settled g c = λ e.
     all_pairs c.args.pattern.now (cast_by c.args.cast.now) c.count_of-total.result c.loop-a.a c.in_ok-nodes.nodes c.count_of-total.ensures
     c.in_ok-nodes.ensures.alone (c.in_ok-found.ensures.settled (ap Ok c.in-None.is)) c.loop-a.invariant (omega (arith, c.loop-a-test.false))
+
+pub returns-in-Some-2-clause-nodes : goal.returns-in-Some-2-clause-nodes
+returns-in-Some-2-clause-nodes g c =
+    pair_first c.args.pattern.now (cast_by c.args.cast.now) c.count_of-total.result c.loop-a.a c.in-Some-2.found c.count_of-total.ensures
+    (alone_settled c.args.pattern.now (cast_by c.args.cast.now) c.count_of-total.result c.in_ok-nodes.nodes c.count_of-total.ensures
+    c.in_ok-nodes.ensures.alone (c.in_ok-found.ensures.settled (ap Ok c.in-None.is)))
+    c.loop-a.invariant
+    (subst (λ o. IfSome o (λ x. IsShownBeside c.args.pattern.now (cast_by c.args.cast.now) c.loop-a.a x)) c.in-Some-2.is c.in_ok-found-2.ensures.beside)

@@ -16,4 +16,4 @@ returns-clause-settled g c = λ e.
 pub returns-clause-found : goal.returns-clause-found
 returns-clause-found g c =
     found_by c.args.pattern.now (selection_by c.args.selection.now) (cast_by c.in_ok-cast.cast) c.find_counterexample.result c.in_ok-cast.ensures.of
-    c.find_counterexample.ensures.found
+    c.find_counterexample.ensures.found c.find_counterexample.ensures.nodes
