@@ -6,7 +6,8 @@ import unittest
 from collections.abc import Mapping
 
 import report_support
-from wire_up_tools.plan import Call, Plan, Rank, read_plan
+from wire_up_tools.plan import Call, Plan, Rank
+from wire_up_tools.plan_reading import read_plan
 from wire_up_tools.report.barriers import Move, choose_passed, find_move
 from wire_up_tools.report.findings import Finding, read_line
 from wire_up_tools.report.orders import Order, find_order
