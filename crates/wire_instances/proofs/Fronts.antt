@@ -1,5 +1,6 @@
 -- Texts that have the same front, and how they grow.
-use Rattle.std.proofs.Common.{◌≡◌, ◌<◌, ◌∙◌, ◌+◌, ◌==◌, ap, sym, refl, ℕ, zero, suc, List, [], ◌∷◌, ◌++◌, take, take_all, length, map, true, append_assoc, arith, inl, inr, ◌-◌, ◌^◌, Vec, Global, Result, Ok, Err, IfOk}
+use Rattle.std.proofs.Common.{◌≡◌, ◌<◌, ◌∙◌, ◌+◌, ◌==◌, ap, sym, refl, ℕ, zero, suc, List, [], ◌∷◌, ◌++◌, take, take_all, length, map, true, append_assoc}
+use Rattle.std.proofs.Common.{arith, inl, inr, ◌-◌, ◌^◌, Vec, Global, Result, Ok, Err, IfOk}
 use Rattle.std.specs.declared.alloc.AllocError.{AllocError}
 use Rattle.std.proofs.lemmas.Bool.{cases_lt, eqb-true}
 use Rattle.std.proofs.lemmas.List.{take-append-le, take-take, length-take-le}
@@ -49,7 +50,8 @@ whole_front n written text is short = elim (cases_lt n (length text)) [
 ]
 
 -- a loop without lines says nothing, whatever its turns
-pub nothing_said : (p : Pattern) (cast : Cast) (v : ℕ) (lines : List Line) (turns : List ℕ) → (length lines == 0) ≡ true → turns_said p cast v (map line_by lines) turns ≡ []
+pub nothing_said : (p : Pattern) (cast : Cast) (v : ℕ) (lines : List Line) (turns : List ℕ) → (length lines == 0) ≡ true
+    → turns_said p cast v (map line_by lines) turns ≡ []
 nothing_said p cast v [] [] is = refl
 nothing_said p cast v [] (e ∷ turns) is = nothing_said p cast v [] turns is
 nothing_said p cast v (line ∷ lines) turns is = absurd (omega (arith, eqb-true (suc (length lines)) 0 is))

@@ -1,5 +1,6 @@
 -- One more element of a list is written.
-use Rattle.std.proofs.Common.{◌≡◌, ◌∙◌, ap, sym, ℕ, suc, ◌+◌, ◌-◌, ◌<◌, ◌==◌, List, [], ◌∷◌, ◌++◌, Some, true, false, length, map, flat_map, take, drop, get_or, append_assoc, arith, add-one}
+use Rattle.std.proofs.Common.{◌≡◌, ◌∙◌, ap, sym, ℕ, suc, ◌+◌, ◌-◌, ◌<◌, ◌==◌, List, [], ◌∷◌, ◌++◌, Some, true, false, length, map, flat_map, take, drop, get_or}
+use Rattle.std.proofs.Common.{append_assoc, arith, add-one}
 use Rattle.std.specs.Prelude.{slice_get, slice_index_or}
 use Rattle.std.specs.List.{range_with_len}
 use Rattle.std.proofs.lemmas.Grind.{flat_map-append}
@@ -33,15 +34,18 @@ use Rattle.wire_instances.proofs.Members.{said_role, said_none, lines_role, line
 opened_map : {A B : Type 0} (f : A → B) (xs : List A) (i : ℕ) (x : A) → i < length xs → x ≡ get_or xs i x → map f (drop i xs) ≡ f x ∷ map f (drop (i + 1) xs)
 opened_map f xs i x h is = ap (map f) (opened_list xs i x h is)
 
-pub lines_step : (p : Pattern) (cast : Cast) (v e : ℕ) (lines : List Line) (i : ℕ) (d : Line) (n : ℕ) (old now all : List ℕ) → i < length lines → d ≡ get_or lines i d
+pub lines_step : (p : Pattern) (cast : Cast) (v e : ℕ) (lines : List Line) (i : ℕ) (d : Line) (n : ℕ) (old now all : List ℕ) → i < length lines
+    → d ≡ get_or lines i d
     → AgreeOn n now (old ++ line_text (said.Calls (call_said p cast v e (line_by d).call)))
     → AgreeOn n (old ++ calls_text (map (λ k. call_said p cast v e k.call) (map line_by (drop i lines)))) all
     → AgreeOn n (now ++ calls_text (map (λ k. call_said p cast v e k.call) (map line_by (drop (i + 1) lines)))) all
 lines_step p cast v e lines i d n old now all h at more inv =
-    moved_front n old now (line_text (said.Calls (call_said p cast v e (line_by d).call))) (calls_text (map (λ k. call_said p cast v e k.call) (map line_by (drop (i + 1) lines)))) _ all
+    moved_front n old now (line_text (said.Calls (call_said p cast v e (line_by d).call))) (calls_text
+    (map (λ k. call_said p cast v e k.call) (map line_by (drop (i + 1) lines)))) _ all
     more (ap (λ ks. calls_text (map (λ k. call_said p cast v e k.call) ks)) (opened_map line_by lines i d h at)) inv
 
-pub turns_step : (p : Pattern) (cast : Cast) (v : ℕ) (lines : List spec.Line) (es : List ℕ) (i d : ℕ) (n : ℕ) (old now all : List ℕ) → i < length es → d ≡ get_or es i d
+pub turns_step : (p : Pattern) (cast : Cast) (v : ℕ) (lines : List spec.Line) (es : List ℕ) (i d : ℕ) (n : ℕ) (old now all : List ℕ) → i < length es
+    → d ≡ get_or es i d
     → AgreeOn n now (old ++ calls_text (map (λ k. call_said p cast v d k.call) lines))
     → AgreeOn n (old ++ calls_text (turns_said p cast v lines (drop i es))) all
     → AgreeOn n (now ++ calls_text (turns_said p cast v lines (drop (i + 1) es))) all
@@ -50,7 +54,8 @@ turns_step p cast v lines es i d n old now all h at more inv =
     more (ap (λ ks. calls_text (turns_said p cast v lines ks)) (opened_list es i d h at)
     ∙ calls_append (map (λ k. call_said p cast v d k.call) lines) (turns_said p cast v lines (drop (i + 1) es))) inv
 
-pub steps_step : (p : Pattern) (cast : Cast) (v : ℕ) (steps : List Step) (i : ℕ) (d : Step) (n : ℕ) (old now all : List ℕ) → i < length steps → d ≡ get_or steps i d
+pub steps_step : (p : Pattern) (cast : Cast) (v : ℕ) (steps : List Step) (i : ℕ) (d : Step) (n : ℕ) (old now all : List ℕ) → i < length steps
+    → d ≡ get_or steps i d
     → AgreeOn n now (old ++ calls_text (step_said p cast v i (step_by d)))
     → AgreeOn n (old ++ calls_text (steps_said p cast v i (map step_by (drop i steps)))) all
     → AgreeOn n (now ++ calls_text (steps_said p cast v (i + 1) (map step_by (drop (i + 1) steps)))) all
@@ -121,7 +126,8 @@ jobs_opened jobs js n d is h at =
     ∙ opened_list (map job_by js) n (job_by d) (omega (arith, h, length-map js job_by)) (ap job_by at ∙ sym (get_or-map job_by js n d (job_by d) h))
     ∙ ap (λ t. job_by d ∷ drop (n + 1) t) is
 
-pub jobs_step : (p : Pattern) (cast : Cast) (js : List CodeJob) (j : ℕ) (d : CodeJob) (n : ℕ) (old mid now all : List ℕ) → map job_by js ≡ p.jobs → j < length js → d ≡ get_or js j d
+pub jobs_step : (p : Pattern) (cast : Cast) (js : List CodeJob) (j : ℕ) (d : CodeJob) (n : ℕ) (old mid now all : List ℕ) → map job_by js ≡ p.jobs
+    → j < length js → d ≡ get_or js j d
     → mid ≡ old ++ line_text (said.Job d.name.items)
     → AgreeOn n now (mid ++ flat_map line_text (members_said p cast j 0 (cast_of cast).roles))
     → AgreeOn n (old ++ flat_map line_text (jobs_said p cast j (map (λ k. k.name) (drop j p.jobs)))) all
@@ -160,12 +166,14 @@ member_step p cast v end n old now all h more inv =
     moved_front n old now (process_text p cast v ++ 44 ∷ []) (items_text (map (process_item p cast) (range_with_len (v + 1) (end - (v + 1))))) _ all more
     (ap (λ r. items_text (map (process_item p cast) r)) (opened v end h)) inv
 
-pub item_step : (p : Pattern) (cast : Cast) (v e : ℕ) (items : List Item) (i : ℕ) (d : Item) (n : ℕ) (old now all : List ℕ) → i < length items → d ≡ get_or items i d
+pub item_step : (p : Pattern) (cast : Cast) (v e : ℕ) (items : List Item) (i : ℕ) (d : Item) (n : ℕ) (old now all : List ℕ) → i < length items
+    → d ≡ get_or items i d
     → AgreeOn n now (old ++ items_text (items_said p cast v e (item_by d)))
     → AgreeOn n (old ++ items_text (flat_map (items_said p cast v e) (map item_by (drop i items)))) all
     → AgreeOn n (now ++ items_text (flat_map (items_said p cast v e) (map item_by (drop (i + 1) items)))) all
 item_step p cast v e items i d n old now all h at more inv =
-    moved_front n old now (items_text (items_said p cast v e (item_by d))) (items_text (flat_map (items_said p cast v e) (map item_by (drop (i + 1) items)))) _ all more
+    moved_front n old now (items_text (items_said p cast v e (item_by d))) (items_text (flat_map (items_said p cast v e) (map item_by (drop (i + 1) items)))) _
+    all more
     (ap (λ ks. items_text (flat_map (items_said p cast v e) ks)) (opened_map item_by items i d h at)
     ∙ items_append (items_said p cast v e (item_by d)) (flat_map (items_said p cast v e) (map item_by (drop (i + 1) items)))) inv
 
@@ -200,12 +208,14 @@ step_numbers cast v steps i d old now all h at more inv =
     (ap (steps_lines cast v i) (opened_map step_by steps i d h at)
     ∙ ap (λ m. step_lines cast v i (step_by d) ++ steps_lines cast v m (map step_by (drop (i + 1) steps))) (sym (add-one i))) inv
 
-pub process_numbers : (p : Pattern) (cast : Cast) (role : ℕ) (r : Role) (v end : ℕ) (old now all : LineSearch) → slice_get p.roles role ≡ Some (role_by r) → v < end
+pub process_numbers : (p : Pattern) (cast : Cast) (role : ℕ) (r : Role) (v end : ℕ) (old now all : LineSearch) → slice_get p.roles role ≡ Some (role_by r)
+    → v < end
     → now ≡ past old (r.number ∷ steps_lines cast v 0 (map step_by r.steps.items))
     → past old (role_lines p cast role v (end - v)) ≡ all
     → past now (role_lines p cast role (v + 1) (end - (v + 1))) ≡ all
 process_numbers p cast role r v end old now all there h more inv =
-    moved_past old now (number_in (slice_get p.roles role) ∷ steps_lines cast v 0 (steps_in (slice_get p.roles role))) (role_lines p cast role (v + 1) (end - (v + 1))) _ all
+    moved_past old now (number_in (slice_get p.roles role) ∷ steps_lines cast v 0 (steps_in (slice_get p.roles role)))
+    (role_lines p cast role (v + 1) (end - (v + 1))) _ all
     (more ∙ ap (λ o. past old (number_in o ∷ steps_lines cast v 0 (steps_in o))) (sym there))
     (lines_process p cast role v end h) inv
 
@@ -222,7 +232,8 @@ pub numbers_skip : (p : Pattern) (cast : Cast) (job n : ℕ) (old all : LineSear
     → past old (members_lines p cast job (first_of cast.sizes (n + 1)) (roles_from (n + 1) (drop (n + 1) cast.sizes))) ≡ all
 numbers_skip p cast job n old all h other inv = ap (past old) (sym (lines_none p cast job n h other)) ∙ inv
 
-pub job_numbers : (p : Pattern) (cast : Cast) (js : List CodeJob) (n : ℕ) (d : CodeJob) (old mid now all : LineSearch) → map job_by js ≡ p.jobs → n < length js → d ≡ get_or js n d
+pub job_numbers : (p : Pattern) (cast : Cast) (js : List CodeJob) (n : ℕ) (d : CodeJob) (old mid now all : LineSearch) → map job_by js ≡ p.jobs → n < length js
+    → d ≡ get_or js n d
     → mid ≡ past old (d.number ∷ [])
     → now ≡ past mid (members_lines p cast n 0 (cast_of cast).roles)
     → past old (jobs_lines p cast n (drop n p.jobs)) ≡ all

@@ -1,5 +1,6 @@
 -- How a search goes on, and what it finds.
-use Rattle.std.proofs.Common.{◌≡◌, ◌∙◌, ◌-◌, ◌==◌, ap, sym, refl, ℕ, zero, suc, List, [], ◌∷◌, ◌++◌, length, map, flat_map, true, false, arith, Option, Some, None, if◌then◌else◌}
+use Rattle.std.proofs.Common.{◌≡◌, ◌∙◌, ◌-◌, ◌==◌, ap, sym, refl, ℕ, zero, suc, List, [], ◌∷◌, ◌++◌, length, map, flat_map, true, false, arith, Option, Some}
+use Rattle.std.proofs.Common.{None, if◌then◌else◌}
 use Rattle.std.specs.Prelude.{slice_index_or, IsSome}
 use Rattle.std.proofs.lemmas.Bool.{eqb-true}
 use Rattle.wire_pattern.specs.declared.step.Line.{Line}
@@ -15,7 +16,8 @@ past_both search [] b = refl
 past_both search (line ∷ a) b = past_both (past_line search.before search.found line) a b
 
 -- the first piece of what was left has passed
-pub moved_past : (old now : LineSearch) (piece rest whole : List ℕ) (all : LineSearch) → now ≡ past old piece → whole ≡ piece ++ rest → past old whole ≡ all → past now rest ≡ all
+pub moved_past : (old now : LineSearch) (piece rest whole : List ℕ) (all : LineSearch) → now ≡ past old piece → whole ≡ piece ++ rest → past old whole ≡ all
+    → past now rest ≡ all
 moved_past old now piece rest whole all more is h = ap (λ s. past s rest) more ∙ sym (past_both old piece rest) ∙ ap (past old) (sym is) ∙ h
 
 -- what is found stays
@@ -23,7 +25,8 @@ stays : (before number : ℕ) (lines : List ℕ) → past (record { before = bef
 stays before number [] = refl
 stays before number (line ∷ lines) = stays before number lines
 
-over_with : (before : ℕ) (found : Option ℕ) → IsSome found → (lines : List ℕ) → past (record { before = before; found = found }) lines ≡ record { before = before; found = found }
+over_with : (before : ℕ) (found : Option ℕ) → IsSome found → (lines : List ℕ)
+    → past (record { before = before; found = found }) lines ≡ record { before = before; found = found }
 over_with before None is lines = let no : false ≡ true = is in absurd (cc)
 over_with before (Some number) is lines = stays before number lines
 
@@ -43,8 +46,10 @@ no_turns [] (e ∷ turns) is = no_turns [] turns is
 no_turns (line ∷ lines) turns is = absurd (omega (arith, eqb-true (suc (length lines)) 0 is))
 
 -- the header, `keep`, the nodes and the jobs have passed
-pub line_found : (p : Pattern) (cast : Cast) (line : ℕ) (start header keep nodes jobs : LineSearch) → start ≡ record { before = line - 1; found = None } → header ≡ past start (0 ∷ [])
-    → keep ≡ past header (if p.keeps then 0 ∷ [] else []) → nodes ≡ past keep (nodes_lines p cast 0 cast.node_count) → jobs ≡ past nodes (jobs_lines p cast 0 p.jobs)
+pub line_found : (p : Pattern) (cast : Cast) (line : ℕ) (start header keep nodes jobs : LineSearch) → start ≡ record { before = line - 1; found = None }
+    → header ≡ past start (0 ∷ [])
+    → keep ≡ past header (if p.keeps then 0 ∷ [] else []) → nodes ≡ past keep (nodes_lines p cast 0 cast.node_count)
+    → jobs ≡ past nodes (jobs_lines p cast 0 p.jobs)
     → found_in jobs ≡ line_in (instance_lines p cast) line
 line_found p cast line start header keep nodes jobs s h k n j =
     let kept = if p.keeps then 0 ∷ [] else [] in

@@ -1,5 +1,6 @@
 -- The front of the word of a set, from that of its items with a comma after each.
-use Rattle.std.proofs.Common.{◌≡◌, ◌≤◌, ◌<◌, ◌+◌, ◌-◌, ◌∙◌, ap, sym, refl, ℕ, List, [], ◌∷◌, ◌++◌, take, take_all, length, map, get_or, length-append, append-nil, arith, inl, inr, Option, Some, None, Result, Ok, Err, OnOk}
+use Rattle.std.proofs.Common.{◌≡◌, ◌≤◌, ◌<◌, ◌+◌, ◌-◌, ◌∙◌, ap, sym, refl, ℕ, List, [], ◌∷◌, ◌++◌, take, take_all, length, map, get_or, length-append}
+use Rattle.std.proofs.Common.{append-nil, arith, inl, inr, Option, Some, None, Result, Ok, Err, OnOk}
 use Rattle.std.specs.Prelude.{IsSome, option_to_list}
 use Rattle.std.specs.List.{join_with_byte}
 use Rattle.std.proofs.lemmas.Bool.{cases_lt}
@@ -17,9 +18,11 @@ split_last text some =
     sym (take_all (length text) text (omega arith)) ∙ ap (λ k. take k text) (sym back) ∙ take_more text (length text - 1) 0 (omega (arith, some))
 
 -- the last byte of the items is a comma that the word doesn't have
-word_of : (items : List Item) → 0 < length (items_text items) → take (length (items_text items) - 1) (items_text items) ≡ join_with_byte 44 (map spelled_item items)
+word_of : (items : List Item) → 0 < length (items_text items)
+    → take (length (items_text items) - 1) (items_text items) ≡ join_with_byte 44 (map spelled_item items)
 word_of items some =
-    without_last items (items_text items) (take (length (items_text items) - 1) (items_text items)) (Some (get_or (items_text items) (length (items_text items) - 1) 0)) refl
+    without_last items (items_text items) (take (length (items_text items) - 1) (items_text items)) (Some
+    (get_or (items_text items) (length (items_text items) - 1) 0)) refl
     (split_last (items_text items) some) (λ h. refl)
 
 -- so many bytes, of which at most one is taken from the end
@@ -29,7 +32,8 @@ kept n old word (Some b) long is =
     let more : length old ≡ length word + 1 = ap length is ∙ length-append word (b ∷ []) in
     sym (take-append-le n word (b ∷ []) (omega (arith, more, long))) ∙ ap (take n) (sym is)
 
-pub front_of_set : (n : ℕ) (items : List Item) (old word : List ℕ) (last : Option ℕ) → AgreeOn (n + 1) old (items_text items) → old ≡ word ++ option_to_list last
+pub front_of_set : (n : ℕ) (items : List Item) (old word : List ℕ) (last : Option ℕ) → AgreeOn (n + 1) old (items_text items)
+    → old ≡ word ++ option_to_list last
     → (0 < length old → IsSome last) → AgreeOn n word (join_with_byte 44 (map spelled_item items))
 front_of_set n items old word last same is some =
     let text = items_text items in
@@ -48,7 +52,8 @@ front_of_set n items old word last same is some =
     ]
 
 -- a word with that front as the first of the last words of a line
-same_word : (n : ℕ) (old word whole : List ℕ) (words : List (List ℕ)) → AgreeOn n word whole → AgreeOn n (old ++ rest_text (word ∷ words)) (old ++ rest_text (whole ∷ words))
+same_word : (n : ℕ) (old word whole : List ℕ) (words : List (List ℕ)) → AgreeOn n word whole
+    → AgreeOn n (old ++ rest_text (word ∷ words)) (old ++ rest_text (whole ∷ words))
 same_word n old word whole words same = same_behind n old _ _ (same_behind n (32 ∷ []) _ _ (same_grow n word whole _ same))
 
 pub set_written : {A E : Type 0} (r : Result A E) (n : ℕ) (old new word shown whole : List ℕ) (words : List (List ℕ)) → shown ≡ word → AgreeOn n word whole

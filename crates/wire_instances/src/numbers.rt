@@ -67,9 +67,9 @@ fn fault_at(line: u64, fault: Fault) -> Fault
     }
 }
 
-/// The number of the line of the pattern's file that a line of the instance's text comes from, counted from 1: of a
-/// process the line of its role, of a node that of its first process. It is 0 of the header, and of a line that the text
-/// doesn't have. No more lines are gone through than stand before this one.
+/// The number of the line of the pattern's file that a line of the instance's text, counted from 1, comes from: of a
+/// process the line of its role, of a node that of its first process. It is 0 of the header, and where there is no such
+/// line. No more lines are gone through than stand before it.
 fn find_line(alloc: Global, pattern: &Pattern, cast: &Cast, line: u64) -> Result<u64, AllocError>
     requires { IsCast pattern.now (cast_by cast.now) }
     ensures { IfOk result (λ n. n ≡ line_in (spec.instance_lines pattern.now (cast_by cast.now)) line) }

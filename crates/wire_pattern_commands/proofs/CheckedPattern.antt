@@ -16,7 +16,8 @@ use Rattle.wire_commands.specs.declared.answer.Answer.{Answer}
 use Rattle.wire_commands.specs.declared.ended.Ended.{Ended}
 use Rattle.wire_commands.specs.declared.ended.Ended.TheVariants.{Clean, Found}
 use Rattle.wire_commands.proofs.FileFaults as files
-use Rattle.wire_pattern_commands.specs.CheckPattern.{BreaksOffPatternVerdict, EndsInOneStateForAll, IsPatternVerdict, IsSettledSaid, StopsBeforePattern, WritesPatternVerdict}
+use Rattle.wire_pattern_commands.specs.CheckPattern.{BreaksOffPatternVerdict, EndsInOneStateForAll, IsPatternVerdict, IsSettledSaid, StopsBeforePattern}
+use Rattle.wire_pattern_commands.specs.CheckPattern.{WritesPatternVerdict}
 use Rattle.wire_pattern_commands.specs.declared.asked.PatternAsked.{PatternAsked}
 use Rattle.wire_pattern_commands.specs.Read.{HasNoPattern, ReadAsPattern}
 use Rattle.wire_pattern_commands.proofs.PatternFaults.{read_before}
@@ -53,14 +54,16 @@ no_read_judging p e (inr (inl (inr few))) is = no_read_turns p e few.1 is
 no_read_judging p e (inr (inr small)) is = no_read_text p small.1.cast e small.1.of_text is
 
 -- all of the verdict went out
-pub writes_verdict : (coming old new : Option (List ℕ)) (p : Pattern) (asked : PatternAsked) (text : List ℕ) (ended : Ended) (r : Result Ended Fault) → ReadAsPattern coming p → IsPatternVerdict p asked text ended
+pub writes_verdict : (coming old new : Option (List ℕ)) (p : Pattern) (asked : PatternAsked) (text : List ℕ) (ended : Ended) (r : Result Ended Fault)
+    → ReadAsPattern coming p → IsPatternVerdict p asked text ended
     → IfOk r (λ e. (e ≡ ended) × Appends old new text) → IfOk r (λ e. WritesPatternVerdict asked coming e old new)
 writes_verdict coming old new p asked text ended (Ok e) read tells wrote =
     record { pattern = p; read = read; text = text; tells = subst (IsPatternVerdict p asked text) (sym wrote.0) tells; wrote = wrote.1 }
 writes_verdict coming old new p asked text ended (Err e) read tells wrote = tt
 
 -- or the front of it that the fault counts
-pub verdict_err : (coming old new : Option (List ℕ)) (p : Pattern) (asked : PatternAsked) (text : List ℕ) (ended : Ended) (kept failed : Type 0) (r : Result Ended Fault) → ReadAsPattern coming p
+pub verdict_err : (coming old new : Option (List ℕ)) (p : Pattern) (asked : PatternAsked) (text : List ℕ) (ended : Ended) (kept failed : Type 0)
+    (r : Result Ended Fault) → ReadAsPattern coming p
     → IsPatternVerdict p asked text ended → IfErr r (WritesFront old new text) → IfErr r (λ _. failed)
     → IfErr r (λ e. (StopsBeforePattern coming e × kept) ⊎ (BreaksOffPatternVerdict asked coming old new e × failed))
 verdict_err coming old new p asked text ended kept failed (Ok e) read tells front count = tt
@@ -79,12 +82,14 @@ settled_answer p asked (Ok answer) sound texts settled one_end said = inl (recor
 settled_answer p asked (Err e) sound texts settled one_end said = tt
 
 -- which is what the answer `Clean` says
-clean_means : (coming : Option (List ℕ)) (p : Pattern) (asked : PatternAsked) (text : List ℕ) (ended : Ended) → ReadAsPattern coming p → IsPatternVerdict p asked text ended
+clean_means : (coming : Option (List ℕ)) (p : Pattern) (asked : PatternAsked) (text : List ℕ) (ended : Ended) → ReadAsPattern coming p
+    → IsPatternVerdict p asked text ended
     → ended ≡ Clean → EndsInOneStateForAll coming
 clean_means coming p asked text ended read (inl settled) is = record { pattern = p; read = read; one_end = settled.one_end; texts = settled.texts }
 clean_means coming p asked text ended read (inr found) is = let no : Found _ ≡ Clean = sym found.ends ∙ is in absurd (cc)
 
-pub clean_one_end : (coming old new : Option (List ℕ)) (p : Pattern) (asked : PatternAsked) (text : List ℕ) (ended : Ended) (r : Result Ended Fault) → ReadAsPattern coming p
+pub clean_one_end : (coming old new : Option (List ℕ)) (p : Pattern) (asked : PatternAsked) (text : List ℕ) (ended : Ended) (r : Result Ended Fault)
+    → ReadAsPattern coming p
     → IsPatternVerdict p asked text ended → IfOk r (λ e. (e ≡ ended) × Appends old new text) → r ≡ Ok Clean → EndsInOneStateForAll coming
 clean_one_end coming old new p asked text ended (Ok e) read tells wrote clean =
     let is : e ≡ Clean = cc in clean_means coming p asked text ended read tells (sym wrote.0 ∙ is)

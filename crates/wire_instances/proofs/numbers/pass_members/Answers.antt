@@ -21,7 +21,8 @@ loop-number-preserved c =
           (job_is f.pattern roles n c.index-roles-number.result c.args.job is in_roles c.index-roles-number.is w.if-role-job.true)
           (w.search-is ∙ w.in_ok-pass_role.ensures) c.loop-number.invariant
       | else-role-job w ↦
-          ap (λ s. past s (members_lines f.pattern f.cast c.args.job (first_of f.cast.sizes (n + 1)) (roles_from (n + 1) (drop (n + 1) f.cast.sizes)))) w.search-is
+          ap (λ s. past s (members_lines f.pattern f.cast c.args.job (first_of f.cast.sizes (n + 1)) (roles_from (n + 1) (drop (n + 1) f.cast.sizes))))
+          w.search-is
           ∙ numbers_skip f.pattern f.cast c.args.job n c.loop-number.search _ there
           (job_differs f.pattern roles n c.index-roles-number.result c.args.job is in_roles c.index-roles-number.is w.if-role-job.false) c.loop-number.invariant
     ]

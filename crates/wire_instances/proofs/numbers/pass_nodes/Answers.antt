@@ -8,4 +8,5 @@ returns c =
     let f = c.args.frame.now in
     let lines = c.in_ok-lines.lines.items in
     c.pass_numbers.ensures
-    ∙ ap (past c.args.search.now) (c.as_slice.ensures.value ∙ all_lines f.pattern f.cast lines f.cast.node_count c.in_ok-lines.ensures.count c.in_ok-lines.ensures.lines)
+    ∙ ap (past c.args.search.now) (c.as_slice.ensures.value ∙ all_lines f.pattern f.cast lines f.cast.node_count c.in_ok-lines.ensures.count
+    c.in_ok-lines.ensures.lines)

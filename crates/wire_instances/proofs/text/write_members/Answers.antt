@@ -21,7 +21,8 @@ loop-number-preserved c =
           (job_is f.pattern roles n c.index-roles-number.result c.args.job is in_roles c.index-roles-number.is w.if-role-job.true)
           (ap (λ v. take c.args.excerpt.now.wanted v.items) w.out-is ∙ w.in_ok-write_role.ensures) c.loop-number.invariant
       | else-role-job w ↦
-          ap (λ v. take c.args.excerpt.now.wanted (v.items ++ flat_map line_text (members_said f.pattern f.cast c.args.job (first_of f.cast.sizes (n + 1)) (roles_from (n + 1) (drop (n + 1) f.cast.sizes))))) w.out-is
+          ap (λ v. take c.args.excerpt.now.wanted (v.items ++ flat_map line_text (members_said f.pattern f.cast c.args.job (first_of f.cast.sizes (n + 1))
+          (roles_from (n + 1) (drop (n + 1) f.cast.sizes))))) w.out-is
           ∙ members_skip f.pattern f.cast c.args.job n c.args.excerpt.now.wanted c.loop-number.out.items _ there
           (job_differs f.pattern roles n c.index-roles-number.result c.args.job is in_roles c.index-roles-number.is w.if-role-job.false) c.loop-number.invariant
     ]

@@ -7,5 +7,6 @@ use Rattle.wire_instances.proofs.text.write_members.Given as goal
 
 abbrev pub invariant-loop-number : goal.invariant-loop-number
 invariant-loop-number l =
-    AgreeOn l.excerpt.wanted (l.out.items ++ flat_map line_text (members_said l.excerpt.frame.pattern l.excerpt.frame.cast l.job (first_of l.excerpt.frame.cast.sizes l.number) (roles_from l.number (drop l.number l.excerpt.frame.cast.sizes))))
+    AgreeOn l.excerpt.wanted (l.out.items ++ flat_map line_text (members_said l.excerpt.frame.pattern l.excerpt.frame.cast l.job
+    (first_of l.excerpt.frame.cast.sizes l.number) (roles_from l.number (drop l.number l.excerpt.frame.cast.sizes))))
     (l.fn.out.items ++ flat_map line_text (members_said l.excerpt.frame.pattern l.excerpt.frame.cast l.job 0 (cast_of l.excerpt.frame.cast).roles))

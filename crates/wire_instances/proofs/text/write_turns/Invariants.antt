@@ -6,5 +6,6 @@ use Rattle.wire_instances.proofs.text.write_turns.Given as goal
 
 abbrev pub invariant-loop-each : goal.invariant-loop-each
 invariant-loop-each l =
-    AgreeOn l.excerpt.wanted (l.out.items ++ calls_text (turns_said l.excerpt.frame.pattern l.excerpt.frame.cast l.caller (map line_by l.lines) (drop l.each-index l.turns)))
+    AgreeOn l.excerpt.wanted (l.out.items ++ calls_text (turns_said l.excerpt.frame.pattern l.excerpt.frame.cast l.caller (map line_by l.lines)
+    (drop l.each-index l.turns)))
     (l.fn.out.items ++ calls_text (turns_said l.excerpt.frame.pattern l.excerpt.frame.cast l.caller (map line_by l.lines) l.turns))

@@ -21,9 +21,12 @@ loop-item-preserved c =
     let items = c.args.items.now.items in
     let i = c.loop-item.item-index in
     let there : i < length items = grind (arith, common_steps) in
-    item_step f.pattern f.cast c.args.calling.caller c.args.calling.each items i (get_or items i no_item) (c.args.excerpt.now.wanted + 1) c.loop-item.word.items c.write_item.new.out.items _
+    item_step f.pattern f.cast c.args.calling.caller c.args.calling.each items i (get_or items i no_item) (c.args.excerpt.now.wanted + 1) c.loop-item.word.items
+    c.write_item.new.out.items _
     there (get_or_same items i no_item there)
-    (c.in_ok-write_item.ensures ∙ ap (λ xs. take (c.args.excerpt.now.wanted + 1) (c.loop-item.word.items ++ items_text (items_said f.pattern f.cast c.args.calling.caller c.args.calling.each (item_by (get_or xs i no_item))))) c.deref-item-items.ensures.value) c.loop-item.invariant
+    (c.in_ok-write_item.ensures ∙ ap (λ xs. take (c.args.excerpt.now.wanted + 1) (c.loop-item.word.items ++ items_text
+    (items_said f.pattern f.cast c.args.calling.caller c.args.calling.each (item_by (get_or xs i no_item))))) c.deref-item-items.ensures.value)
+    c.loop-item.invariant
 
 pub returns : goal.returns
 returns c =

@@ -8,5 +8,6 @@ use Rattle.wire_instances.proofs.words.set_word.Given as goal
 abbrev pub invariant-loop-item : goal.invariant-loop-item
 invariant-loop-item l =
     AgreeOn (l.excerpt.wanted + 1)
-    (l.word.items ++ items_text (flat_map (items_said l.excerpt.frame.pattern l.excerpt.frame.cast l.calling.caller l.calling.each) (map item_by (drop l.item-index l.items.items))))
+    (l.word.items ++ items_text (flat_map (items_said l.excerpt.frame.pattern l.excerpt.frame.cast l.calling.caller l.calling.each)
+    (map item_by (drop l.item-index l.items.items))))
     (items_text (flat_map (items_said l.excerpt.frame.pattern l.excerpt.frame.cast l.calling.caller l.calling.each) (map item_by l.items.items)))

@@ -10,5 +10,6 @@ returns-in-None-clause-err g c = judging_stops c.args.pattern.now c.answer_settl
 
 pub returns-in-None-clause-ok : goal.returns-in-None-clause-ok
 returns-in-None-clause-ok g c =
-    settled_answer c.args.pattern.now c.args.asked c.answer_settled.result c.note_sound.ensures c.texts_settled.ensures (c.in_ok-judge_pattern.ensures.settled (ap Ok c.in-None.is))
+    settled_answer c.args.pattern.now c.args.asked c.answer_settled.result c.note_sound.ensures c.texts_settled.ensures
+    (c.in_ok-judge_pattern.ensures.settled (ap Ok c.in-None.is))
     (c.in_ok-judge_pattern.ensures.one_end (ap Ok c.in-None.is)) c.answer_settled.ensures.ok

@@ -9,5 +9,6 @@ returns-in-Ok-clause-ok c =
 
 pub returns-clause-err : goal.returns-clause-err
 returns-clause-err c =
-    not_expanded c.args.pattern.now c.args.asked (cast_by c.in_ok-cast.cast) c.in_ok-text.text.items c.as_slice.result.now c.in-Err.fault c.in_ok-pattern_fault-in-Err.field-0
+    not_expanded c.args.pattern.now c.args.asked (cast_by c.in_ok-cast.cast) c.in_ok-text.text.items c.as_slice.result.now c.in-Err.fault
+    c.in_ok-pattern_fault-in-Err.field-0
     c.in_ok-cast.ensures.ok (rw c.file_bytes.ensures at c.in_ok-text.ensures) c.as_slice.ensures.value c.in-Err.ensures.err c.in_ok-pattern_fault-in-Err.ensures
