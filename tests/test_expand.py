@@ -2,6 +2,7 @@
 import glob
 import os
 import random
+import resource
 import unittest
 
 import grammar
@@ -22,6 +23,15 @@ TEAM = as_lines(
 )
 # Two groups, on the lines 3 and 5.
 TEAMS = as_lines("pattern 1/job app/many first/commit/many second/commit".split("/"))
+# A million ranks: of each a line for each other, of each a line that names all, or one line alone.
+MANY = "workers=1000000"
+EACH = as_lines("pattern 1/job app/many workers/for workers/commit/end".split("/"))
+ALL = as_lines("pattern 1/job app/many workers/fence workers".split("/"))
+WIDE = as_lines(["pattern 1", "job app", "many workers", "fence " + ",".join(["workers"] * 400000)])
+# A loop without lines takes as many turns as any other.
+EMPTY, EMPTY_RANKS, LARGE_NODES = EACH.replace(b"commit\n", b""), 400000, 65536
+# With `--large` a text has 1 GiB at most, for which a vector has 2 GiB.
+MEMORY, SECONDS = 6 << 30, 30
 LONG_KEY = as_lines(["pattern 1", "job " + "j" * 58, "many w", "put global k[self] v"])
 
 
@@ -95,6 +105,23 @@ def refusals() -> Runs:
     yield refusal(["--ranks", "w=11"], LONG_KEY, "TooLong", 4)
 
 
+def with_bounds() -> None:
+    resource.setrlimit(resource.RLIMIT_AS, (MEMORY, MEMORY))
+    resource.setrlimit(resource.RLIMIT_CPU, (SECONDS, SECONDS))
+
+
+def endless_texts() -> Runs:
+    """Texts that no memory holds, of which no more is written than tells that they are too long;
+    and turns without lines, which take no time."""
+    for given, line in ((EACH, 5), (ALL, 4), (WIDE, 4)):
+        run = refusal(["--ranks", MANY, "--large"], given, "TooLong", line)
+        yield run._replace(name=f"{run.name}: {given[:60]!r}", set_up=with_bounds)
+    lines = ["rehearsal 2", *(f"node n{it}" for it in range(LARGE_NODES)), "job app"]
+    lines += [f"rank n{it % LARGE_NODES}" for it in range(EMPTY_RANKS)]
+    told = ["expand", "--ranks", f"workers={EMPTY_RANKS}", "--large"]
+    yield Run("turns without lines", told, EMPTY, wrote=as_lines(lines), set_up=with_bounds)
+
+
 def usages() -> Runs:
     """Words that are no command line."""
     yield Run("help on expand", ["expand", "--help"], wrote=(b"Usage: wire_up expand",))
@@ -125,6 +152,9 @@ class Expand(ProgramCase):
 
     def test_refusals(self) -> None:
         self.hold_all(refusals())
+
+    def test_endless_texts(self) -> None:
+        self.hold_all(endless_texts())
 
     def test_usages(self) -> None:
         self.hold_all(usages())

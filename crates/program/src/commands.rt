@@ -16,7 +16,7 @@ use wire_commands::{
     check_replies, follow_plan, migrate_plan, place_plan, replay_plan, witness_pair, witness_races,
 };
 use wire_explain::Language;
-use wire_pattern_commands::{Expansion, Spread, Told, check_pattern, expand_pattern};
+use wire_pattern_commands::{Expansion, PatternAsked, Spread, check_pattern, expand_pattern};
 use wire_sched::OpenGate;
 use wire_script::Size;
 use wire_types::{Fault, Form, FromRead, Sink, Source};
@@ -172,8 +172,8 @@ fn check<S: Source, W: Sink>(
         Judged::Anywhere => check_placements(rt, rt.alloc(), manner, reader, writer),
         Judged::Same => check_replies(rt, rt.alloc(), manner, reader, writer),
         Judged::Pattern(options) => {
-            let told = told_of(options, manner.form);
-            check_pattern(rt, rt.alloc(), told, reader, writer)
+            let asked = pattern_asked(options, manner.form);
+            check_pattern(rt, rt.alloc(), asked, reader, writer)
         }
     }
 }
@@ -194,9 +194,9 @@ fn probe<R: Read>(reader: &mut FromRead<R>) -> Result<(), Fault> {
     }
 }
 
-/// What `check` is to tell of a pattern besides its verdict, and in which form.
-fn told_of(options: PatternOptions, form: Form) -> Told {
-    Told {
+/// What `check` is asked for besides the verdict about a pattern, and the form.
+fn pattern_asked(options: PatternOptions, form: Form) -> PatternAsked {
+    PatternAsked {
         answers: options.answers,
         complete: options.complete,
         json: form.is_json(),

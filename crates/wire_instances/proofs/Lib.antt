@@ -1,6 +1,9 @@
 pub mod Ranges
 pub mod Groups
 pub mod Texts
+pub mod Fronts
+pub mod Searches
+pub mod SetFronts
 pub mod Members
 pub mod Loops
 pub mod Nodal

@@ -1,6 +1,6 @@
 -- The line of a node is that of its first process: a table that is filled from the last process to the first.
-use Rattle.std.proofs.Common.{◌≡◌, ◌∙◌, ap, sym, refl, ℕ, zero, suc, ◌+◌, ◌<◌, ◌==◌, inl, inr, List, [], ◌∷◌, ◌++◌, length, drop, set, replicate, cond, arith, Result, Ok, Err, OnOk, if◌then◌else◌}
-use Rattle.std.specs.Prelude.{slice_get, slice_index_or, nat_lt, is_ok}
+use Rattle.std.proofs.Common.{◌≡◌, ◌∙◌, ap, sym, refl, ℕ, zero, suc, ◌+◌, ◌<◌, ◌==◌, inl, inr, List, [], ◌∷◌, length, drop, set, replicate, cond, arith}
+use Rattle.std.specs.Prelude.{slice_get, slice_index_or, nat_lt}
 use Rattle.std.specs.List.{list_all}
 use Rattle.std.proofs.lemmas.Bool.{eq-eqb, ne_eqb, cases_eq}
 use Rattle.std.proofs.lemmas.List.{get_or-set_same, get_or-set_other}
@@ -81,8 +81,3 @@ pub all_lines : (p : Pattern) (cast : Cast) (lines : List ℕ) (count : ℕ) →
 all_lines p cast lines count long h =
     lines_are p cast 0 lines (λ k l. (let zero_more : 0 + k ≡ k = omega arith in h k (omega (arith, l, long)) ∙ ap (λ m. node_line p m (cast_of cast).roles cast.nodes) (sym zero_more)))
     ∙ ap (nodes_lines p cast 0) long
-
--- and are written behind a list
-pub lines_added : {A E : Type 0} (r : Result A E) (old new all shown lines : List ℕ) → new ≡ (if is_ok r then old ++ shown else old) → shown ≡ lines → lines ≡ all → OnOk r (new ≡ old ++ all)
-lines_added (Ok a) old new all shown lines is same are = is ∙ ap (λ t. old ++ t) (same ∙ are)
-lines_added (Err e) old new all shown lines is same are = tt

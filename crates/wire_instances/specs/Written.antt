@@ -1,5 +1,5 @@
 -- Parts of the text of an instance: for private contracts alone.
-use Rattle.std.specs.Prelude.{ℕ, zero, suc, List, [], ◌∷◌, ◌++◌, map, flat_map, codes, slice_get}
+use Rattle.std.specs.Prelude.{◌≡◌, take, ℕ, zero, suc, List, [], ◌∷◌, ◌++◌, map, flat_map, codes, slice_get}
 use Rattle.wire_types.specs.Said as said
 use Rattle.wire_types.specs.Said.{spelled_scope, spelled_set, spelled_proc, collect_words}
 use Rattle.wire_content.specs.Canonical.{line_text}
@@ -7,6 +7,10 @@ use Rattle.wire_pattern.specs.Pattern.{Pattern, Call, Put, Commit, Fence, Get, G
 use Rattle.wire_pattern.specs.Pattern.{Lookup, LookupWait, Unpublish, UnpublishAll}
 use Rattle.wire_pattern.specs.Instances.{Cast, process_said, number_in, steps_lines}
 use Rattle.wire_pattern.specs.Planned.{steps_in}
+
+-- two texts have the same first bytes, so many
+abbrev pub AgreeOn : ℕ → List ℕ → List ℕ → Type 0
+AgreeOn wanted written text = take wanted written ≡ take wanted text
 
 -- words, each behind a byte, and a last byte
 abbrev pub ended_text : ℕ → ℕ → List (List ℕ) → List ℕ

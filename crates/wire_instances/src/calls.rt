@@ -7,8 +7,9 @@ ghost use Rattle.wire_types.specs.Said.{spelled_scope, spelled_set, collect_word
 ghost use Rattle.wire_content.specs.Canonical.{line_text};
 ghost use Rattle.wire_pattern.specs.Instances.{process_count, cast_of, process_text, word_text, items_said, call_said};
 ghost use Rattle.wire_pattern.specs.Shown.{who_by, indexed_by, item_by, call_by};
-ghost use Rattle.wire_instances.specs.Written.{rest_text, front_words, operands_text};
+ghost use Rattle.wire_instances.specs.Written.{AgreeOn, rest_text, front_words, operands_text};
 
+use crate::excerpt::Excerpt;
 use crate::frame::{Calling, Frame};
 use crate::words::{set_word, write_who, write_word};
 use std::alloc::AllocError;
@@ -80,28 +81,35 @@ fn write_owned(
     write_named(out, frame, calling, key)
 }
 
+/// Writes the word of a set, and whether the fence collects, as the last words of a line.
+fn write_set_word(out: &mut Vec<u8>, word: &[u8], collect: bool) -> Result<(), AllocError>
+    ensures { OnOk result (out.new.items ≡ out.old.items ++ rest_text (word.now ∷ collect_words collect)) }
+{
+    if collect {
+        out.push(b' ')?;
+        out.extend_from_slice(word)?;
+        write_last(out, b"collect".as_slice())
+    } else {
+        write_last(out, word)
+    }
+}
+
 /// Writes the set of a fence, and whether it collects, as the last words of a line.
 fn write_set(
     out: &mut Vec<u8>,
-    frame: &Frame,
+    excerpt: &Excerpt,
     calling: Calling,
     items: &Vec<Item>,
     collect: bool,
 ) -> Result<(), AllocError>
-    requires caller { calling.caller < process_count frame.now.cast }
-    requires each { calling.each < process_count frame.now.cast }
-    ensures { OnOk result (out.new.items ≡ out.old.items ++ rest_text (spelled_set (said.Listed (flat_map
-        (items_said frame.now.pattern frame.now.cast calling.caller calling.each) (map item_by items.now.items)))
-        ∷ collect_words collect)) }
+    requires caller { calling.caller < process_count excerpt.now.frame.cast }
+    requires each { calling.each < process_count excerpt.now.frame.cast }
+    ensures { OnOk result (AgreeOn excerpt.now.wanted out.new.items (out.old.items ++ rest_text (spelled_set (said.Listed
+        (flat_map (items_said excerpt.now.frame.pattern excerpt.now.frame.cast calling.caller calling.each)
+        (map item_by items.now.items))) ∷ collect_words collect))) }
 {
-    let word = set_word(frame, calling, items)?;
-    if collect {
-        out.push(b' ')?;
-        out.extend_from_slice(word.as_slice())?;
-        write_last(out, b"collect".as_slice())
-    } else {
-        write_last(out, word.as_slice())
-    }
+    let word = set_word(excerpt, calling, items)?;
+    write_set_word(out, word.as_slice(), collect)
 }
 
 /// The first two words of a put.
@@ -136,15 +144,16 @@ fn verb_words(call: &Call) -> &'static [u8]
 /// Writes what is behind the first words of a call, up to the end of its line.
 fn write_operands(
     out: &mut Vec<u8>,
-    frame: &Frame,
+    excerpt: &Excerpt,
     calling: Calling,
     call: &Call,
 ) -> Result<(), AllocError>
-    requires caller { calling.caller < process_count frame.now.cast }
-    requires each { calling.each < process_count frame.now.cast }
-    ensures { OnOk result (out.new.items ≡ out.old.items
-        ++ operands_text (call_said frame.now.pattern frame.now.cast calling.caller calling.each (call_by call.now))) }
+    requires caller { calling.caller < process_count excerpt.now.frame.cast }
+    requires each { calling.each < process_count excerpt.now.frame.cast }
+    ensures { OnOk result (AgreeOn excerpt.now.wanted out.new.items (out.old.items ++ operands_text (call_said
+        excerpt.now.frame.pattern excerpt.now.frame.cast calling.caller calling.each (call_by call.now)))) }
 {
+    let frame = &excerpt.frame;
     match call {
         Call::Put {
             scope: _,
@@ -154,7 +163,7 @@ fn write_operands(
         Call::Publish { name, value } => {
             write_valued(out, frame, calling, name, value.as_slice())
         }
-        Call::Fence { items, collect } => write_set(out, frame, calling, items, *collect),
+        Call::Fence { items, collect } => write_set(out, excerpt, calling, items, *collect),
         Call::Get { owner, key } | Call::GetNow { owner, key } => {
             write_owned(out, frame, calling, *owner, key)
         }
@@ -168,15 +177,18 @@ fn write_operands(
 /// Writes the line of a call.
 pub(crate) fn write_call(
     out: &mut Vec<u8>,
-    frame: &Frame,
+    excerpt: &Excerpt,
     calling: Calling,
     call: &Call,
 ) -> Result<(), AllocError>
-    requires caller { calling.caller < process_count frame.now.cast }
-    requires each { calling.each < process_count frame.now.cast }
-    ensures { OnOk result (out.new.items ≡ out.old.items ++ line_text (said.Calls
-        (call_said frame.now.pattern frame.now.cast calling.caller calling.each (call_by call.now)))) }
+    requires caller { calling.caller < process_count excerpt.now.frame.cast }
+    requires each { calling.each < process_count excerpt.now.frame.cast }
+    ensures { OnOk result (AgreeOn excerpt.now.wanted out.new.items (out.old.items ++ line_text (said.Calls (call_said
+        excerpt.now.frame.pattern excerpt.now.frame.cast calling.caller calling.each (call_by call.now))))) }
 {
+    if excerpt.is_past(out) {
+        return Ok(());
+    }
     out.extend_from_slice(verb_words(call))?;
-    write_operands(out, frame, calling, call)
+    write_operands(out, excerpt, calling, call)
 }

@@ -1,20 +1,22 @@
 //! The text of an instance.
 
-ghost use Rattle.std.specs.Prelude.{◌≡◌, ◌≤◌, ◌<◌, ◌-◌, ◌++◌, ◌∷◌, [], ℕ, IfOk, OnOk, map, flat_map, Some, true};
-ghost use Rattle.std.specs.Prelude.{length, nat_lt, slice_get, slice_index_or};
+ghost use Rattle.std.specs.Prelude.{◌≡◌, ◌≤◌, ◌<◌, ◌-◌, ◌++◌, ◌∷◌, ◌↔◌, [], ℕ, IfOk, IsTrue, OnOk, map, flat_map, Some};
+ghost use Rattle.std.specs.Prelude.{length, nat_lt, slice_get, slice_index_or, take, true};
 ghost use Rattle.std.specs.List.{list_all};
 ghost use Rattle.wire_types.specs.Said as said;
 ghost use Rattle.wire_types.specs.declared.Version.TheVariants.{Two};
 ghost use Rattle.wire_content.specs.Canonical.{line_text, keep_said};
+ghost use Rattle.wire_runs.specs.Patterns as plan;
 ghost use Rattle.wire_pattern.specs.Instances as spec;
 ghost use Rattle.wire_pattern.specs.Instances.{IsCast, process_count, cast_of, call_said, instance_text};
-ghost use Rattle.wire_pattern.specs.Shown.{line_by, step_by, role_by};
+ghost use Rattle.wire_pattern.specs.Shown.{call_by, line_by, step_by, role_by, turns_by};
 ghost use Rattle.wire_instances.specs.Shown.{cast_by};
 ghost use Rattle.wire_instances.specs.Tables.{first_of};
-ghost use Rattle.wire_instances.specs.Written.{calls_text, role_said};
+ghost use Rattle.wire_instances.specs.Written.{AgreeOn, calls_text, role_said};
 
 use crate::calls::write_call;
 use crate::cast::Cast;
+use crate::excerpt::Excerpt;
 use crate::frame::{Calling, Frame, Round};
 use crate::words::write_node;
 use std::alloc::{AllocError, Global};
@@ -23,17 +25,20 @@ use wire_pattern::{Line, Pattern, Role, Step};
 /// Appends the call lines of one turn of a loop.
 fn write_lines(
     out: &mut Vec<u8>,
-    frame: &Frame,
+    excerpt: &Excerpt,
     calling: Calling,
     lines: &[Line],
 ) -> Result<(), AllocError>
-    requires caller { calling.caller < process_count frame.now.cast }
-    requires each { calling.each < process_count frame.now.cast }
-    ensures { OnOk result (out.new.items ≡ out.old.items ++ calls_text (map (λ l. call_said frame.now.pattern
-        frame.now.cast calling.caller calling.each l.call) (map line_by lines.now))) }
+    requires caller { calling.caller < process_count excerpt.now.frame.cast }
+    requires each { calling.each < process_count excerpt.now.frame.cast }
+    ensures { OnOk result (AgreeOn excerpt.now.wanted out.new.items (out.old.items ++ calls_text (map (λ l. call_said
+        excerpt.now.frame.pattern excerpt.now.frame.cast calling.caller calling.each l.call) (map line_by lines.now)))) }
 {
+    if excerpt.is_past(out) {
+        return Ok(());
+    }
     for line in lines {
-        write_call(out, frame, calling, &line.call)?;
+        write_call(out, excerpt, calling, &line.call)?;
     }
     Ok(())
 }
@@ -41,45 +46,68 @@ fn write_lines(
 /// Appends the call lines of a loop, in these turns.
 fn write_turns(
     out: &mut Vec<u8>,
-    frame: &Frame,
+    excerpt: &Excerpt,
     caller: u32,
     turns: &[u32],
     lines: &[Line],
 ) -> Result<(), AllocError>
-    requires caller { caller < process_count frame.now.cast }
-    requires there { list_all (λ e. nat_lt e (process_count frame.now.cast)) turns.now ≡ true }
-    ensures { OnOk result (out.new.items ≡ out.old.items ++ calls_text (spec.turns_said frame.now.pattern
-        frame.now.cast caller (map line_by lines.now) turns.now)) }
+    requires caller { caller < process_count excerpt.now.frame.cast }
+    requires there { list_all (λ e. nat_lt e (process_count excerpt.now.frame.cast)) turns.now ≡ true }
+    ensures { OnOk result (AgreeOn excerpt.now.wanted out.new.items (out.old.items ++ calls_text (spec.turns_said
+        excerpt.now.frame.pattern excerpt.now.frame.cast caller (map line_by lines.now) turns.now))) }
 {
     for each in turns {
         let calling = Calling {
             caller,
             each: *each,
         };
-        write_lines(out, frame, calling, lines)?;
+        write_lines(out, excerpt, calling, lines)?;
     }
     Ok(())
+}
+
+/// Appends the call lines of a loop over a role. One without lines has none, however many turns it takes.
+fn write_loop(
+    out: &mut Vec<u8>,
+    excerpt: &Excerpt,
+    round: Round,
+    group: u32,
+    lines: &[Line],
+) -> Result<(), AllocError>
+    requires { round.caller < process_count excerpt.now.frame.cast }
+    ensures { OnOk result (AgreeOn excerpt.now.wanted out.new.items (out.old.items ++ calls_text (spec.turns_said
+        excerpt.now.frame.pattern excerpt.now.frame.cast round.caller (map line_by lines.now)
+        (plan.turns (cast_of excerpt.now.frame.cast) round.caller round.step group (turns_by round.turns))))) }
+{
+    if lines.is_empty() {
+        return Ok(());
+    }
+    let taken = excerpt.frame.turns(round, group)?;
+    write_turns(out, excerpt, round.caller, taken.as_slice(), lines)
 }
 
 /// Appends the call lines of the step of this number in the caller's script.
 fn write_step(
     out: &mut Vec<u8>,
-    frame: &Frame,
+    excerpt: &Excerpt,
     caller: u32,
     number: usize,
     step: &Step,
 ) -> Result<(), AllocError>
-    requires { caller < process_count frame.now.cast }
-    ensures { OnOk result (out.new.items ≡ out.old.items ++ calls_text (spec.step_said frame.now.pattern
-        frame.now.cast caller number (step_by step.now))) }
+    requires { caller < process_count excerpt.now.frame.cast }
+    ensures { OnOk result (AgreeOn excerpt.now.wanted out.new.items (out.old.items ++ calls_text (spec.step_said
+        excerpt.now.frame.pattern excerpt.now.frame.cast caller number (step_by step.now)))) }
 {
+    if excerpt.is_past(out) {
+        return Ok(());
+    }
     match step {
         Step::Once(line) => {
             let calling = Calling {
                 caller,
                 each: caller,
             };
-            write_call(out, frame, calling, &line.call)
+            write_call(out, excerpt, calling, &line.call)
         }
         Step::Loop {
             number: _,
@@ -92,8 +120,7 @@ fn write_step(
                 step: number,
                 turns: *turns,
             };
-            let taken = frame.turns(round, *group)?;
-            write_turns(out, frame, caller, taken.as_slice(), lines.as_slice())
+            write_loop(out, excerpt, round, *group, lines.as_slice())
         }
     }
 }
@@ -101,16 +128,16 @@ fn write_step(
 /// Appends the call lines of a script.
 fn write_steps(
     out: &mut Vec<u8>,
-    frame: &Frame,
+    excerpt: &Excerpt,
     caller: u32,
     steps: &[Step],
 ) -> Result<(), AllocError>
-    requires { caller < process_count frame.now.cast }
-    ensures { OnOk result (out.new.items ≡ out.old.items ++ calls_text (spec.steps_said frame.now.pattern
-        frame.now.cast caller 0 (map step_by steps.now))) }
+    requires { caller < process_count excerpt.now.frame.cast }
+    ensures { OnOk result (AgreeOn excerpt.now.wanted out.new.items (out.old.items ++ calls_text (spec.steps_said
+        excerpt.now.frame.pattern excerpt.now.frame.cast caller 0 (map step_by steps.now)))) }
 {
     for (number, step) in steps.iter().enumerate() {
-        write_step(out, frame, caller, number, step)?;
+        write_step(out, excerpt, caller, number, step)?;
     }
     Ok(())
 }
@@ -136,17 +163,42 @@ fn write_rank(out: &mut Vec<u8>, frame: &Frame, process: u32) -> Result<(), Allo
     Ok(())
 }
 
-/// Appends the lines of the processes of a role, the number of which is given.
-fn write_role(out: &mut Vec<u8>, frame: &Frame, number: u32, role: &Role) -> Result<(), AllocError>
-    requires sized { number < length frame.now.cast.sizes }
-    requires role { slice_get frame.now.pattern.roles number ≡ Some (role_by role.now) }
-    ensures { OnOk result (out.new.items ≡ out.old.items ++ flat_map line_text (role_said frame.now.pattern
-        frame.now.cast number (first_of frame.now.cast.sizes number) (slice_index_or frame.now.cast.sizes number 0))) }
+/// Appends the lines of a process of a role, the number of which is given.
+fn write_process(
+    out: &mut Vec<u8>,
+    excerpt: &Excerpt,
+    process: u32,
+    number: u32,
+    role: &Role,
+) -> Result<(), AllocError>
+    requires process { process < process_count excerpt.now.frame.cast }
+    requires role { slice_get excerpt.now.frame.pattern.roles number ≡ Some (role_by role.now) }
+    ensures { OnOk result (AgreeOn excerpt.now.wanted out.new.items (out.old.items ++ flat_map line_text (spec.process_said
+        excerpt.now.frame.pattern excerpt.now.frame.cast process number))) }
 {
-    let (first, end) = frame.group(number);
+    if excerpt.is_past(out) {
+        return Ok(());
+    }
+    write_rank(out, &excerpt.frame, process)?;
+    write_steps(out, excerpt, process, role.steps.as_slice())
+}
+
+/// Appends the lines of the processes of a role, the number of which is given.
+fn write_role(
+    out: &mut Vec<u8>,
+    excerpt: &Excerpt,
+    number: u32,
+    role: &Role,
+) -> Result<(), AllocError>
+    requires sized { number < length excerpt.now.frame.cast.sizes }
+    requires role { slice_get excerpt.now.frame.pattern.roles number ≡ Some (role_by role.now) }
+    ensures { OnOk result (AgreeOn excerpt.now.wanted out.new.items (out.old.items ++ flat_map line_text (role_said
+        excerpt.now.frame.pattern excerpt.now.frame.cast number (first_of excerpt.now.frame.cast.sizes number)
+        (slice_index_or excerpt.now.frame.cast.sizes number 0)))) }
+{
+    let (first, end) = excerpt.frame.group(number);
     for process in first..end {
-        write_rank(out, frame, process)?;
-        write_steps(out, frame, process, role.steps.as_slice())?;
+        write_process(out, excerpt, process, number, role)?;
     }
     Ok(())
 }
@@ -162,29 +214,29 @@ fn write_job_line(out: &mut Vec<u8>, name: &[u8]) -> Result<(), AllocError>
 }
 
 /// Appends the lines of the processes of a job, the number of which is given.
-fn write_members(out: &mut Vec<u8>, frame: &Frame, job: usize) -> Result<(), AllocError>
-    ensures { OnOk result (out.new.items ≡ out.old.items ++ flat_map line_text (spec.members_said frame.now.pattern
-        frame.now.cast job 0 (cast_of frame.now.cast).roles)) }
+fn write_members(out: &mut Vec<u8>, excerpt: &Excerpt, job: usize) -> Result<(), AllocError>
+    ensures { OnOk result (AgreeOn excerpt.now.wanted out.new.items (out.old.items ++ flat_map line_text (spec.members_said
+        excerpt.now.frame.pattern excerpt.now.frame.cast job 0 (cast_of excerpt.now.frame.cast).roles))) }
 {
-    let roles = frame.pattern().roles();
-    for number in 0..frame.cast().sizes.len() as u32 {
+    let roles = excerpt.frame.pattern().roles();
+    for number in 0..excerpt.frame.cast().sizes.len() as u32 {
         let role = &roles[number as usize];
         if role.job as usize == job {
-            write_role(out, frame, number, role)?;
+            write_role(out, excerpt, number, role)?;
         }
     }
     Ok(())
 }
 
 /// Appends the lines of all jobs.
-fn write_jobs(out: &mut Vec<u8>, frame: &Frame) -> Result<(), AllocError>
-    ensures { OnOk result (out.new.items ≡ out.old.items ++ flat_map line_text (spec.jobs_said frame.now.pattern
-        frame.now.cast 0 (map (λ j. j.name) frame.now.pattern.jobs))) }
+fn write_jobs(out: &mut Vec<u8>, excerpt: &Excerpt) -> Result<(), AllocError>
+    ensures { OnOk result (AgreeOn excerpt.now.wanted out.new.items (out.old.items ++ flat_map line_text (spec.jobs_said
+        excerpt.now.frame.pattern excerpt.now.frame.cast 0 (map (λ j. j.name) excerpt.now.frame.pattern.jobs)))) }
 {
-    let jobs = frame.pattern().jobs();
+    let jobs = excerpt.frame.pattern().jobs();
     for number in 0..jobs.len() {
         write_job_line(out, jobs[number].name.as_slice())?;
-        write_members(out, frame, number)?;
+        write_members(out, excerpt, number)?;
     }
     Ok(())
 }
@@ -220,16 +272,34 @@ fn write_header(out: &mut Vec<u8>, keeps: bool) -> Result<(), AllocError>
     }
 }
 
+/// The front of the text of the instance with this cast: so many bytes, or all of it where these aren't more. What is
+/// behind them isn't made, beyond the line in which they end.
+pub fn write_front(
+    alloc: Global,
+    pattern: &Pattern,
+    cast: &Cast,
+    wanted: usize,
+) -> Result<Vec<u8>, AllocError>
+    requires { IsCast pattern.now (cast_by cast.now) }
+    ensures { IfOk result (λ t. t.items ≡ take wanted (instance_text pattern.now (cast_by cast.now))) }
+{
+    let excerpt = Excerpt {
+        frame: Frame::new(alloc, pattern, cast)?,
+        wanted,
+    };
+    let mut out = Vec::new(alloc);
+    write_header(&mut out, pattern.keeps())?;
+    write_nodes(&mut out, cast.nodes.count)?;
+    write_jobs(&mut out, &excerpt)?;
+    out.truncate(wanted);
+    Ok(out)
+}
+
 /// The text of the instance with this cast: the header of version 2, `keep` where the pattern keeps what gets bring,
 /// the nodes `n0`, `n1` and so on, and the jobs with their processes.
 pub fn write_instance(alloc: Global, pattern: &Pattern, cast: &Cast) -> Result<Vec<u8>, AllocError>
     requires { IsCast pattern.now (cast_by cast.now) }
     ensures { IfOk result (λ t. t.items ≡ instance_text pattern.now (cast_by cast.now)) }
 {
-    let frame = Frame::new(alloc, pattern, cast)?;
-    let mut out = Vec::new(alloc);
-    write_header(&mut out, pattern.keeps())?;
-    write_nodes(&mut out, cast.nodes.count)?;
-    write_jobs(&mut out, &frame)?;
-    Ok(out)
+    write_front(alloc, pattern, cast, usize::MAX)
 }

@@ -1,6 +1,6 @@
 //! The words of an instance's lines.
 
-ghost use Rattle.std.specs.Prelude.{◌≡◌, ◌<◌, ◌++◌, ◌∷◌, [], ℕ, IfOk, OnOk, map, flat_map, length};
+ghost use Rattle.std.specs.Prelude.{◌≡◌, ◌<◌, ◌+◌, ◌++◌, ◌∷◌, [], ℕ, IfOk, OnOk, map, flat_map, length};
 ghost use Rattle.std.specs.Prelude.{decimal, codes};
 ghost use Rattle.wire_runs.specs.Patterns as plan;
 ghost use Rattle.wire_types.specs.Said as said;
@@ -10,8 +10,9 @@ ghost use Rattle.wire_pattern.specs.Instances.{process_count, cast_of, process_t
 ghost use Rattle.wire_pattern.specs.Instances.{items_said, node_name};
 ghost use Rattle.wire_pattern.specs.Shown.{who_by, indexed_by, item_by};
 ghost use Rattle.wire_content.specs.Canonical.{items_text};
-ghost use Rattle.wire_instances.specs.Written.{ended_text};
+ghost use Rattle.wire_instances.specs.Written.{AgreeOn, ended_text};
 
+use crate::excerpt::Excerpt;
 use crate::frame::{Calling, Frame};
 use itoa::Buffer;
 use std::alloc::AllocError;
@@ -100,59 +101,76 @@ pub(crate) fn write_word(
     }
 }
 
-/// Writes all processes of a role, with a comma after each.
-fn write_role(out: &mut Vec<u8>, frame: &Frame, role: u32) -> Result<(), AllocError>
-    ensures { OnOk result (out.new.items ≡ out.old.items ++ items_text (map (process_item frame.now.pattern frame.now.cast)
-        (plan.group role (cast_of frame.now.cast).roles))) }
+/// Writes a process of a set, with a comma after it.
+fn write_member(out: &mut Vec<u8>, excerpt: &Excerpt, process: u32) -> Result<(), AllocError>
+    requires { process < process_count excerpt.now.frame.cast }
+    ensures { OnOk result (AgreeOn (excerpt.now.wanted + 1) out.new.items
+        (out.old.items ++ (process_text excerpt.now.frame.pattern excerpt.now.frame.cast process ++ 44 ∷ []))) }
 {
-    let (first, end) = frame.group(role);
+    if excerpt.is_past(out) {
+        return Ok(());
+    }
+    write_process_word(out, &excerpt.frame, process)?;
+    out.push(b',')?;
+    Ok(())
+}
+
+/// Writes all processes of a role, with a comma after each.
+fn write_role(out: &mut Vec<u8>, excerpt: &Excerpt, role: u32) -> Result<(), AllocError>
+    ensures { OnOk result (AgreeOn (excerpt.now.wanted + 1) out.new.items (out.old.items ++ items_text
+        (map (process_item excerpt.now.frame.pattern excerpt.now.frame.cast) (plan.group role (cast_of excerpt.now.frame.cast).roles)))) }
+{
+    let (first, end) = excerpt.frame.group(role);
     for process in first..end {
-        write_process_word(out, frame, process)?;
-        out.push(b',')?;
+        write_member(out, excerpt, process)?;
     }
     Ok(())
+}
+
+/// Writes all processes of a job.
+fn write_job(out: &mut Vec<u8>, frame: &Frame, job: u32) -> Result<(), AllocError>
+    ensures { OnOk result (out.new.items ≡ out.old.items ++ items_text (said.Every (spec.job_name frame.now.pattern job) ∷ [])) }
+{
+    out.extend_from_slice(job_name(frame, job))?;
+    out.extend_from_slice(b":*,".as_slice())
 }
 
 /// Writes what an item of a set says, with a comma after each process or job.
 fn write_item(
     out: &mut Vec<u8>,
-    frame: &Frame,
+    excerpt: &Excerpt,
     calling: Calling,
     item: Item,
 ) -> Result<(), AllocError>
-    requires caller { calling.caller < process_count frame.now.cast }
-    requires each { calling.each < process_count frame.now.cast }
-    ensures { OnOk result (out.new.items ≡ out.old.items ++ items_text (items_said frame.now.pattern frame.now.cast
-        calling.caller calling.each (item_by item))) }
+    requires caller { calling.caller < process_count excerpt.now.frame.cast }
+    requires each { calling.each < process_count excerpt.now.frame.cast }
+    ensures { OnOk result (AgreeOn (excerpt.now.wanted + 1) out.new.items (out.old.items ++ items_text (items_said
+        excerpt.now.frame.pattern excerpt.now.frame.cast calling.caller calling.each (item_by item)))) }
 {
+    if excerpt.is_past(out) {
+        return Ok(());
+    }
     match item {
-        Item::One(who) => {
-            write_who(out, frame, calling, who)?;
-            out.push(b',')?;
-            Ok(())
-        }
-        Item::Group(role) => write_role(out, frame, role),
-        Item::Job(job) => {
-            out.extend_from_slice(job_name(frame, job))?;
-            out.extend_from_slice(b":*,".as_slice())
-        }
+        Item::One(who) => write_member(out, excerpt, excerpt.frame.who(calling, who)),
+        Item::Group(role) => write_role(out, excerpt, role),
+        Item::Job(job) => write_job(out, &excerpt.frame, job),
     }
 }
 
-/// The word of a fence's set.
+/// The front of the word of a fence's set: as many bytes as are wanted of the text, or all of it.
 pub(crate) fn set_word(
-    frame: &Frame,
+    excerpt: &Excerpt,
     calling: Calling,
     items: &Vec<Item>,
 ) -> Result<Vec<u8>, AllocError>
-    requires caller { calling.caller < process_count frame.now.cast }
-    requires each { calling.each < process_count frame.now.cast }
-    ensures { IfOk result (λ word. word.items ≡ spelled_set (said.Listed (flat_map (items_said frame.now.pattern
-        frame.now.cast calling.caller calling.each) (map item_by items.now.items)))) }
+    requires caller { calling.caller < process_count excerpt.now.frame.cast }
+    requires each { calling.each < process_count excerpt.now.frame.cast }
+    ensures { IfOk result (λ word. AgreeOn excerpt.now.wanted word.items (spelled_set (said.Listed (flat_map (items_said
+        excerpt.now.frame.pattern excerpt.now.frame.cast calling.caller calling.each) (map item_by items.now.items))))) }
 {
     let mut word = Vec::new(*items.allocator());
     for item in items {
-        write_item(&mut word, frame, calling, *item)?;
+        write_item(&mut word, excerpt, calling, *item)?;
     }
     word.pop();
     Ok(word)

@@ -11,11 +11,14 @@ use Rattle.wire_pattern.specs.Instances.{Cast, instance_lines, instance_text}
 use Rattle.wire_pattern.specs.Lawful.{IsSound}
 use Rattle.wire_sweep.specs.Texts.{TextsSettled}
 use Rattle.wire_sweep.specs.Judged.{HasFewTurns, HasManyTurns, IsJudgeFault, IsSweepFault, IsTextFault, IsWithinLimits, largest_cast}
+use Rattle.wire_sweep_laws.specs.Promised.{IsSettledForAll, HasOneEndForAll}
+use Rattle.wire_commands.specs.declared.answer.Answer.{Answer}
 use Rattle.wire_commands.specs.declared.ended.Ended.{Ended}
 use Rattle.wire_commands.specs.declared.ended.Ended.TheVariants.{Clean, Found}
 use Rattle.wire_commands.proofs.FileFaults as files
-use Rattle.wire_pattern_commands.specs.CheckPattern.{BreaksOffPatternVerdict, EndsInOneStateForAll, IsPatternVerdict, StopsBeforePattern, WritesPatternVerdict}
-use Rattle.wire_pattern_commands.specs.declared.told.Told.{Told}
+use Rattle.wire_pattern_commands.specs.CheckPattern.{BreaksOffPatternVerdict, EndsInOneStateForAll, IsPatternVerdict, IsSettledSaid, StopsBeforePattern}
+use Rattle.wire_pattern_commands.specs.CheckPattern.{WritesPatternVerdict}
+use Rattle.wire_pattern_commands.specs.declared.asked.PatternAsked.{PatternAsked}
 use Rattle.wire_pattern_commands.specs.Read.{HasNoPattern, ReadAsPattern}
 use Rattle.wire_pattern_commands.proofs.PatternFaults.{read_before}
 
@@ -51,36 +54,46 @@ no_read_judging p e (inr (inl (inr few))) is = no_read_turns p e few.1 is
 no_read_judging p e (inr (inr small)) is = no_read_text p small.1.cast e small.1.of_text is
 
 -- all of the verdict went out
-pub writes_verdict : (coming old new : Option (List ℕ)) (p : Pattern) (told : Told) (text : List ℕ) (ended : Ended) (r : Result Ended Fault) → ReadAsPattern coming p → IsPatternVerdict p told text ended
-    → IfOk r (λ e. (e ≡ ended) × Appends old new text) → IfOk r (λ e. WritesPatternVerdict told coming e old new)
-writes_verdict coming old new p told text ended (Ok e) read tells wrote =
-    record { pattern = p; read = read; text = text; tells = subst (IsPatternVerdict p told text) (sym wrote.0) tells; wrote = wrote.1 }
-writes_verdict coming old new p told text ended (Err e) read tells wrote = tt
+pub writes_verdict : (coming old new : Option (List ℕ)) (p : Pattern) (asked : PatternAsked) (text : List ℕ) (ended : Ended) (r : Result Ended Fault)
+    → ReadAsPattern coming p → IsPatternVerdict p asked text ended
+    → IfOk r (λ e. (e ≡ ended) × Appends old new text) → IfOk r (λ e. WritesPatternVerdict asked coming e old new)
+writes_verdict coming old new p asked text ended (Ok e) read tells wrote =
+    record { pattern = p; read = read; text = text; tells = subst (IsPatternVerdict p asked text) (sym wrote.0) tells; wrote = wrote.1 }
+writes_verdict coming old new p asked text ended (Err e) read tells wrote = tt
 
 -- or the front of it that the fault counts
-pub verdict_err : (coming old new : Option (List ℕ)) (p : Pattern) (told : Told) (text : List ℕ) (ended : Ended) (kept failed : Type 0) (r : Result Ended Fault) → ReadAsPattern coming p
-    → IsPatternVerdict p told text ended → IfErr r (WritesFront old new text) → IfErr r (λ _. failed)
-    → IfErr r (λ e. (StopsBeforePattern coming e × kept) ⊎ (BreaksOffPatternVerdict told coming old new e × failed))
-verdict_err coming old new p told text ended kept failed (Ok e) read tells front count = tt
-verdict_err coming old new p told text ended kept failed (Err e) read tells front count =
+pub verdict_err : (coming old new : Option (List ℕ)) (p : Pattern) (asked : PatternAsked) (text : List ℕ) (ended : Ended) (kept failed : Type 0)
+    (r : Result Ended Fault) → ReadAsPattern coming p
+    → IsPatternVerdict p asked text ended → IfErr r (WritesFront old new text) → IfErr r (λ _. failed)
+    → IfErr r (λ e. (StopsBeforePattern coming e × kept) ⊎ (BreaksOffPatternVerdict asked coming old new e × failed))
+verdict_err coming old new p asked text ended kept failed (Ok e) read tells front count = tt
+verdict_err coming old new p asked text ended kept failed (Err e) read tells front count =
     inr (record { pattern = p; read = read; text = text; ended = ended; tells = tells; wrote = front }, count)
 
 -- where nothing is found, each instance has one end, and its text
-clean_means : (coming : Option (List ℕ)) (p : Pattern) (told : Told) (text : List ℕ) (ended : Ended) → ReadAsPattern coming p → IsSound p → TextsSettled
-    → IsPatternVerdict p told text ended → ended ≡ Clean → EndsInOneStateForAll coming
-clean_means coming p told text ended read sound texts (inl settled) is = record {
-  pattern = p;
-  read = read;
-  one_end = settled.one_end;
-  texts = λ cast size scripts is_cast least reads. (texts p cast size scripts sound settled.settled is_cast least reads).1;
-}
-clean_means coming p told text ended read sound texts (inr found) is = let no : Found _ ≡ Clean = sym found.ends ∙ is in absurd (cc)
+pub settled_answer : (p : Pattern) (asked : PatternAsked) (r : Result Answer Fault) → IsSound p → TextsSettled → IsSettledForAll p → HasOneEndForAll p
+    → IfOk r (λ a. IsSettledSaid p asked a.text.items a.ended) → IfOk r (λ a. IsPatternVerdict p asked a.text.items a.ended)
+settled_answer p asked (Ok answer) sound texts settled one_end said = inl (record {
+  settled = settled;
+  one_end = one_end;
+  texts = λ cast size scripts is_cast least reads. (texts p cast size scripts sound settled is_cast least reads).1;
+  said = said;
+})
+settled_answer p asked (Err e) sound texts settled one_end said = tt
 
-pub clean_one_end : (coming old new : Option (List ℕ)) (p : Pattern) (told : Told) (text : List ℕ) (ended : Ended) (r : Result Ended Fault) → ReadAsPattern coming p → IsSound p
-    → TextsSettled → IsPatternVerdict p told text ended → IfOk r (λ e. (e ≡ ended) × Appends old new text) → r ≡ Ok Clean → EndsInOneStateForAll coming
-clean_one_end coming old new p told text ended (Ok e) read sound texts tells wrote clean =
-    let is : e ≡ Clean = cc in clean_means coming p told text ended read sound texts tells (sym wrote.0 ∙ is)
-clean_one_end coming old new p told text ended (Err e) read sound texts tells wrote clean = let bad : Err e ≡ Ok Clean = clean in absurd (cc)
+-- which is what the answer `Clean` says
+clean_means : (coming : Option (List ℕ)) (p : Pattern) (asked : PatternAsked) (text : List ℕ) (ended : Ended) → ReadAsPattern coming p
+    → IsPatternVerdict p asked text ended
+    → ended ≡ Clean → EndsInOneStateForAll coming
+clean_means coming p asked text ended read (inl settled) is = record { pattern = p; read = read; one_end = settled.one_end; texts = settled.texts }
+clean_means coming p asked text ended read (inr found) is = let no : Found _ ≡ Clean = sym found.ends ∙ is in absurd (cc)
+
+pub clean_one_end : (coming old new : Option (List ℕ)) (p : Pattern) (asked : PatternAsked) (text : List ℕ) (ended : Ended) (r : Result Ended Fault)
+    → ReadAsPattern coming p
+    → IsPatternVerdict p asked text ended → IfOk r (λ e. (e ≡ ended) × Appends old new text) → r ≡ Ok Clean → EndsInOneStateForAll coming
+clean_one_end coming old new p asked text ended (Ok e) read tells wrote clean =
+    let is : e ≡ Clean = cc in clean_means coming p asked text ended read tells (sym wrote.0 ∙ is)
+clean_one_end coming old new p asked text ended (Err e) read tells wrote clean = let bad : Err e ≡ Ok Clean = clean in absurd (cc)
 
 -- three parts of a line
 pub three_parts : {A E : Type 0} (r : Result A E) (old a b c word first second third : List ℕ) → first ≡ old ++ a → second ≡ first ++ b → word ≡ c → third ≡ (if is_ok r then second ++ word else second)

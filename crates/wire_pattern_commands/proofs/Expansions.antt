@@ -1,5 +1,5 @@
 -- The cast that is asked for, and what its text reads as.
-use Rattle.std.proofs.Common.{◌≡◌, ◌∙◌, ap, sym, subst, ℕ, ◌<◌, ◌^◌, List, [], ◌⊎◌, inl, inr, map, sum_by, Ok, Err, ◌≤◌, arith}
+use Rattle.std.proofs.Common.{◌≡◌, ◌∙◌, ap, sym, subst, ℕ, ◌+◌, ◌<◌, ◌^◌, List, [], ◌⊎◌, inl, inr, map, take, take_all, sum_by, Some, Ok, Err, ◌≤◌, arith}
 use Rattle.wire_types.specs.declared.Fault.{Fault}
 use Rattle.wire_types.specs.declared.Fault.TheVariants.{Memory}
 use Rattle.wire_content.specs.Scripts.{Scripts}
@@ -7,7 +7,7 @@ use Rattle.wire_types.specs.declared.Version.TheVariants.{Two}
 use Rattle.wire_script.specs.declared.Size.{Size}
 use Rattle.wire_script.specs.declared.Size.TheVariants.{OfVersion, Large}
 use Rattle.wire_script.specs.declared.Limits.{Limits}
-use Rattle.wire_script.specs.Limits.{limits_of}
+use Rattle.wire_script.specs.Limits.{file_bytes, limits_of}
 use Rattle.wire_script.specs.Reads.{Reads}
 use Rattle.wire_pattern.specs.Pattern.{Pattern}
 use Rattle.wire_pattern.specs.Lawful.{IsSound}
@@ -19,6 +19,7 @@ use Rattle.wire_instances.specs.Nodes.{AreNodes}
 use Rattle.wire_instances.specs.Shown.{cast_by, choice_by}
 use Rattle.wire_instances.specs.Tables.{AreSizes}
 use Rattle.wire_instance_laws.specs.Reading.{InstancesRead}
+use Rattle.wire_commands.proofs.Came.{read_as, refuses}
 use Rattle.wire_pattern_commands.specs.Expand.{IsCastAsked, IsExpanded, IsExpandFault, word_of}
 use Rattle.wire_pattern_commands.specs.Ranks.{AreSizesAsked}
 use Rattle.wire_pattern_commands.specs.Spread.{AreNodesAsked}
@@ -46,29 +47,41 @@ cast_made p asked cast processes fit sizes chosen total few within nodes spread 
   };
 }
 
--- the text that reads as scripts
-pub expanded : (p : Pattern) (asked : Expansion) (cast : text.Cast) (written shown : List ℕ) (s : Scripts) → IsSound p → InstancesRead → IsCastAsked p asked cast
-    → written ≡ instance_text p cast → shown ≡ written → Reads asked.size shown (Ok s) → IsExpanded p asked written
-expanded p asked cast written shown s sound law its is same reads = record {
-  cast = cast;
-  is_asked = its;
-  is = is;
-  scripts = s;
-  reads = subst (λ t. Reads asked.size t (Ok s)) same reads;
-  instance = law p cast asked.size s sound its.is_cast (subst (λ t. Reads asked.size t (Ok s)) (same ∙ is) reads);
-}
+-- what reads as scripts is within the limit of a file, so its front is all of it
+whole_read : (size : Size) (whole : List ℕ) (s : Scripts) → Reads size whole (Ok s) → take (file_bytes size + 1) whole ≡ whole
+whole_read size whole s (inl (past, is)) = absurd (cc)
+whole_read size whole s (inr (within, reads)) = take_all (file_bytes size + 1) whole (omega (arith, within))
 
--- or that has a fault
-pub not_expanded : (p : Pattern) (asked : Expansion) (cast : text.Cast) (shown : List ℕ) (told fault : Fault) → IsCastAsked p asked cast
-    → shown ≡ instance_text p cast → (told ≡ Memory) ⊎ Reads asked.size shown (Err told) → fault ≡ fault_by (instance_lines p cast) told → IsExpandFault p asked fault
-not_expanded p asked cast shown told fault its is (inl memory) at = inl (at ∙ ap (fault_by (instance_lines p cast)) memory)
-not_expanded p asked cast shown told fault its is (inr reads) at = inr (inr (inr (record {
-  cast = cast;
-  is_asked = its;
-  told = told;
-  reads = subst (λ t. Reads asked.size t (Err told)) is reads;
-  is = at;
-})))
+-- the front of a text reads as scripts: it is all of the text
+pub expanded : (p : Pattern) (asked : Expansion) (cast : text.Cast) (written shown : List ℕ) (s : Scripts) → IsSound p → InstancesRead → IsCastAsked p asked cast
+    → written ≡ take (file_bytes asked.size + 1) (instance_text p cast) → shown ≡ written → Reads asked.size shown (Ok s) → IsExpanded p asked written
+expanded p asked cast written shown s sound law its is same reads =
+    let read = read_as {size = asked.size} (Some (instance_text p cast)) written shown s same is reads in
+    let whole = subst (λ t. Reads asked.size t (Ok s)) (sym read.came) read.reads in
+    let all = is ∙ whole_read asked.size (instance_text p cast) s whole in
+    record {
+      cast = cast;
+      is_asked = its;
+      is = all;
+      scripts = s;
+      reads = subst (λ t. Reads asked.size t (Ok s)) (sym all) whole;
+      instance = law p cast asked.size s sound its.is_cast whole;
+    }
+
+-- or it has a fault, and this is that of the text
+pub not_expanded : (p : Pattern) (asked : Expansion) (cast : text.Cast) (written shown : List ℕ) (told fault : Fault) → IsCastAsked p asked cast
+    → written ≡ take (file_bytes asked.size + 1) (instance_text p cast) → shown ≡ written → (told ≡ Memory) ⊎ Reads asked.size shown (Err told)
+    → fault ≡ fault_by (instance_lines p cast) told → IsExpandFault p asked fault
+not_expanded p asked cast written shown told fault its is same (inl memory) at = inl (at ∙ ap (fault_by (instance_lines p cast)) memory)
+not_expanded p asked cast written shown told fault its is same (inr reads) at =
+    let refused = refuses {size = asked.size} (Some (instance_text p cast)) written shown told same is reads in
+    inr (inr (inr (record {
+      cast = cast;
+      is_asked = its;
+      told = told;
+      reads = subst (λ t. Reads asked.size t (Err told)) (sym refused.came) refused.reads;
+      is = at;
+    })))
 
 -- a plan has fewer processes than there are numbers of them
 most_processes : (size : Size) → (limits_of size Two).processes < 2 ^ 31

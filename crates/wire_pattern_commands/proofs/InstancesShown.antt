@@ -1,5 +1,5 @@
 -- The text of an instance has printable bytes and line feeds alone.
-use Rattle.std.proofs.Common.{◌≡◌, ap, refl, ℕ, ◌<◌, ◌≤◌, ◌^◌, List, [], ◌∷◌, ◌++◌, Bool, true, false, ◌⊎◌, inl, inr, map, flat_map, codes, IsTrue, arith}
+use Rattle.std.proofs.Common.{◌≡◌, refl, ℕ, ◌≤◌, List, [], ◌∷◌, ◌++◌, Bool, true, false, inl, inr, map, flat_map, codes, IsTrue, arith}
 use Rattle.std.specs.Prelude.{not, nat_le, ⊤, ◌==◌, length}
 use Rattle.std.specs.List.{list_all, join_with_byte}
 use borrow.Author.Tests.{leb-true}
@@ -12,7 +12,6 @@ use Rattle.wire_types.specs.Said.{spelled_proc, spelled_scope, spelled_item, spe
 use Rattle.wire_lines.proofs.Colon.{and_left, and_right}
 use Rattle.wire_script.proofs.Recut.{AllLawful, all_append, name_word, proc_word}
 use Rattle.wire_content.specs.Canonical.{line_text}
-use Rattle.wire_pattern.specs.Pattern.{Pattern}
 use Rattle.wire_pattern.specs.Instances.{instance_said, instance_text}
 use Rattle.wire_instance_laws.proofs.Lawful.{lines_lawful}
 use Rattle.wire_pattern_commands.specs.Shown.{InstancesReadBack}

@@ -1,10 +1,9 @@
 -- A text is what its string says.
-use Rattle.std.proofs.Common.{◌≡◌, ◌∙◌, ap, refl, subst, sym, ℕ, ◌<◌, List, [], ◌∷◌, ◌++◌, append_assoc, Bool, true, false, ◌⊎◌, inl, inr, flat_map, arith}
-use Rattle.std.specs.Prelude.{◌==◌, ◌||◌, if◌then◌else◌}
+use Rattle.std.proofs.Common.{◌≡◌, ◌∙◌, ap, refl, subst, sym, ℕ, ◌<◌, List, [], ◌∷◌, ◌++◌, append_assoc, false, ◌⊎◌, inl, inr, flat_map, arith}
 use Rattle.std.proofs.lemmas.Bool.Decides.{nat_tests}
-use Rattle.wire_json.specs.Json.{escaped_byte, printed}
+use Rattle.wire_json.specs.Json.{escaped_byte}
 use Rattle.wire_json.proofs.Escapes.{kept_byte}
-use Rattle.wire_pattern_commands.specs.Strings.{AreOfLines, TextsReadBack, string_said, text_byte}
+use Rattle.wire_pattern_commands.specs.Strings.{TextsReadBack, string_said, text_byte}
 
 -- what stands for a printable byte
 plain_said : (b : ℕ) (bs : List ℕ) → 31 < b → b < 127 → string_said false (escaped_byte b ++ bs) ≡ b ∷ string_said false bs

@@ -22,7 +22,7 @@ use Rattle.wire_pattern_waits.specs.Waits.{AreWaiting, AllRead, AllReplied}
 use Rattle.wire_pattern_answers.specs.declared.answers.LineAnswers.{LineAnswers}
 use Rattle.wire_pattern_answers.specs.Lines.{answers_text}
 use Rattle.wire_pattern_answers.specs.Answers.{AreAnswers}
-use Rattle.wire_pattern_commands.specs.declared.told.Told.{Told}
+use Rattle.wire_pattern_commands.specs.declared.asked.PatternAsked.{PatternAsked}
 use Rattle.wire_commands.specs.Ending.{ended_of}
 use Rattle.wire_sweep.specs.Judged.{IsCounterexample, IsSweepFault}
 use Rattle.wire_pattern_commands.specs.PatternJson.{json_counterexample, json_settled}
@@ -56,9 +56,9 @@ abbrev pub settled_text : Bool → Pattern → List CallLine → List LineAnswer
 settled_text asked p lines answers = settled_line ++ (waits_text p lines ++ (if asked then answers_text p answers else []))
 
 -- the same in the form that is asked for
-abbrev pub settled_form : Told → Pattern → List CallLine → List LineAnswers → List ℕ
-settled_form told p lines answers =
-    if told.json then json_settled told.answers p lines answers else settled_text told.answers p lines answers
+abbrev pub settled_form : PatternAsked → Pattern → List CallLine → List LineAnswers → List ℕ
+settled_form asked p lines answers =
+    if asked.json then json_settled asked.answers p lines answers else settled_text asked.answers p lines answers
 
 -- whether a get-now line is answered with success, and with nothing else
 abbrev pub succeeds : LineAnswers → Bool
@@ -67,50 +67,57 @@ succeeds answers = answers.success && (not answers.not_found && not answers.outs
 -- it is said that nothing is found, where something waits in the instances that are judged, which all read as plans, and
 -- if that is asked for how each get-now is answered. If nothing waits, each call of these instances has its reply. Where
 -- `complete` is asked for, the command ends with the count of the get-now lines that don't succeed
-pub record IsSettledSaid (p : Pattern) (told : Told) (text : List ℕ) (ended : Ended) : Type 0 where
+pub record IsSettledSaid (p : Pattern) (asked : PatternAsked) (text : List ℕ) (ended : Ended) : Type 0 where
   pub lines : List CallLine
   pub waiting : AreWaiting p lines
   pub read : AllRead p
   pub replied : lines ≡ [] → AllReplied p
   pub answers : List LineAnswers
-  pub answered : told.answers || told.complete ≡ true → AreAnswers p answers
-  pub is : text ≡ settled_form told p lines answers
-  pub ends : ended ≡ (if told.complete then ended_of (count_by (λ a. not (succeeds a)) answers) else Clean)
+  pub answered : asked.answers || asked.complete ≡ true → AreAnswers p answers
+  pub is : text ≡ settled_form asked p lines answers
+  pub ends : ended ≡ (if asked.complete then ended_of (count_by (λ a. not (succeeds a)) answers) else Clean)
 
--- nothing is found, whatever the number of processes, and then each instance has one end
-pub record IsSettledText (p : Pattern) (told : Told) (text : List ℕ) (ended : Ended) : Type 0 where
+-- the text of each instance with the least number of each role at least, if it reads as a plan of whatever size, has one
+-- end: every interleaving that can't go on ends in one state
+abbrev pub HaveTextsOneEnd : Pattern → Type 0
+HaveTextsOneEnd p = (cast : Cast) (size : Size) (scripts : Scripts) → IsCast p cast → HaveLeast p.roles cast.sizes
+    → Reads size (instance_text p cast) (Ok scripts) → HasOneEnd (plan_of scripts)
+
+-- nothing is found, whatever the number of processes, and then each instance has one end, and so its text
+pub record IsSettledText (p : Pattern) (asked : PatternAsked) (text : List ℕ) (ended : Ended) : Type 0 where
   pub settled : IsSettledForAll p
   pub one_end : HasOneEndForAll p
-  pub said : IsSettledSaid p told text ended
+  pub texts : HaveTextsOneEnd p
+  pub said : IsSettledSaid p asked text ended
 
 -- an instance with its findings
-pub record IsUnsettledText (p : Pattern) (told : Told) (text : List ℕ) (ended : Ended) : Type 0 where
+pub record IsUnsettledText (p : Pattern) (asked : PatternAsked) (text : List ℕ) (ended : Ended) : Type 0 where
   pub cast : Cast
   pub plan_text : List ℕ
   pub scripts : Scripts
   pub found : List Finding
   pub shows : IsCounterexample p cast plan_text scripts found
   pub ends : ended ≡ Found (length found)
-  pub is : text ≡ counterexample_form told.json plan_text scripts found
+  pub is : text ≡ counterexample_form asked.json plan_text scripts found
 
-abbrev pub IsPatternVerdict : Pattern → Told → List ℕ → Ended → Type 0
-IsPatternVerdict p told text ended = IsSettledText p told text ended ⊎ IsUnsettledText p told text ended
+abbrev pub IsPatternVerdict : Pattern → PatternAsked → List ℕ → Ended → Type 0
+IsPatternVerdict p asked text ended = IsSettledText p asked text ended ⊎ IsUnsettledText p asked text ended
 
 -- all of the verdict of what was to come went out
-pub record WritesPatternVerdict (told : Told) (coming : Option (List ℕ)) (ended : Ended) (old new : Option (List ℕ)) : Type 0 where
+pub record WritesPatternVerdict (asked : PatternAsked) (coming : Option (List ℕ)) (ended : Ended) (old new : Option (List ℕ)) : Type 0 where
   pub pattern : Pattern
   pub read : ReadAsPattern coming pattern
   pub text : List ℕ
-  pub tells : IsPatternVerdict pattern told text ended
+  pub tells : IsPatternVerdict pattern asked text ended
   pub wrote : Appends old new text
 
 -- exactly as many bytes of it went out as the fault says, which aren't all of it
-pub record BreaksOffPatternVerdict (told : Told) (coming : Option (List ℕ)) (old new : Option (List ℕ)) (fault : Fault) : Type 0 where
+pub record BreaksOffPatternVerdict (asked : PatternAsked) (coming : Option (List ℕ)) (old new : Option (List ℕ)) (fault : Fault) : Type 0 where
   pub pattern : Pattern
   pub read : ReadAsPattern coming pattern
   pub text : List ℕ
   pub ended : Ended
-  pub tells : IsPatternVerdict pattern told text ended
+  pub tells : IsPatternVerdict pattern asked text ended
   pub wrote : WritesFront old new text fault
 
 -- it reads as a pattern that can't be judged
@@ -124,11 +131,9 @@ abbrev pub StopsBeforePattern : Option (List ℕ) → Fault → Type 0
 StopsBeforePattern coming fault = (fault ≡ Memory) ⊎ ((fault ≡ Read) ⊎ (RefusesPattern coming fault ⊎ IsUnjudged coming fault))
 
 -- what was to come reads as a pattern. With any number of processes of each role, on any nodes, every interleaving that
--- can't go on ends in one state; and so it is in the text of each instance with the least number of each role at least,
--- whatever its size, if it reads as a plan
+-- can't go on ends in one state, and so it is in the texts of instances
 pub record EndsInOneStateForAll (coming : Option (List ℕ)) : Type 0 where
   pub pattern : Pattern
   pub read : ReadAsPattern coming pattern
   pub one_end : HasOneEndForAll pattern
-  pub texts : (cast : Cast) (size : Size) (scripts : Scripts) → IsCast pattern cast → HaveLeast pattern.roles cast.sizes
-      → Reads size (instance_text pattern cast) (Ok scripts) → HasOneEnd (plan_of scripts)
+  pub texts : HaveTextsOneEnd pattern

@@ -17,8 +17,8 @@ ghost use Rattle.wire_pattern_commands.specs.CheckPattern as spec;
 ghost use Rattle.wire_pattern_commands.specs.CheckPattern.{BreaksOffPatternVerdict, EndsInOneStateForAll};
 ghost use Rattle.wire_pattern_commands.specs.CheckPattern.{IsPatternVerdict, IsSettledSaid, StopsBeforePattern, WritesPatternVerdict};
 
+use crate::asked::PatternAsked;
 use crate::reading::{note_sound, read_coming};
-use crate::told::Told;
 use crate::verdict_json::{counterexample_json, settled_json};
 use std::alloc::{AllocError, Global};
 use std::thread::Threads;
@@ -96,13 +96,13 @@ fn counterexample_text(alloc: Global, found: &Counterexample) -> Result<Vec<u8>,
 /// A counterexample in the form that is asked for.
 fn counterexample_form(
     alloc: Global,
-    told: Told,
+    asked: PatternAsked,
     found: &Counterexample,
 ) -> Result<Vec<u8>, AllocError>
     ensures { IfOk result (λ text. text.items
-        ≡ spec.counterexample_form told.json found.now.text.items found.now.plan found.now.findings.items) }
+        ≡ spec.counterexample_form asked.json found.now.text.items found.now.plan found.now.findings.items) }
 {
-    if told.json {
+    if asked.json {
         counterexample_json(alloc, found)
     } else {
         counterexample_text(alloc, found)
@@ -113,14 +113,14 @@ fn counterexample_form(
 fn answer_found(
     alloc: Global,
     pattern: &Pattern,
-    told: Told,
+    asked: PatternAsked,
     found: &Counterexample,
 ) -> Result<Answer, Fault>
     requires { IsFoundFor pattern.now found.now }
-    ensures ok { IfOk result (λ answer. IsPatternVerdict pattern.now told answer.text.items answer.ended) }
+    ensures ok { IfOk result (λ answer. IsPatternVerdict pattern.now asked answer.text.items answer.ended) }
     ensures err { IfErr result (λ e. e ≡ Memory) }
 {
-    let text = counterexample_form(alloc, told, found)?;
+    let text = counterexample_form(alloc, asked, found)?;
     Ok(Answer {
         text,
         ended: Ended::Found(found.findings.as_slice().len() as u64),
@@ -148,10 +148,10 @@ fn count_failing(all: &[LineAnswers]) -> usize
 }
 
 /// How the command ends where nothing is found.
-fn settled_end(told: Told, answers: &[LineAnswers]) -> Ended
-    ensures { result ≡ (if told.complete then ended_of (count_by (λ a. not (spec.succeeds a)) answers.now) else Clean) }
+fn settled_end(asked: PatternAsked, answers: &[LineAnswers]) -> Ended
+    ensures { result ≡ (if asked.complete then ended_of (count_by (λ a. not (spec.succeeds a)) answers.now) else Clean) }
 {
-    if told.complete {
+    if asked.complete {
         Ended::of_count(count_failing(answers))
     } else {
         Ended::Clean
@@ -159,13 +159,17 @@ fn settled_end(told: Told, answers: &[LineAnswers]) -> Ended
 }
 
 /// With which statuses each get-now line is answered, if that is asked for.
-fn answers_asked(alloc: Global, pattern: &Pattern, told: Told) -> Result<Vec<LineAnswers>, Fault>
+fn answers_asked(
+    alloc: Global,
+    pattern: &Pattern,
+    asked: PatternAsked,
+) -> Result<Vec<LineAnswers>, Fault>
     requires settled { IsSettledForAll pattern.now }
     requires few { total_of (most_sizes pattern.now.roles) < 2 ^ 31 }
-    ensures ok { IfOk result (λ v. told.answers || told.complete ≡ true → AreAnswers pattern.now v.items) }
+    ensures ok { IfOk result (λ v. asked.answers || asked.complete ≡ true → AreAnswers pattern.now v.items) }
     ensures err { IfErr result (λ e. IsJudgeFault pattern.now e) }
 {
-    if told.answers || told.complete {
+    if asked.answers || asked.complete {
         let answers = find_answers(alloc, pattern)?;
         return Ok(answers);
     }
@@ -177,18 +181,18 @@ fn answers_asked(alloc: Global, pattern: &Pattern, told: Told) -> Result<Vec<Lin
 fn settled_text(
     alloc: Global,
     pattern: &Pattern,
-    told: Told,
+    asked: PatternAsked,
     lines: &[CallLine],
     answers: &[LineAnswers],
 ) -> Result<Vec<u8>, AllocError>
-    ensures { IfOk result (λ text. text.items ≡ spec.settled_text told.answers pattern.now lines.now answers.now) }
+    ensures { IfOk result (λ text. text.items ≡ spec.settled_text asked.answers pattern.now lines.now answers.now) }
 {
     let mut text = Vec::from_slice(
         alloc,
         b"findings 0 for every number of ranks on every placement\n",
     )?;
     write_waits(&mut text, pattern, lines)?;
-    if !told.answers {
+    if !asked.answers {
         return Ok(text);
     }
     write_answers(&mut text, pattern, answers)?;
@@ -199,32 +203,32 @@ fn settled_text(
 fn settled_form(
     alloc: Global,
     pattern: &Pattern,
-    told: Told,
+    asked: PatternAsked,
     lines: &[CallLine],
     answers: &[LineAnswers],
 ) -> Result<Vec<u8>, AllocError>
-    ensures { IfOk result (λ text. text.items ≡ spec.settled_form told pattern.now lines.now answers.now) }
+    ensures { IfOk result (λ text. text.items ≡ spec.settled_form asked pattern.now lines.now answers.now) }
 {
-    if told.json {
-        settled_json(alloc, pattern, told, lines, answers)
+    if asked.json {
+        settled_json(alloc, pattern, asked, lines, answers)
     } else {
-        settled_text(alloc, pattern, told, lines, answers)
+        settled_text(alloc, pattern, asked, lines, answers)
     }
 }
 
 /// The answer about a pattern in which nothing is found.
-fn answer_settled(alloc: Global, pattern: &Pattern, told: Told) -> Result<Answer, Fault>
+fn answer_settled(alloc: Global, pattern: &Pattern, asked: PatternAsked) -> Result<Answer, Fault>
     requires settled { IsSettledForAll pattern.now }
     requires few { total_of (most_sizes pattern.now.roles) < 2 ^ 31 }
-    ensures ok { IfOk result (λ answer. IsSettledSaid pattern.now told answer.text.items answer.ended) }
+    ensures ok { IfOk result (λ answer. IsSettledSaid pattern.now asked answer.text.items answer.ended) }
     ensures err { IfErr result (λ e. IsJudgeFault pattern.now e) }
 {
     let lines = waiting_lines(alloc, pattern)?;
-    let answers = answers_asked(alloc, pattern, told)?;
-    let text = settled_form(alloc, pattern, told, lines.as_slice(), answers.as_slice())?;
+    let answers = answers_asked(alloc, pattern, asked)?;
+    let text = settled_form(alloc, pattern, asked, lines.as_slice(), answers.as_slice())?;
     Ok(Answer {
         text,
-        ended: settled_end(told, answers.as_slice()),
+        ended: settled_end(asked, answers.as_slice()),
     })
 }
 
@@ -233,15 +237,19 @@ fn answer_pattern(
     rt: &(impl Threads + Sync),
     alloc: Global,
     pattern: &Pattern,
-    told: Told,
+    asked: PatternAsked,
 ) -> Result<Answer, Fault>
-    ensures ok { IfOk result (λ answer. IsPatternVerdict pattern.now told answer.text.items answer.ended) }
+    ensures ok { IfOk result (λ answer. IsPatternVerdict pattern.now asked answer.text.items answer.ended) }
     ensures err { IfErr result (λ e. IsSweepFault pattern.now e) }
 {
     match judge_pattern(rt, alloc, pattern)? {
-        None => answer_settled(alloc, pattern, told),
+        None => {
+            note_sound(pattern);
+            texts_settled();
+            answer_settled(alloc, pattern, asked)
+        }
         Some(found) => {
-            let answer = answer_found(alloc, pattern, told, &found);
+            let answer = answer_found(alloc, pattern, asked, &found);
             drop(found);
             answer
         }
@@ -262,11 +270,11 @@ fn answer_pattern(
 pub fn check_pattern<R: Source, W: Sink>(
     rt: &(impl Threads + Sync),
     alloc: Global,
-    told: Told,
+    asked: PatternAsked,
     reader: &mut R,
     writer: &mut W,
 ) -> Result<Ended, Fault>
-    ensures ok { IfOk result (λ ended. WritesPatternVerdict told (R.coming reader.old) ended (W.written writer.old) (W.written writer.new)) }
+    ensures ok { IfOk result (λ ended. WritesPatternVerdict asked (R.coming reader.old) ended (W.written writer.old) (W.written writer.new)) }
     ensures quiet { OnOk result ((R.failures reader.new ≡ R.failures reader.old) × (W.failures writer.new ≡ W.failures writer.old)) }
 
     // The headline: where it finds nothing, in each instance every interleaving that can't go on ends in one state, and
@@ -275,7 +283,7 @@ pub fn check_pattern<R: Source, W: Sink>(
 
     // Either nothing was written, or the front of the text that the fault counts.
     ensures err { IfErr result (λ e. (StopsBeforePattern (R.coming reader.old) e × (writer.new ≡ writer.old))
-        ⊎ (BreaksOffPatternVerdict told (R.coming reader.old) (W.written writer.old) (W.written writer.new) e
+        ⊎ (BreaksOffPatternVerdict asked (R.coming reader.old) (W.written writer.old) (W.written writer.new) e
         × (W.failures writer.new ≡ one_more (W.failures writer.old)))) }
 
     // A failed read is answered only where the reader failed.
@@ -283,9 +291,7 @@ pub fn check_pattern<R: Source, W: Sink>(
     ensures unfailed { IfErr result (λ e. e ≢ Memory → e ≢ Read → R.failures reader.new ≡ R.failures reader.old) }
 {
     let pattern = read_coming(alloc, reader)?;
-    note_sound(&pattern);
-    texts_settled();
-    let answer = answer_pattern(rt, alloc, &pattern, told);
+    let answer = answer_pattern(rt, alloc, &pattern, asked);
     drop(pattern);
     let answer = answer?;
     write_answer(writer, &answer)

@@ -14,7 +14,7 @@ use crate::reading::{note_sound, read_coming};
 use crate::spread::{Spread, spread_nodes};
 use std::alloc::Global;
 use wire_instance_laws::laws::instances_read;
-use wire_instances::{Cast, pattern_fault, processes_within, write_instance};
+use wire_instances::{Cast, pattern_fault, processes_within, write_front};
 use wire_pattern::Pattern;
 use wire_report::write_text;
 use wire_script::{Limits, Size, read_sized};
@@ -48,13 +48,14 @@ fn cast_asked(alloc: Global, pattern: &Pattern, asked: Expansion<'_>) -> Result<
     })
 }
 
-/// The text of the instance that is asked for, if it reads as a plan.
+/// The text of the instance that is asked for, if it reads as a plan. A text that is too long for that isn't made: its
+/// front tells so.
 fn expanded_text(alloc: Global, pattern: &Pattern, asked: Expansion<'_>) -> Result<Vec<u8>, Fault>
     ensures ok { IfOk result (λ text. IsExpanded pattern.now asked.entry text.items) }
     ensures err { IfErr result (λ e. IsExpandFault pattern.now asked.entry e) }
 {
     let cast = cast_asked(alloc, pattern, asked)?;
-    let text = write_instance(alloc, pattern, &cast)?;
+    let text = write_front(alloc, pattern, &cast, asked.size.file_bytes() + 1)?;
     note_sound(pattern);
     instances_read();
     match read_sized(alloc, asked.size, text.as_slice()) {

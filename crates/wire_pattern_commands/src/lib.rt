@@ -1,6 +1,7 @@
 //! The commands that read a pattern, from bytes to bytes.
 #![tactic(auto)]
 
+mod asked;
 mod check;
 mod expand;
 pub mod laws;
@@ -8,10 +9,9 @@ mod ranks;
 mod reading;
 mod spread;
 mod strings;
-mod told;
 mod verdict_json;
 
+pub use asked::PatternAsked;
 pub use check::check_pattern;
 pub use expand::{Expansion, expand_pattern};
 pub use spread::Spread;
-pub use told::Told;

@@ -7,8 +7,8 @@ ghost use Rattle.wire_pattern_waits.specs.Lines.{waits_text};
 ghost use Rattle.wire_pattern_commands.specs.PatternJson as spec;
 ghost use Rattle.wire_pattern_commands.specs.Strings.{lines_list};
 
+use crate::asked::PatternAsked;
 use crate::strings::{push_lines, push_text, string_of};
-use crate::told::Told;
 use std::alloc::{AllocError, Global};
 use wire_content::Scripts;
 use wire_findings::Finding;
@@ -25,12 +25,12 @@ fn push_answers(
     alloc: Global,
     out: &mut Vec<u8>,
     pattern: &Pattern,
-    told: Told,
+    asked: PatternAsked,
     answers: &[LineAnswers],
 ) -> Result<(), AllocError>
-    ensures { OnOk result (out.new.items ≡ out.old.items ++ spec.answers_member told.answers pattern.now answers.now) }
+    ensures { OnOk result (out.new.items ≡ out.old.items ++ spec.answers_member asked.answers pattern.now answers.now) }
 {
-    if !told.answers {
+    if !asked.answers {
         return Ok(());
     }
     let mut lines = Vec::new(alloc);
@@ -58,15 +58,15 @@ fn push_waits(
 pub(crate) fn settled_json(
     alloc: Global,
     pattern: &Pattern,
-    told: Told,
+    asked: PatternAsked,
     lines: &[CallLine],
     answers: &[LineAnswers],
 ) -> Result<Vec<u8>, AllocError>
-    ensures { IfOk result (λ text. text.items ≡ spec.json_settled told.answers pattern.now lines.now answers.now) }
+    ensures { IfOk result (λ text. text.items ≡ spec.json_settled asked.answers pattern.now lines.now answers.now) }
 {
     let mut out = Vec::new(alloc);
     out.extend_from_slice(b"{")?;
-    push_answers(alloc, &mut out, pattern, told, answers)?;
+    push_answers(alloc, &mut out, pattern, asked, answers)?;
     out.extend_from_slice(
         b"\"findings\":[],\"for\":\"every number of ranks on every placement\",\"waits\":",
     )?;

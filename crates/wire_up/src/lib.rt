@@ -32,6 +32,9 @@ pub use wire_commands::{
     check_plan, check_replies, follow_plan, migrate_plan, place_plan, replay_plan, run_plainly,
     witness_pair, witness_races,
 };
+pub use wire_pattern_commands::{
+    Expansion, PatternAsked, Spread as SpreadOver, check_pattern, expand_pattern,
+};
 use wire_sched::Gate;
 pub use wire_script::Size;
 use wire_types::{Fault, Form, Sink, Source};

@@ -1,10 +1,13 @@
-use Rattle.std.proofs.Common.{◌≡◌, ◌++◌, map, flat_map, drop}
+use Rattle.std.proofs.Common.{◌+◌, ◌++◌, map, flat_map, drop}
 use Rattle.wire_pattern.specs.Instances.{items_said}
 use Rattle.wire_pattern.specs.Shown.{item_by}
 use Rattle.wire_content.specs.Canonical.{items_text}
+use Rattle.wire_instances.specs.Written.{AgreeOn}
 use Rattle.wire_instances.proofs.words.set_word.Given as goal
 
 abbrev pub invariant-loop-item : goal.invariant-loop-item
 invariant-loop-item l =
-    l.word.items ++ items_text (flat_map (items_said l.frame.pattern l.frame.cast l.calling.caller l.calling.each) (map item_by (drop l.item-index l.items.items)))
-    ≡ items_text (flat_map (items_said l.frame.pattern l.frame.cast l.calling.caller l.calling.each) (map item_by l.items.items))
+    AgreeOn (l.excerpt.wanted + 1)
+    (l.word.items ++ items_text (flat_map (items_said l.excerpt.frame.pattern l.excerpt.frame.cast l.calling.caller l.calling.each)
+    (map item_by (drop l.item-index l.items.items))))
+    (items_text (flat_map (items_said l.excerpt.frame.pattern l.excerpt.frame.cast l.calling.caller l.calling.each) (map item_by l.items.items)))

@@ -19,16 +19,19 @@ returns-in_err-answer-clause-read_failed g c is =
 
 pub returns-clause-ok : goal.returns-clause-ok
 returns-clause-ok g c =
-    writes_verdict (g.R.Source.coming c.args.reader.now) _ _ c.in_ok-pattern.pattern c.args.told c.in_ok-answer.answer.text.items c.in_ok-answer.answer.ended c.write_answer.result
+    writes_verdict (g.R.Source.coming c.args.reader.now) _ _ c.in_ok-pattern.pattern c.args.asked c.in_ok-answer.answer.text.items c.in_ok-answer.answer.ended
+    c.write_answer.result
     c.in_ok-pattern.ensures.ok c.in_ok-answer.ensures.ok c.write_answer.ensures.ok
 
 pub returns-clause-err : goal.returns-clause-err
 returns-clause-err g c =
     verdict_err (g.R.Source.coming c.args.reader.now) (g.W.Sink.written c.args.writer.now) (g.W.Sink.written c.write_answer.new.writer) c.in_ok-pattern.pattern
-    c.args.told c.in_ok-answer.answer.text.items c.in_ok-answer.answer.ended _ _ c.write_answer.result c.in_ok-pattern.ensures.ok c.in_ok-answer.ensures.ok c.write_answer.ensures.front
+    c.args.asked c.in_ok-answer.answer.text.items c.in_ok-answer.answer.ended _ _ c.write_answer.result c.in_ok-pattern.ensures.ok c.in_ok-answer.ensures.ok
+    c.write_answer.ensures.front
     c.write_answer.ensures.failed
 
 pub returns-clause-one_end : goal.returns-clause-one_end
 returns-clause-one_end g c =
-    clean_one_end (g.R.Source.coming c.args.reader.now) _ _ c.in_ok-pattern.pattern c.args.told c.in_ok-answer.answer.text.items c.in_ok-answer.answer.ended c.write_answer.result
-    c.in_ok-pattern.ensures.ok c.note_sound.ensures c.texts_settled.ensures c.in_ok-answer.ensures.ok c.write_answer.ensures.ok
+    clean_one_end (g.R.Source.coming c.args.reader.now) _ _ c.in_ok-pattern.pattern c.args.asked c.in_ok-answer.answer.text.items c.in_ok-answer.answer.ended
+    c.write_answer.result
+    c.in_ok-pattern.ensures.ok c.in_ok-answer.ensures.ok c.write_answer.ensures.ok

@@ -1,8 +1,8 @@
-//! What `check --pattern` is to tell.
+//! What `check --pattern` is asked for.
 
-/// What is told of a pattern besides its verdict, and in which form.
+/// What is asked for besides the verdict about a pattern, and the form.
 #[derive(Clone, Copy, Debug, PartialEq, Eq)]
-pub struct Told {
+pub struct PatternAsked {
     /// With which statuses each get-now is answered.
     pub answers: bool,
     /// By how the command ends, whether each is answered with success alone.

@@ -1,7 +1,0 @@
-use Rattle.wire_instances.proofs.Loops.{number_step}
-use Rattle.wire_instances.proofs.numbers.add_lines.Goals as goal
-
-pub loop-line-preserved : goal.loop-line-preserved
-loop-line-preserved c =
-    number_step c.args.lines.now c.loop-line.line-index c.line-item.result c.loop-line.out.items c.push.new.self.items _
-    c.loop-line-test.true c.line-item.is c.in_ok-push.ensures.items c.loop-line.invariant

@@ -1,9 +1,0 @@
-use Rattle.std.proofs.Common.{◌≡◌, ◌++◌, map, drop}
-use Rattle.wire_pattern.specs.Instances.{steps_lines}
-use Rattle.wire_pattern.specs.Shown.{step_by}
-use Rattle.wire_instances.proofs.numbers.add_steps.Given as goal
-
-abbrev pub invariant-loop-number : goal.invariant-loop-number
-invariant-loop-number l =
-    l.out.items ++ steps_lines l.frame.cast l.caller l.number (map step_by (drop l.number l.steps))
-    ≡ l.fn.out.items ++ steps_lines l.frame.cast l.caller 0 (map step_by l.steps)
