@@ -321,9 +321,9 @@ fn two_workers_meet(rt: HostRuntime) -> Result<(), Fail> {
     Ok(())
 }
 
-/// The workers of a rehearsal come to the gate too.
+/// The workers of a replay come to the gate too.
 #[test]
-fn workers_of_a_rehearsal_meet(rt: HostRuntime) -> Result<(), Fail> {
+fn workers_of_a_replay_meet(rt: HostRuntime) -> Result<(), Fail> {
     let gate = Meeting::new();
     let mode = Mode {
         json: false,

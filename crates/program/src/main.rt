@@ -401,6 +401,7 @@ fn open_plan<'p, R: Files + Input + Eprint + Wait>(
     Ok(FromRead::new(KeptReader::new(noted, kept)))
 }
 
+/// Reads the command line, and does what it asks for: the exit status.
 fn run(
     rt: &(impl Env + Files + Input + Print + Eprint + AllocGlobal + Clock + Threads + Wait + Sync),
     streams: Streams,

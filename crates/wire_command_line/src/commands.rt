@@ -104,6 +104,7 @@ const SECOND_PROCESS: &str = "The process of the second call";
 /// The number of a call whose process was told of before.
 const NUMBER: &str = "The number of that call";
 
+/// The command `check`.
 fn check_command<'a>() -> Subcommand<'a>
     ensures { line_said result ≡ spec.check_line }
 {
@@ -141,6 +142,7 @@ fn check_command<'a>() -> Subcommand<'a>
     }
 }
 
+/// The command `replay`.
 fn replay_command<'a>() -> Subcommand<'a>
     ensures { line_said result ≡ spec.replay_line }
 {
@@ -171,6 +173,7 @@ fn replay_command<'a>() -> Subcommand<'a>
     }
 }
 
+/// The command `follow`.
 fn follow_command<'a>() -> Subcommand<'a>
     ensures { line_said result ≡ spec.follow_line }
 {
@@ -181,6 +184,7 @@ fn follow_command<'a>() -> Subcommand<'a>
     }
 }
 
+/// The command `why`.
 fn why_command<'a>() -> Subcommand<'a>
     ensures { line_said result ≡ spec.why_line }
 {
@@ -217,6 +221,7 @@ fn why_command<'a>() -> Subcommand<'a>
     }
 }
 
+/// The command `migrate`.
 fn migrate_command<'a>() -> Subcommand<'a>
     ensures { line_said result ≡ spec.migrate_line }
 {
@@ -227,6 +232,7 @@ fn migrate_command<'a>() -> Subcommand<'a>
     }
 }
 
+/// The command `place`.
 fn place_command<'a>() -> Subcommand<'a>
     ensures { line_said result ≡ spec.place_line }
 {
@@ -246,6 +252,7 @@ fn place_command<'a>() -> Subcommand<'a>
     }
 }
 
+/// The command `witness`.
 fn witness_command<'a>() -> Subcommand<'a>
     ensures { line_said result ≡ spec.witness_line }
 {
@@ -288,6 +295,7 @@ fn witness_command<'a>() -> Subcommand<'a>
     }
 }
 
+/// The command `expand`.
 fn expand_command<'a>() -> Subcommand<'a>
     ensures { line_said result ≡ spec.expand_line }
 {

@@ -5,6 +5,7 @@ ghost use Rattle.std.specs.Prelude.{false, Some, OnOk, IfOk, IfErr, IfSome, IfNo
 ghost use Rattle.std.specs.Str.{bytes_eq};
 ghost use Rattle.clap.specs.Words.{Row, Text, HasKind, kind_of, fault_of, first_of, found_of, rows_of, subcommand_of};
 ghost use Rattle.clap.specs.Words.{subcommand_rows_of};
+ghost use Rattle.wire_types.specs.Texts.{texts_of};
 ghost use Rattle.wire_command_line.specs.CommandLine as spec;
 ghost use Rattle.wire_command_line.specs.CommandLine.{AsksFor, RefusedFor, SaidBy, text_of};
 
@@ -74,7 +75,7 @@ fn add_word<'a>(
     found: &ArgMatches<'a>,
     name: &str,
 ) -> Result<(), AllocError>
-    ensures { OnOk result (map (λ w. w.now) words.new.items ≡ map (λ w. w.now) words.old.items
+    ensures { OnOk result (texts_of words.new.items ≡ texts_of words.old.items
         ++ option_to_list (first_of name.now (rows_of (found_of found.now)))) }
 {
     if let Some(word) = found.get_str(name) {
@@ -85,7 +86,7 @@ fn add_word<'a>(
 
 /// The words of a command's own that were given.
 fn words_given<'a>(alloc: Global, found: &ArgMatches<'a>) -> Result<Vec<&'a str>, AllocError>
-    ensures { IfOk result (λ v. map (λ w. w.now) v.items ≡ spec.words_given (rows_of (found_of found.now))) }
+    ensures { IfOk result (λ v. texts_of v.items ≡ spec.words_given (rows_of (found_of found.now))) }
 {
     let mut words = Vec::new(alloc);
     for name in &["ORDER", "RANKS", "P", "N", "Q", "M", "FILE"] {
@@ -176,9 +177,9 @@ pub(crate) fn tell_missing(alloc: Global) -> Result<Error, AllocError>
 
 /// The matches of `clap` for the words of a command line.
 pub(crate) fn match_words<'a>(alloc: Global, words: &'a [&'a str]) -> Result<ArgMatches<'a>, Error>
-    ensures lawful { OnOk result (fault_of spec.program_line (map (λ w. w.now) words.entry.now) ≡ []) }
-    ensures command { IfOk result (λ m. subcommand_rows_of m ≡ subcommand_of spec.program_line (map (λ w. w.now) words.entry.now)) }
-    ensures err { IfErr result (HasKind (fault_of spec.program_line (map (λ w. w.now) words.entry.now))) }
+    ensures lawful { OnOk result (fault_of spec.program_line (texts_of words.entry.now) ≡ []) }
+    ensures command { IfOk result (λ m. subcommand_rows_of m ≡ subcommand_of spec.program_line (texts_of words.entry.now)) }
+    ensures err { IfErr result (HasKind (fault_of spec.program_line (texts_of words.entry.now))) }
 {
     command_line(alloc)?.try_get_matches_from(words)
 }
@@ -201,10 +202,10 @@ fn parse_matches<'a>(alloc: Global, matches: &ArgMatches<'a>) -> Result<Asked<'a
 /// Where it is `Ok`, `clap` finds no fault in the words, and the answer is what its matches for them say, each word
 /// among them that the command needs. An error is one of those that `clap` has for the words, want of memory among
 /// them, or `MissingRequiredArgument` where `clap` finds no fault and a word is missing all the same (no words are
-/// known for which that is so).
+/// known for which that is so). No command calls this: it is for programs that want the words alone.
 pub fn asked<'a>(alloc: Global, words: &'a [&'a str]) -> Result<Asked<'a>, Error>
-    ensures ok { IfOk result (λ asked. AsksFor (map (λ w. w.now) words.entry.now) asked) }
-    ensures err { IfErr result (λ e. RefusedFor (map (λ w. w.now) words.entry.now) e) }
+    ensures ok { IfOk result (λ asked. AsksFor (texts_of words.entry.now) asked) }
+    ensures err { IfErr result (λ e. RefusedFor (texts_of words.entry.now) e) }
 {
     let matches = match_words(alloc, words)?;
     let asked = parse_matches(alloc, &matches);

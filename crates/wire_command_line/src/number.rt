@@ -14,12 +14,14 @@ const MOST_AND_ONE: usize = 65;
 /// So many races are tried at most, though a plan can have more. It has fewer ranks, and fewer nodes.
 const ALL_RACES: usize = 1_000_000_000;
 
+/// Whether a byte is a digit.
 fn is_digit(byte: u8) -> bool
     ensures { result ≡ spec.is_digit byte }
 {
     48 <= byte && byte <= 57
 }
 
+/// Whether each byte is a digit.
 fn has_digits(word: &[u8]) -> bool
     ensures { result ≡ list_all spec.is_digit word.now }
 {

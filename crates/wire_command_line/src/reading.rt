@@ -2,6 +2,7 @@
 
 ghost use Rattle.std.specs.Prelude.{◌≡◌, List, [], map, codes, false, None, Err, IfOk, IfErr, IfSome, IfNone};
 ghost use Rattle.clap.specs.Words.{Text, fault_of, first_of, found_of, rows_of, subcommand_of, subcommand_rows_of};
+ghost use Rattle.wire_types.specs.Texts.{texts_of};
 ghost use Rattle.wire_command_line.specs.CommandLine.{program_line, text_of};
 ghost use Rattle.wire_command_line.specs.Reading.{IsReadAs, IsReadBy, IsReadIn};
 ghost use Rattle.wire_command_line.specs.Requests as spec;
@@ -354,8 +355,8 @@ fn refuse(alloc: Global, lack: Lack) -> Refusal
 /// `MissingRequiredArgument` where `clap` finds no fault and a word is missing all the same (no words are known for
 /// which that is so).
 pub fn read_request<'a>(alloc: Global, words: &'a [&'a str]) -> Result<Request<'a>, Refusal>
-    ensures ok { IfOk result (IsRequestOf (map (λ w. w.now) words.entry.now)) }
-    ensures err { IfErr result (IsRefusalOf (map (λ w. w.now) words.entry.now)) }
+    ensures ok { IfOk result (IsRequestOf (texts_of words.entry.now)) }
+    ensures err { IfErr result (IsRefusalOf (texts_of words.entry.now)) }
 {
     let matches = match_words(alloc, words)?;
     let read = read_matches(&matches);

@@ -36,11 +36,27 @@ pattern_usages =
     ∷ (codes "job", codes "'job NAME', outside of loops; a name is without ':', ',', '#', '*', '[' and ']'")
     ∷ (codes "one", codes "'one NAME', below a 'job' line and outside of loops; NAME as for 'job', but not self, each, all, some or cyclic")
     ∷ (codes "many", codes "'many NAME' or 'many NAME min N', below a 'job' line and outside of loops; NAME as for 'one', N is 1 to 9")
-    ∷ (codes "put", codes "'put SCOPE KEY VALUE', below a role; SCOPE is local, remote or global; KEY isn't '*', and only an index such as [self] has brackets; in a loop it has an index with each")
+    ∷ (
+      codes "put",
+      codes "'put SCOPE KEY VALUE', below a role; SCOPE is local, remote or global;"
+          ++ codes " KEY isn't '*', and only an index such as [self] has brackets; in a loop it has an index with each",
+    )
     ∷ (codes "commit", codes "'commit' alone, below a role; in a loop only where no put waits for a commit before the loop, nor at the end of a turn")
-    ∷ (codes "fence", codes "'fence all' or 'fence ITEM,ITEM,..', then nothing or 'collect', below a role, not in 'for some'; ITEM is a role, JOB:*, self or each; in a loop one is each, and none has the whole group")
-    ∷ (codes "get", codes "'get RANK KEY', below a role; RANK is a role of one rank, self or, in a loop, each; KEY as for 'put'; in a loop one of them names each")
-    ∷ (codes "get-now", codes "'get-now RANK KEY', below a role; RANK is a role of one rank, self or, in a loop, each; KEY as for 'put'; in a loop one of them names each")
+    ∷ (
+      codes "fence",
+      codes "'fence all' or 'fence ITEM,ITEM,..', then nothing or 'collect', below a role, not in 'for some';"
+          ++ codes " ITEM is a role, JOB:*, self or each; in a loop one is each, and none has the whole group",
+    )
+    ∷ (
+      codes "get",
+      codes "'get RANK KEY', below a role; RANK is a role of one rank, self or, in a loop, each; KEY as for 'put';"
+          ++ codes " in a loop one of them names each",
+    )
+    ∷ (
+      codes "get-now",
+      codes "'get-now RANK KEY', below a role; RANK is a role of one rank, self or, in a loop, each; KEY as for 'put';"
+          ++ codes " in a loop one of them names each",
+    )
     ∷ (codes "publish", codes "'publish NAME VALUE', below a role, not in 'for some'; NAME as KEY of 'put'")
     ∷ (codes "lookup", codes "'lookup NAME', below a role; NAME as KEY of 'put'")
     ∷ (codes "lookup-wait", codes "'lookup-wait NAME', below a role; NAME as KEY of 'put'")

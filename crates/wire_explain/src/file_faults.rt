@@ -127,7 +127,8 @@ fn expected_lengths(language: Language) -> &'static str
     by_language(
         language,
         "names and keys of at most 63 bytes, values of at most 255, and a file within its size limit",
-        "names and keys (with their index) of at most 63 bytes, values of at most 255, and a file within its size limit",
+        "names and keys (with their index) of at most 63 bytes, values of at most 255, and a file within its size \
+         limit",
     )
 }
 
@@ -137,8 +138,10 @@ fn expected_limits(language: Language) -> &'static str
 {
     by_language(
         language,
-        "no more nodes, jobs, ranks or calls than the limits (with --large, which 'witness' doesn't take, they are larger)",
-        "no more jobs, roles, groups or turns of 'for some' than a pattern may have, and instances within the limits of plans",
+        "no more nodes, jobs, ranks or calls than the limits (with --large, which 'witness' doesn't take, they are \
+         larger)",
+        "no more jobs, roles, groups or turns of 'for some' than a pattern may have, and instances within the \
+         limits of plans",
     )
 }
 
@@ -228,8 +231,8 @@ fn explanation_of(
     Ok(explanation)
 }
 
-/// The explanation of the fault of a plan or a pattern: the line that it names, what was expected there, and the nearest
-/// word, where one is near. Only printable ASCII and line feeds are in it.
+/// The explanation of the fault of a plan or a pattern: the line that it names, what was expected there, and the
+/// nearest word, where one is near. Only printable ASCII and line feeds are in it.
 pub fn explain_file(
     alloc: Global,
     language: Language,

@@ -30,15 +30,18 @@ static PLAN_USAGES: [(&str, &str); 14] = [
     ("commit", "'commit' alone, below a 'rank' line"),
     (
         "fence",
-        "'fence all' or 'fence ITEM,ITEM,..', then nothing or 'collect', below a 'rank' line; ITEM is JOB:RANK or JOB:*, RANK as for 'get'",
+        "'fence all' or 'fence ITEM,ITEM,..', then nothing or 'collect', below a 'rank' line; ITEM is JOB:RANK or \
+         JOB:*, RANK as for 'get'",
     ),
     (
         "get",
-        "'get JOB:RANK KEY', below a 'rank' line; RANK is 0, or up to nine digits that don't begin with 0; KEY isn't '*'",
+        "'get JOB:RANK KEY', below a 'rank' line; RANK is 0, or up to nine digits that don't begin with 0; KEY \
+         isn't '*'",
     ),
     (
         "get-now",
-        "'get-now JOB:RANK KEY', below a 'rank' line; RANK is 0, or up to nine digits that don't begin with 0; KEY isn't '*'",
+        "'get-now JOB:RANK KEY', below a 'rank' line; RANK is 0, or up to nine digits that don't begin with 0; KEY \
+         isn't '*'",
     ),
     (
         "publish",
@@ -68,7 +71,8 @@ static PATTERN_USAGES: [(&str, &str); 16] = [
     ),
     (
         "one",
-        "'one NAME', below a 'job' line and outside of loops; NAME as for 'job', but not self, each, all, some or cyclic",
+        "'one NAME', below a 'job' line and outside of loops; NAME as for 'job', but not self, each, all, some or \
+         cyclic",
     ),
     (
         "many",
@@ -76,23 +80,28 @@ static PATTERN_USAGES: [(&str, &str); 16] = [
     ),
     (
         "put",
-        "'put SCOPE KEY VALUE', below a role; SCOPE is local, remote or global; KEY isn't '*', and only an index such as [self] has brackets; in a loop it has an index with each",
+        "'put SCOPE KEY VALUE', below a role; SCOPE is local, remote or global; KEY isn't '*', and only an index \
+         such as [self] has brackets; in a loop it has an index with each",
     ),
     (
         "commit",
-        "'commit' alone, below a role; in a loop only where no put waits for a commit before the loop, nor at the end of a turn",
+        "'commit' alone, below a role; in a loop only where no put waits for a commit before the loop, nor at the \
+         end of a turn",
     ),
     (
         "fence",
-        "'fence all' or 'fence ITEM,ITEM,..', then nothing or 'collect', below a role, not in 'for some'; ITEM is a role, JOB:*, self or each; in a loop one is each, and none has the whole group",
+        "'fence all' or 'fence ITEM,ITEM,..', then nothing or 'collect', below a role, not in 'for some'; ITEM is \
+         a role, JOB:*, self or each; in a loop one is each, and none has the whole group",
     ),
     (
         "get",
-        "'get RANK KEY', below a role; RANK is a role of one rank, self or, in a loop, each; KEY as for 'put'; in a loop one of them names each",
+        "'get RANK KEY', below a role; RANK is a role of one rank, self or, in a loop, each; KEY as for 'put'; in \
+         a loop one of them names each",
     ),
     (
         "get-now",
-        "'get-now RANK KEY', below a role; RANK is a role of one rank, self or, in a loop, each; KEY as for 'put'; in a loop one of them names each",
+        "'get-now RANK KEY', below a role; RANK is a role of one rank, self or, in a loop, each; KEY as for 'put'; \
+         in a loop one of them names each",
     ),
     (
         "publish",
@@ -112,7 +121,8 @@ static PATTERN_USAGES: [(&str, &str); 16] = [
     ),
     (
         "for",
-        "'for GROUP', 'for GROUP cyclic' or 'for some GROUP', below a role and outside of loops; GROUP is a role of any number of ranks",
+        "'for GROUP', 'for GROUP cyclic' or 'for some GROUP', below a role and outside of loops; GROUP is a role \
+         of any number of ranks",
     ),
     ("end", "'end' alone, below the lines of a loop"),
 ];

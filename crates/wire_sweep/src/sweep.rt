@@ -108,10 +108,10 @@ fn judge_all(
     Ok(None)
 }
 
-/// Judges a pattern for every number of processes of its roles, on all nodes: nothing is found in any instance, or there
-/// is a counterexample, an instance with its findings. Of the instances with at most three processes of each role, or
-/// with the least that the role has, it is the first in which something is found: one with the fewest processes. The
-/// limits of a pattern are those of the largest of these instances.
+/// Judges a pattern for every number of processes of its roles, on all nodes: nothing is found in any instance, or
+/// there is a counterexample, an instance with its findings. Of the instances with at most three processes of each
+/// role, or with the least that the role has, it is the first in which something is found: one with the fewest
+/// processes. The limits of a pattern are those of the largest of these instances.
 pub fn judge_pattern(
     rt: &(impl Threads + Sync),
     alloc: Global,
