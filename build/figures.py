@@ -28,12 +28,9 @@ RUNS, LARGE_RUNS = 5, 2
 SMALL_RANKS, SMALL_ROUNDS = 4, 6
 # The ranks of which the cards are reported, each of which asks for those of all others.
 CARDS = 2_000
-# What is measured of each plan, `replay` last.
+# What is measured of each plan.
 COMMANDS = (("check",), ("check", "--anywhere"), ("check", "--anywhere", "--same"), ("replay",))
 PLACEMENTS = "`--anywhere`, s", "and `--same`, s"
-# The ranks up to which a replay is measured: it takes the square of them in memory, 2 GiB for so
-# many.
-MOST_REPLAYED = 16_384
 # How many of the crates are told whose proofs take longest.
 DEAREST = 5
 MODEL = re.compile(r"^model name\s*: (.*)$", re.M)
@@ -54,8 +51,7 @@ class Measured:
     # On every placement, and with the replies that differ.
     anywhere: Taken
     same: Taken
-    # None where a replay would take more memory than most machines have.
-    replay: Taken | None
+    replay: Taken
 
 
 class Figures:
@@ -64,23 +60,17 @@ class Figures:
     def __init__(self, program: str, room: str, is_small: bool) -> None:
         self.program, self.room, self.is_small = program, room, is_small
 
-    def measure(
-        self, name: str, what: str, pieces: Iterable[str], runs: int, *, is_replayed: bool = True
-    ) -> Measured:
-        """Measures `check` in its forms, and `replay` where that is asked, of a plan of this
-        text."""
+    def measure(self, name: str, what: str, pieces: Iterable[str], runs: int) -> Measured:
+        """Measures `check` in its forms, and `replay`, of a plan of this text."""
         path, calls = os.path.join(self.room, "measured.plan"), 0
         with open(path, "w", encoding="ascii") as it:
             for piece in pieces:
                 it.write(piece)
                 calls += sum(not line.startswith(NO_CALLS) for line in piece.splitlines())
-        commands = COMMANDS if is_replayed else COMMANDS[:-1]
-        words = [[self.program, *command, "--large", path] for command in commands]
+        words = [[self.program, *command, "--large", path] for command in COMMANDS]
         taken = best_of(1 if self.is_small else runs, [Command(it) for it in words])
-        check, anywhere, same = taken[:3]
         findings = findings_in([self.program, "check", "--large", path])
-        replay = taken[-1] if is_replayed else None
-        return Measured(name, what, calls, findings, check, anywhere, same, replay)
+        return Measured(name, what, calls, findings, *taken)
 
     def near_the_limits(self) -> Iterator[Measured]:
         """Plans near the limits of the versions."""
@@ -96,8 +86,7 @@ class Figures:
             ranks = min(plan.ranks, SMALL_RANKS) if self.is_small else plan.ranks
             what = f"each of {ranks:,} ranks {plan.what}"
             pieces = replace(plan, ranks=ranks).pieces()
-            is_replayed = ranks <= MOST_REPLAYED
-            yield self.measure(plan.name, what, pieces, LARGE_RUNS, is_replayed=is_replayed)
+            yield self.measure(plan.name, what, pieces, LARGE_RUNS)
 
     def of_a_report(self) -> tuple[Taken, Taken]:
         """A check of the cards of many ranks, and the report of it with what the checker takes."""
@@ -131,7 +120,8 @@ def rows_of(measured: Iterable[Measured], least: int) -> Iterator[list[str]]:
             mebibytes(it.check, least),
             seconds(it.anywhere),
             seconds(it.same),
-            *(replayed(it.replay, least) if it.replay else ("-", "-")),
+            seconds(it.replay),
+            mebibytes(it.replay, least),
         ]
 
 
@@ -141,11 +131,6 @@ def report_rows(check: Taken, report: Taken, least: int) -> Iterator[list[str]]:
         times = it.processor / check.processor if check.processor else 0
         spent = f"{it.processor:.1f}"
         yield [f"`{name} --large`", seconds(it), spent, f"{times:.1f}", mebibytes(it, least)]
-
-
-def replayed(taken: Taken, least: int) -> tuple[str, str]:
-    """The time and the size of a replay."""
-    return seconds(taken), mebibytes(taken, least)
 
 
 def seconds(taken: Taken) -> str:
@@ -212,8 +197,7 @@ def page(figures: Figures) -> str:
 `make figures` made this page on {today}{commit()}, on {machine()}. Each time is the least of
 {RUNS} runs ({LARGE_RUNS} for whole machines), with the start of the process in it and the output
 thrown away. MiB is the greatest resident size. With findings `replay` writes these, and runs
-nothing, and `check --anywhere --same` the findings alone. A replay takes the square of the ranks
-in memory, so of more than {MOST_REPLAYED:,} ranks only `check` is measured.
+nothing, and `check --anywhere --same` the findings alone.
 
 ## Plans near the limits
 
