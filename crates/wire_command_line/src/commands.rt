@@ -49,11 +49,11 @@ const ANSWERS: Argument<'static> = Argument {
     help: "With --pattern: tells all statuses with which each get-now is answered",
 };
 
-/// Whether each `get-now` of a pattern always succeeds.
+/// Whether no call of a pattern waits, and each `get-now` succeeds.
 const ALL_SUCCEED: Argument<'static> = Argument {
     name: "complete",
     kind: Kind::Flag,
-    help: "With --pattern: ends with status 1 unless each get-now is answered, and with PMIX_SUCCESS alone",
+    help: "With --pattern: ends with status 1 if a call waits, or a get-now is answered otherwise than PMIX_SUCCESS",
 };
 
 /// The limits are lifted.

@@ -17,7 +17,7 @@ use Rattle.wire_commands.specs.declared.ended.Ended.{Ended}
 use Rattle.wire_commands.specs.declared.ended.Ended.TheVariants.{Clean, Found}
 use Rattle.wire_commands.proofs.FileFaults as files
 use Rattle.wire_pattern_commands.specs.CheckPattern.{BreaksOffPatternVerdict, EndsInOneStateForAll, IsPatternVerdict, IsSettledSaid, StopsBeforePattern}
-use Rattle.wire_pattern_commands.specs.CheckPattern.{WritesPatternVerdict}
+use Rattle.wire_pattern_commands.specs.CheckPattern.{IsJudgedPattern, WritesPatternVerdict}
 use Rattle.wire_pattern_commands.specs.declared.asked.PatternAsked.{PatternAsked}
 use Rattle.wire_pattern_commands.specs.Read.{HasNoPattern, ReadAsPattern}
 use Rattle.wire_pattern_commands.proofs.PatternFaults.{read_before}
@@ -55,20 +55,20 @@ no_read_judging p e (inr (inr small)) is = no_read_text p small.1.cast e small.1
 
 -- all of the verdict went out
 pub writes_verdict : (coming old new : Option (List ℕ)) (p : Pattern) (asked : PatternAsked) (text : List ℕ) (ended : Ended) (r : Result Ended Fault)
-    → ReadAsPattern coming p → IsPatternVerdict p asked text ended
+    → IsJudgedPattern coming p → IsPatternVerdict p asked text ended
     → IfOk r (λ e. (e ≡ ended) × Appends old new text) → IfOk r (λ e. WritesPatternVerdict asked coming e old new)
-writes_verdict coming old new p asked text ended (Ok e) read tells wrote =
-    record { pattern = p; read = read; text = text; tells = subst (IsPatternVerdict p asked text) (sym wrote.0) tells; wrote = wrote.1 }
-writes_verdict coming old new p asked text ended (Err e) read tells wrote = tt
+writes_verdict coming old new p asked text ended (Ok e) judged tells wrote =
+    record { pattern = p; judged = judged; text = text; tells = subst (IsPatternVerdict p asked text) (sym wrote.0) tells; wrote = wrote.1 }
+writes_verdict coming old new p asked text ended (Err e) judged tells wrote = tt
 
 -- or the front of it that the fault counts
 pub verdict_err : (coming old new : Option (List ℕ)) (p : Pattern) (asked : PatternAsked) (text : List ℕ) (ended : Ended) (kept failed : Type 0)
-    (r : Result Ended Fault) → ReadAsPattern coming p
+    (r : Result Ended Fault) → IsJudgedPattern coming p
     → IsPatternVerdict p asked text ended → IfErr r (WritesFront old new text) → IfErr r (λ _. failed)
     → IfErr r (λ e. (StopsBeforePattern coming e × kept) ⊎ (BreaksOffPatternVerdict asked coming old new e × failed))
-verdict_err coming old new p asked text ended kept failed (Ok e) read tells front count = tt
-verdict_err coming old new p asked text ended kept failed (Err e) read tells front count =
-    inr (record { pattern = p; read = read; text = text; ended = ended; tells = tells; wrote = front }, count)
+verdict_err coming old new p asked text ended kept failed (Ok e) judged tells front count = tt
+verdict_err coming old new p asked text ended kept failed (Err e) judged tells front count =
+    inr (record { pattern = p; judged = judged; text = text; ended = ended; tells = tells; wrote = front }, count)
 
 -- where nothing is found, each instance has one end, and its text
 pub settled_answer : (p : Pattern) (asked : PatternAsked) (r : Result Answer Fault) → IsSound p → TextsSettled → IsSettledForAll p → HasOneEndForAll p

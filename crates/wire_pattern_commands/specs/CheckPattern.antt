@@ -14,6 +14,7 @@ use Rattle.wire_sweep.specs.Texts.{HaveLeast}
 use Rattle.wire_findings.specs.declared.finding.Finding.{Finding}
 use Rattle.wire_report.specs.Findings.{finding_line, count_line}
 use Rattle.wire_pattern.specs.Pattern.{Pattern}
+use Rattle.wire_pattern.specs.Lawful.{IsSound}
 use Rattle.wire_pattern.specs.Instances.{Cast, IsCast, instance_text}
 use Rattle.wire_sweep_laws.specs.Promised.{IsSettledForAll, HasOneEndForAll}
 use Rattle.wire_pattern_waits.specs.declared.lines.CallLine.{CallLine}
@@ -24,7 +25,7 @@ use Rattle.wire_pattern_answers.specs.Lines.{answers_text}
 use Rattle.wire_pattern_answers.specs.Answers.{AreAnswers}
 use Rattle.wire_pattern_commands.specs.declared.asked.PatternAsked.{PatternAsked}
 use Rattle.wire_commands.specs.Ending.{ended_of}
-use Rattle.wire_sweep.specs.Judged.{IsCounterexample, IsSweepFault}
+use Rattle.wire_sweep.specs.Judged.{IsCounterexample, IsSweepFault, IsWithinLimits}
 use Rattle.wire_pattern_commands.specs.PatternJson.{json_counterexample, json_settled}
 use Rattle.wire_pattern_commands.specs.Read.{ReadAsPattern, RefusesPattern}
 use Rattle.wire_commands.specs.declared.ended.Ended.{Ended}
@@ -64,9 +65,16 @@ settled_form asked p lines answers =
 abbrev pub succeeds : LineAnswers → Bool
 succeeds answers = answers.success && (not answers.not_found && not answers.outside)
 
+-- how the command ends where nothing is found. If `complete` is asked for, with the count of the call lines at which
+-- something waits; where there are none, with that of the get-now lines that don't succeed
+abbrev pub settled_end : PatternAsked → List CallLine → List LineAnswers → Ended
+settled_end asked lines answers =
+    if not asked.complete then Clean
+    else if not (length lines == 0) then ended_of (length lines)
+    else ended_of (count_by (λ a. not (succeeds a)) answers)
+
 -- it is said that nothing is found, where something waits in the instances that are judged, which all read as plans, and
--- if that is asked for how each get-now is answered. If nothing waits, each call of these instances has its reply. Where
--- `complete` is asked for, the command ends with the count of the get-now lines that don't succeed
+-- if that is asked for how each get-now is answered. If nothing waits, each call of these instances has its reply
 pub record IsSettledSaid (p : Pattern) (asked : PatternAsked) (text : List ℕ) (ended : Ended) : Type 0 where
   pub lines : List CallLine
   pub waiting : AreWaiting p lines
@@ -75,7 +83,7 @@ pub record IsSettledSaid (p : Pattern) (asked : PatternAsked) (text : List ℕ) 
   pub answers : List LineAnswers
   pub answered : asked.answers || asked.complete ≡ true → AreAnswers p answers
   pub is : text ≡ settled_form asked p lines answers
-  pub ends : ended ≡ (if asked.complete then ended_of (count_by (λ a. not (succeeds a)) answers) else Clean)
+  pub ends : ended ≡ settled_end asked lines answers
 
 -- the text of each instance with the least number of each role at least, if it reads as a plan of whatever size, has one
 -- end: every interleaving that can't go on ends in one state
@@ -103,10 +111,16 @@ pub record IsUnsettledText (p : Pattern) (asked : PatternAsked) (text : List ℕ
 abbrev pub IsPatternVerdict : Pattern → PatternAsked → List ℕ → Ended → Type 0
 IsPatternVerdict p asked text ended = IsSettledText p asked text ended ⊎ IsUnsettledText p asked text ended
 
+-- what was to come reads as this pattern, which is sound and within the limits
+pub record IsJudgedPattern (coming : Option (List ℕ)) (pattern : Pattern) : Type 0 where
+  pub read : ReadAsPattern coming pattern
+  pub sound : IsSound pattern
+  pub within : IsWithinLimits pattern
+
 -- all of the verdict of what was to come went out
 pub record WritesPatternVerdict (asked : PatternAsked) (coming : Option (List ℕ)) (ended : Ended) (old new : Option (List ℕ)) : Type 0 where
   pub pattern : Pattern
-  pub read : ReadAsPattern coming pattern
+  pub judged : IsJudgedPattern coming pattern
   pub text : List ℕ
   pub tells : IsPatternVerdict pattern asked text ended
   pub wrote : Appends old new text
@@ -114,7 +128,7 @@ pub record WritesPatternVerdict (asked : PatternAsked) (coming : Option (List �
 -- exactly as many bytes of it went out as the fault says, which aren't all of it
 pub record BreaksOffPatternVerdict (asked : PatternAsked) (coming : Option (List ℕ)) (old new : Option (List ℕ)) (fault : Fault) : Type 0 where
   pub pattern : Pattern
-  pub read : ReadAsPattern coming pattern
+  pub judged : IsJudgedPattern coming pattern
   pub text : List ℕ
   pub ended : Ended
   pub tells : IsPatternVerdict pattern asked text ended

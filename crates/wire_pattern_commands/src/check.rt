@@ -6,7 +6,7 @@ ghost use Rattle.std.specs.List.{flat_map};
 ghost use Rattle.wire_types.specs.declared.Fault.TheVariants.{Memory, Read};
 ghost use Rattle.wire_types.specs.Counting.{one_more};
 ghost use Rattle.wire_commands.specs.declared.ended.Ended.TheVariants.{Clean};
-ghost use Rattle.wire_sweep.specs.Judged.{IsJudgeFault, IsSweepFault};
+ghost use Rattle.wire_sweep.specs.Judged.{IsJudgeFault, IsSweepFault, IsWithinLimits};
 ghost use Rattle.wire_sweep.specs.Selections.{most_sizes};
 ghost use Rattle.wire_sweep.specs.Shown.{IsFoundFor};
 ghost use Rattle.wire_sweep_laws.specs.Sizes.{total_of};
@@ -148,13 +148,15 @@ fn count_failing(all: &[LineAnswers]) -> usize
 }
 
 /// How the command ends where nothing is found.
-fn settled_end(asked: PatternAsked, answers: &[LineAnswers]) -> Ended
-    ensures { result ≡ (if asked.complete then ended_of (count_by (λ a. not (spec.succeeds a)) answers.now) else Clean) }
+fn settled_end(asked: PatternAsked, lines: &[CallLine], answers: &[LineAnswers]) -> Ended
+    ensures { result ≡ spec.settled_end asked lines.now answers.now }
 {
-    if asked.complete {
-        Ended::of_count(count_failing(answers))
-    } else {
+    if !asked.complete {
         Ended::Clean
+    } else if !lines.is_empty() {
+        Ended::of_count(lines.len())
+    } else {
+        Ended::of_count(count_failing(answers))
     }
 }
 
@@ -228,7 +230,7 @@ fn answer_settled(alloc: Global, pattern: &Pattern, asked: PatternAsked) -> Resu
     let text = settled_form(alloc, pattern, asked, lines.as_slice(), answers.as_slice())?;
     Ok(Answer {
         text,
-        ended: settled_end(asked, answers.as_slice()),
+        ended: settled_end(asked, lines.as_slice(), answers.as_slice()),
     })
 }
 
@@ -240,6 +242,7 @@ fn answer_pattern(
     asked: PatternAsked,
 ) -> Result<Answer, Fault>
     ensures ok { IfOk result (λ answer. IsPatternVerdict pattern.now asked answer.text.items answer.ended) }
+    ensures within { OnOk result (IsWithinLimits pattern.now) }
     ensures err { IfErr result (λ e. IsSweepFault pattern.now e) }
 {
     match judge_pattern(rt, alloc, pattern)? {
@@ -262,11 +265,11 @@ fn answer_pattern(
 /// the first instance that is judged in which something is found. As JSON the text of the plan is one string, without
 /// the comments.
 ///
-/// It answers `Clean` where nothing is found in any instance; but with `complete`, where get-now lines don't succeed,
-/// their count. The faults of the pattern's file come first, then those
-/// of the largest instance that is judged, each on the line of the pattern that it comes from. After the fault `Write`
-/// the front of the text that it counts is written, after any other fault nothing. `Memory` may come in place of any
-/// other answer.
+/// It answers `Clean` where nothing is found in any instance; but with `complete` the count of the call lines at which
+/// something waits, or where there are none, of the get-now lines that don't succeed. The faults of the pattern's file
+/// come first, then those of the largest instance that is judged, each on the line of the pattern that it comes from.
+/// After the fault `Write` the front of the text that it counts is written, after any other fault nothing. `Memory` may
+/// come in place of any other answer.
 pub fn check_pattern<R: Source, W: Sink>(
     rt: &(impl Threads + Sync),
     alloc: Global,
@@ -291,6 +294,7 @@ pub fn check_pattern<R: Source, W: Sink>(
     ensures unfailed { IfErr result (λ e. e ≢ Memory → e ≢ Read → R.failures reader.new ≡ R.failures reader.old) }
 {
     let pattern = read_coming(alloc, reader)?;
+    note_sound(&pattern);
     let answer = answer_pattern(rt, alloc, &pattern, asked);
     drop(pattern);
     let answer = answer?;

@@ -21,12 +21,15 @@ pub returns-clause-ok : goal.returns-clause-ok
 returns-clause-ok g c =
     writes_verdict (g.R.Source.coming c.args.reader.now) _ _ c.in_ok-pattern.pattern c.args.asked c.in_ok-answer.answer.text.items c.in_ok-answer.answer.ended
     c.write_answer.result
-    c.in_ok-pattern.ensures.ok c.in_ok-answer.ensures.ok c.write_answer.ensures.ok
+    (record { read = c.in_ok-pattern.ensures.ok; sound = c.note_sound.ensures; within = c.in_ok-answer.ensures.within })
+    c.in_ok-answer.ensures.ok c.write_answer.ensures.ok
 
 pub returns-clause-err : goal.returns-clause-err
 returns-clause-err g c =
     verdict_err (g.R.Source.coming c.args.reader.now) (g.W.Sink.written c.args.writer.now) (g.W.Sink.written c.write_answer.new.writer) c.in_ok-pattern.pattern
-    c.args.asked c.in_ok-answer.answer.text.items c.in_ok-answer.answer.ended _ _ c.write_answer.result c.in_ok-pattern.ensures.ok c.in_ok-answer.ensures.ok
+    c.args.asked c.in_ok-answer.answer.text.items c.in_ok-answer.answer.ended _ _ c.write_answer.result
+    (record { read = c.in_ok-pattern.ensures.ok; sound = c.note_sound.ensures; within = c.in_ok-answer.ensures.within })
+    c.in_ok-answer.ensures.ok
     c.write_answer.ensures.front
     c.write_answer.ensures.failed
 
