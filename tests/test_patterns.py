@@ -228,6 +228,16 @@ class Program(ProgramCase):
         wrote = pattern_as_json(pattern_reference.CLEAN + b"\n")
         self.hold(Run("answers that fail, as JSON", words, status=1, wrote=wrote))
 
+    def test_complete_where_a_call_waits(self) -> None:
+        """The get-now is answered with success alone, but with three ranks never."""
+        top = "pattern 1 / job app / many w / put global k v / commit"
+        ring = "for w cyclic / fence self,each / end / get-now self k"
+        given = pattern_faults.text_of(f"{top} / {ring}")
+        wrote = pattern_reference.CLEAN + b"\nwaits w 3 fence\n"
+        words = ["check", "--pattern"]
+        self.hold(Run("a call waits", words, given, wrote=wrote))
+        self.hold(Run("with --complete", [*words, "--complete"], given, status=1, wrote=wrote))
+
     def test_faults(self) -> None:
         for it in pattern_faults.refusals():
             said = grammar.Refused(it.fault, it.line).said()
