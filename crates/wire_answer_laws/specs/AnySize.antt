@@ -23,8 +23,8 @@ pub record IsAllAnswered (p : Pattern) : Type 0 where
   pub read : AllRead p
   pub replied : AllReplied p
 
--- then, with whatever status a get-now is answered in what the text of an instance reads as, of any size and on any
--- nodes, a get-now of its line is answered in an instance that is judged
+-- then, if a get-now is answered with a status in an instance of any size, on any nodes, as its text reads, a get-now of
+-- its line is answered with it in an instance that is judged
 abbrev pub AnswersOfSmall : Type 0
 AnswersOfSmall = (p : Pattern) → IsAllAnswered p → (cast : Cast) (size : Size) (s : Scripts) → IsCast p cast
     → HaveLeast p.roles cast.sizes → Reads size (instance_text p cast) (Ok s)

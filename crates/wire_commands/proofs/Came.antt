@@ -7,7 +7,7 @@ use Rattle.wire_script.specs.declared.Size.{Size}
 use Rattle.wire_script.specs.Limits.{file_bytes}
 use Rattle.wire_script.specs.Reads.{Reads}
 use Rattle.wire_commands.specs.Plain.{ReadAs, Refuses}
-use Rattle.wire_commands.proofs.Limited.{reads_limited}
+use Rattle.wire_script.proofs.Limited.{reads_limited}
 use Rattle.wire_commands.proofs.FileFaults.{not_read}
 
 -- what they read as, all that was to come reads as

@@ -1,6 +1,5 @@
 mod Fits
 mod Grouped
-mod Limited
 mod Listed
 mod Ordered
 mod Placed

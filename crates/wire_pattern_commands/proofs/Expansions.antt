@@ -1,5 +1,5 @@
 -- The cast that is asked for, and what its text reads as.
-use Rattle.std.proofs.Common.{◌≡◌, ◌∙◌, ap, sym, subst, ℕ, ◌+◌, ◌<◌, ◌^◌, List, [], ◌⊎◌, inl, inr, map, take, take_all, sum_by, Some, Ok, Err, ◌≤◌, arith}
+use Rattle.std.proofs.Common.{◌≡◌, ◌∙◌, ap, sym, subst, ℕ, ◌+◌, ◌<◌, ◌^◌, List, [], ◌⊎◌, inl, inr, map, take, sum_by, Some, Ok, Err, ◌≤◌, arith}
 use Rattle.wire_types.specs.declared.Fault.{Fault}
 use Rattle.wire_types.specs.declared.Fault.TheVariants.{Memory}
 use Rattle.wire_content.specs.Scripts.{Scripts}
@@ -19,6 +19,7 @@ use Rattle.wire_instances.specs.Nodes.{AreNodes}
 use Rattle.wire_instances.specs.Shown.{cast_by, choice_by}
 use Rattle.wire_instances.specs.Tables.{AreSizes}
 use Rattle.wire_instance_laws.specs.Reading.{InstancesRead}
+use Rattle.wire_script.proofs.Limited.{whole_read}
 use Rattle.wire_commands.proofs.Came.{read_as, refuses}
 use Rattle.wire_pattern_commands.specs.Expand.{IsCastAsked, IsExpanded, IsExpandFault, word_of}
 use Rattle.wire_pattern_commands.specs.Ranks.{AreSizesAsked}
@@ -46,11 +47,6 @@ cast_made p asked cast processes fit sizes chosen total few within nodes spread 
     used = λ n h. let its = spread.used n h in (its.0, subst (λ m. its.0 < m) total its.1, its.2);
   };
 }
-
--- what reads as scripts is within the limit of a file, so its front is all of it
-whole_read : (size : Size) (whole : List ℕ) (s : Scripts) → Reads size whole (Ok s) → take (file_bytes size + 1) whole ≡ whole
-whole_read size whole s (inl (past, is)) = absurd (cc)
-whole_read size whole s (inr (within, reads)) = take_all (file_bytes size + 1) whole (omega (arith, within))
 
 -- the front of a text reads as scripts: it is all of the text
 pub expanded : (p : Pattern) (asked : Expansion) (cast : text.Cast) (written shown : List ℕ) (s : Scripts) → IsSound p → InstancesRead → IsCastAsked p asked cast

@@ -34,6 +34,6 @@ pub record WaitsAlike (p : Pattern) (names : List (List ℕ)) (nodes : ℕ → �
   pub in_each : (selection : Selection) → StopsOn p selection names nodes role line ↔ StopsIn p selection role line
   pub in_some : WaitsOn p names nodes role line ↔ Waits p role line
 
--- so at a call line that is told something waits on all nodes, and at no other does anything on any
+-- so on all nodes something waits at exactly the same call lines
 abbrev pub WaitsOnAllNodes : Type 0
 WaitsOnAllNodes = (p : Pattern) (names : List (List ℕ)) (nodes : ℕ → ℕ) (role line : ℕ) → WaitsAlike p names nodes role line

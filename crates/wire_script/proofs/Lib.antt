@@ -27,4 +27,5 @@ pub mod ProcTable
 pub mod OrderSteps
 pub mod RankParts
 pub mod OrderLimited
+pub mod Limited
 pub mod QuestionRead

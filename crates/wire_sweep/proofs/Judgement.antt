@@ -1,5 +1,5 @@
 -- What the judgement of an instance's text tells of the instance.
-use Rattle.std.proofs.Common.{◌≡◌, ℕ, List, [], ◌∷◌, length, Bool, true, Ok, Err, Result, ◌↔◌, refl, inl, inr, ◌⊎◌, ◌==◌, ap, sym, ◌∙◌, subst, arith}
+use Rattle.std.proofs.Common.{◌≡◌, ℕ, ◌+◌, List, [], ◌∷◌, length, take, Bool, true, Ok, Err, Result, ◌↔◌, refl, inl, inr, ◌⊎◌, ◌==◌, ap, sym, ◌∙◌, subst, arith}
 use Rattle.std.proofs.lemmas.Bool.{eqb-true}
 use Rattle.wire_types.specs.declared.Fault.{Fault}
 use Rattle.wire_types.specs.declared.Fault.TheVariants.{Memory}
@@ -10,7 +10,9 @@ use Rattle.wire_runs.specs.Placings.{IsPlacing}
 use Rattle.wire_runs.specs.Races.{IsSettled}
 use Rattle.wire_runs.specs.Patterns.{instance_of}
 use Rattle.wire_script.specs.declared.Size.TheVariants.{OfVersion}
+use Rattle.wire_script.specs.Limits.{file_bytes}
 use Rattle.wire_script.specs.Reads.{Reads}
+use Rattle.wire_script.proofs.Limited.{reads_limited}
 use Rattle.wire_pattern.specs.Pattern.{Pattern}
 use Rattle.wire_pattern.specs.Planned.{pattern_of}
 use Rattle.wire_pattern.specs.Lawful.{IsSound}
@@ -38,11 +40,17 @@ pub empty : {A : Type 0} (xs : List A) → (length xs == 0) ≡ true → xs ≡ 
 empty [] is = refl
 empty (x ∷ xs) is = absurd (omega (arith, eqb-true (length (x ∷ xs)) 0 is))
 
+-- what the front of an instance's text reads as, all of it does
+front_reads : (p : Pattern) (cast : Cast) (text : List ℕ) (r : Result Scripts Fault) → text ≡ take (file_bytes OfVersion + 1) (instance_text p cast)
+    → Reads OfVersion text r → Reads OfVersion (instance_text p cast) r
+front_reads p cast text r is reads = reads_limited OfVersion (instance_text p cast) r (subst (λ t. Reads OfVersion t r) is reads)
+
 -- a fault of the text, as one of the instance
-pub text_fault : (p : Pattern) (cast : Cast) (text : List ℕ) (told fault : Fault) → text ≡ instance_text p cast → (told ≡ Memory) ⊎ Reads OfVersion text (Err told)
+pub text_fault : (p : Pattern) (cast : Cast) (text : List ℕ) (told fault : Fault) → text ≡ take (file_bytes OfVersion + 1) (instance_text p cast)
+    → (told ≡ Memory) ⊎ Reads OfVersion text (Err told)
     → fault ≡ fault_by (instance_lines p cast) told → (fault ≡ Memory) ⊎ IsTextFault p cast fault
 text_fault p cast text told fault is (inl memory) by = inl (by ∙ ap (fault_by (instance_lines p cast)) memory)
-text_fault p cast text told fault is (inr reads) by = inr (record { told = told; reads = subst (λ t. Reads OfVersion t (Err told)) is reads; is = by })
+text_fault p cast text told fault is (inr reads) by = inr (record { told = told; reads = front_reads p cast text (Err told) is reads; is = by })
 
 -- and as one of the pattern
 pub fault_told : (p : Pattern) (cast : Cast) (fault : Fault) → IsFewCast p cast → (fault ≡ Memory) ⊎ IsTextFault p cast fault → IsJudgeFault p fault
@@ -57,7 +65,7 @@ pub nothing_anywhere : (s now : Scripts) (found : List PlacedFinding) (r : Bool)
 nothing_anywhere s now found r exactly is are nothing none =
     (exactly s found (subst (λ t. AreFoundAnywhere t found) is are)).0 (empty found (sym nothing ∙ none))
 
--- what the bytes read as, the instance's text does
-pub reads_text : (p : Pattern) (cast : Cast) (now text : List ℕ) (r : Result Scripts Fault) → now ≡ text → text ≡ instance_text p cast → Reads OfVersion now r
-    → Reads OfVersion (instance_text p cast) r
-reads_text p cast now text r is was reads = subst (λ t. Reads OfVersion t r) (is ∙ was) reads
+-- so it is with the bytes that are read
+pub reads_text : (p : Pattern) (cast : Cast) (now text : List ℕ) (r : Result Scripts Fault) → now ≡ text
+    → text ≡ take (file_bytes OfVersion + 1) (instance_text p cast) → Reads OfVersion now r → Reads OfVersion (instance_text p cast) r
+reads_text p cast now text r is was reads = front_reads p cast now r (is ∙ was) reads

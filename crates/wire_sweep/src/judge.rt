@@ -20,7 +20,7 @@ use wire_anywhere::find_anywhere;
 use wire_anywhere::laws::settled_exactly;
 use wire_content::Scripts;
 use wire_instance_laws::laws::instances_read;
-use wire_instances::{Cast, pattern_fault, write_instance};
+use wire_instances::{Cast, pattern_fault, write_front};
 use wire_marks::Marks;
 use wire_pattern::Pattern;
 use wire_pattern_laws::laws::settled_by_placing;
@@ -50,7 +50,8 @@ fn is_settled(rt: &(impl Threads + Sync), alloc: Global, scripts: Scripts) -> Re
     settled
 }
 
-/// The scripts of an instance, by its text; or the fault of the text, on the line of the pattern that it comes from.
+/// The scripts of an instance, by its text; or the fault of the text, on the line of the pattern that it comes from. A
+/// text that is too long isn't made: its front tells so.
 pub fn instance_scripts(
     alloc: Global,
     pattern: &Pattern,
@@ -62,7 +63,7 @@ pub fn instance_scripts(
     ensures own { IfErr result (λ e. (e ≡ Memory) ⊎ IsTextFault pattern.now (cast_by cast.now) e) }
     ensures err { IfErr result (λ e. IsJudgeFault pattern.now e) }
 {
-    let text = write_instance(alloc, pattern, cast)?;
+    let text = write_front(alloc, pattern, cast, Size::OfVersion.file_bytes() + 1)?;
     match read_sized(alloc, Size::OfVersion, text.as_slice()) {
         Ok(scripts) => Ok((text, scripts)),
         Err(fault) => {

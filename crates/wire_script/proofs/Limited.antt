@@ -1,10 +1,10 @@
 -- A file past its limit is judged by the first bytes of it, one more than it may have.
-use Rattle.std.proofs.Common.{◌≡◌, ◌∙◌, ap, subst, ℕ, ◌+◌, ◌<◌, ◌≤◌, ◌⊎◌, ◌==◌, List, length, take, inl, inr, arith, Result, Err, count_by}
+use Rattle.std.proofs.Common.{◌≡◌, ◌∙◌, ap, subst, ℕ, ◌+◌, ◌<◌, ◌≤◌, ◌⊎◌, ◌==◌, List, length, take, inl, inr, arith, Result, Ok, Err, count_by}
 use Rattle.std.proofs.lemmas.List.{length-take, take-take, take_all}
 use Rattle.wire_types.specs.declared.Fault.{Fault}
 use Rattle.wire_types.specs.declared.Fault.TheVariants.{TooLong}
 use Rattle.wire_content.specs.Scripts.{Scripts}
-use Rattle.wire_script.specs.declared.Size.{Size}
+use Rattle.wire_script.specs.declared.limits.Size.{Size}
 use Rattle.wire_script.specs.Limits.{file_bytes}
 use Rattle.wire_script.specs.Reads.{Reads, ReadsShort}
 
@@ -26,3 +26,8 @@ limited size limit bytes r (inr (within, reads)) =
 -- and so for the limit of a file
 pub reads_limited : (size : Size) (bytes : List ℕ) (r : Result Scripts Fault) → Reads size (take (file_bytes size + 1) bytes) r → Reads size bytes r
 reads_limited size bytes r h = limited size (file_bytes size) bytes r h
+
+-- what reads as scripts is within the limit of a file, so its front is all of it
+pub whole_read : (size : Size) (whole : List ℕ) (s : Scripts) → Reads size whole (Ok s) → take (file_bytes size + 1) whole ≡ whole
+whole_read size whole s (inl (past, is)) = absurd (cc)
+whole_read size whole s (inr (within, reads)) = take_all (file_bytes size + 1) whole (omega (arith, within))
