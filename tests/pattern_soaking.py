@@ -182,7 +182,8 @@ class Look:
             if role.least is not None
         ]
         words, nodes = self.dice.choice(placed(ranks.count, self.dice.choice((1, 2, 3))))
-        told = ["--ranks", b",".join(counts).decode()] if counts else []
+        # A name may begin with a dash.
+        told = ["--ranks=" + b",".join(counts).decode()] if counts else []
         wanted = Instance(ranks, scripts, nodes).text
         ran = self.runner.run("expand", *told, *words, self.path)
         same("another text of expand", Ran(0, wanted, b""), ran, [*told, *words])
