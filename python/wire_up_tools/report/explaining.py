@@ -5,7 +5,7 @@ from typing import Optional
 from wire_up_tools.plan import Call
 from wire_up_tools.report.barriers import find_move, name_barrier, say_turns
 from wire_up_tools.report.findings import LOOKUPS, Finding, Kind
-from wire_up_tools.report.language import name_bare, name_verb
+from wire_up_tools.report.language import name_bare, name_verb, say_value
 from wire_up_tools.report.messages import find_late, mend_late
 from wire_up_tools.report.orders import Order
 from wire_up_tools.report.phrases import VALUE_WIDTH, cut
@@ -143,7 +143,7 @@ def role(finding: Finding, call: Call) -> str:
     """What a call does that is told of a key that is put twice; nothing for another finding."""
     if finding.kind is not Kind.REWRITE:
         return ""
-    value = cut(call.words[-1], VALUE_WIDTH)
+    value = cut(say_value(call.words[-1], call.rank.is_recorded), VALUE_WIDTH)
     said = {finding.first: f"first value: {value}", finding.second: f"second value: {value}"}
     return said.get(call, "reads it")
 
