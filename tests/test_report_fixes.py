@@ -142,6 +142,10 @@ class BarriersTest(unittest.TestCase):
         gone = "# at main (m.c:7)\nunpublish port\n"
         said = fix(read(PUBLISH + BARRIER + gone, LOOKUP + BARRIER), "race a:0 1 a:1 1 name port")
         self.assertIn("Put an MPI_Barrier of MPI_COMM_WORLD", said)
+        waits = "wait for the name with PMIX_WAIT: it is published once, and taken away only after"
+        last = f"{waits} the PMIx_Lookup. The race is still reported then."
+        self.assertTrue(said.endswith(f"before the PMIx_Lookup of m.c:8; or {last}"), said)
+        said = fix(read(PUBLISH + gone, LOOKUP), "race a:0 1 a:1 1 name port")
         why = "To wait for the name with PMIX_WAIT isn't enough: it is taken away again."
         self.assertTrue(said.endswith(f"before the PMIx_Lookup of m.c:8. {why}"), said)
         got = f"{BARRIER}{RECEIVE}{PUBLISH}"
