@@ -164,14 +164,15 @@ class MessagesTest(unittest.TestCase):
         self.assertEqual(
             explain_late(plan, late),
             "a:0 sends a:1 a message after its PMIx_Publish (MPI_Send to 1, tag 7, at m.c:5), but "
-            "a:1 receives from any source, and may have it only at m.c:9. If a:1 received it from "
-            "a:0 before its PMIx_Lookup, the PMIx_Publish would come first.",
+            "a:1 receives from any source, and may have it only after its PMIx_Lookup, at m.c:9. "
+            "If a:1 received it from a:0 before its PMIx_Lookup, the PMIx_Publish would come "
+            "first.",
         )
         self.assertEqual(
             explaining.fix(finding, order),
-            "Move the PMIx_Lookup of m.c:8 after the MPI_Recv of m.c:9; or receive from a:0 in "
-            "place of MPI_ANY_SOURCE before the PMIx_Lookup of m.c:8; or wait for the name with "
-            "PMIX_WAIT: it is published once and never taken away.",
+            "Move the PMIx_Lookup of m.c:8 after the MPI_Recv of m.c:9 that follows it; or "
+            "receive from a:0 in place of MPI_ANY_SOURCE before the PMIx_Lookup of m.c:8; or wait "
+            "for the name with PMIX_WAIT: it is published once and never taken away.",
         )
 
     def test_one_that_waits_for_the_lookup_is_none(self) -> None:

@@ -48,10 +48,11 @@ def explain_late(plan: Plan, late: Late) -> str:
     after, before = name_bare(late.after), name_bare(late.before)
     is_any = is_from_any(received)
     why = "receives from any source, and may have it only" if is_any else "receives it only"
+    spot = name_spot(plan, received)
     source = f" from {sender}" if is_any else ""
     return (
         f"{sender} sends {receiver} a message after its {after} ({name_kind(sent)}, at "
-        f"{name_spot(plan, sent)}), but {receiver} {why} at {name_spot(plan, received)}. "
+        f"{name_spot(plan, sent)}), but {receiver} {why} after its {before}, at {spot}. "
         f"If {receiver} received it{source} before its {before}, the {after} would come first."
     )
 
@@ -59,6 +60,6 @@ def explain_late(plan: Plan, late: Late) -> str:
 def mend_late(plan: Plan, late: Late) -> list[str]:
     """The fixes by which the message comes in time."""
     before = tell_call(plan, late.before)
-    moved = f"move the {before} after the {tell_call(plan, late.received)}"
+    moved = f"move the {before} after the {tell_call(plan, late.received)} that follows it"
     named = f"receive from {late.sent.rank.name} in place of MPI_ANY_SOURCE before the {before}"
     return [moved, *[named] * is_from_any(late.received)]
