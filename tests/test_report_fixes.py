@@ -6,10 +6,10 @@ from wire_up_tools.plan import Plan
 from wire_up_tools.plan_reading import read_plan
 from wire_up_tools.report import explaining
 from wire_up_tools.report.findings import read_line
-from wire_up_tools.report.messages import explain_late, find_late
+from wire_up_tools.report.messages import explain_late, find_early, find_late
 from wire_up_tools.report.orders import find_order
 from wire_up_tools.report.readers import list_told
-from wire_up_tools.words import WITHOUT_MPI
+from wire_up_tools.words import LEFT_TO_LUCK, WITHOUT_MPI
 
 assert support.TOP, "it says where the package is"
 
@@ -179,6 +179,35 @@ class MessagesTest(unittest.TestCase):
         plan = read(PUBLISH + BARRIER + SEND, LOOKUP + BARRIER + RECEIVE)
         finding = read_line(plan, "race a:0 1 a:1 1 name port")
         self.assertIsNone(find_late(find_order(plan), finding))
+
+    def test_one_that_is_sent_too_early(self) -> None:
+        got = RECEIVE.replace(" from any source", "")
+        moved = "move the MPI_Send of m.c:5 after the PMIx_Publish of serve (s.c:3)"
+        said = fix(read(SEND + PUBLISH, got + LOOKUP), "race a:0 2 a:1 2 name port")
+        self.assertTrue(said.lower().startswith(moved.lower()), said)
+        wild = RECEIVE.replace("0.1.1", "1.0.1")
+        reply = SEND.replace("0.1.1", "1.0.1")
+        other, other_got = SEND.replace("0.1.1", "0.2.1"), got.replace("0.1.1", "0.2.1")
+        awaited = got.replace("0.1.1", "1.0.1") + PUBLISH
+        for name, ranks, number in (
+            ("of any source", (SEND + PUBLISH, RECEIVE + LOOKUP), 2),
+            ("a wait between", (SEND + awaited, got + reply + LOOKUP), 3),
+            ("a wait that stands later", (SEND + PUBLISH + wild, got + reply + LOOKUP), 2),
+            ("another message between", (SEND + other + PUBLISH, got + LOOKUP, other_got), 3),
+            ("received later", (SEND + PUBLISH, LOOKUP + got), 2),
+        ):
+            with self.subTest(name):
+                plan = read(*ranks)
+                lookup = next(it for it in plan.list_single() if it.verb == "lookup")
+                line = f"race a:0 {number} a:1 {lookup.number} name port"
+                self.assertIsNone(find_early(plan, read_line(plan, line)))
+        for note in ("# Left out:\n#   2 messages that can't change a finding\n",
+                     f"# 1 {LEFT_TO_LUCK} (1 by MPI_Test): nothing is taken from them.\n"):
+            with self.subTest(note):
+                ranks_too = f"rank n\n{SEND}{PUBLISH}rank n\n{got}{LOOKUP}"
+                plan = read_plan(f"{RECORDED}{note}{HEAD}{ranks_too}".encode())
+                finding = read_line(plan, "race a:0 2 a:1 2 name port")
+                self.assertIsNone(find_early(plan, finding))
 
 
 class RewritesTest(unittest.TestCase):

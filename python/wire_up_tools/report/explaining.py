@@ -6,7 +6,7 @@ from wire_up_tools.plan import Call
 from wire_up_tools.report.barriers import find_move, list_changes, name_barrier, say_turns
 from wire_up_tools.report.findings import LOOKUPS, Finding, Kind
 from wire_up_tools.report.language import name_bare, name_verb, say_value
-from wire_up_tools.report.messages import find_late, mend_late
+from wire_up_tools.report.messages import find_late, mend_early, mend_late
 from wire_up_tools.report.orders import Order
 from wire_up_tools.report.phrases import VALUE_WIDTH, cut
 from wire_up_tools.report.places import name_shown
@@ -181,7 +181,7 @@ def list_fixes(finding: Finding, order: Order) -> list[str]:
     if finding.kind is Kind.KEY and finding.bringer == "fence":
         return [FIX_OF_FENCE]
     late, wait = find_late(order, finding), choose_wait(finding, order)
-    ways = mend_late(order.plan, late) if late else []
+    ways = mend_late(order.plan, late) if late else mend_early(order.plan, finding)
     ways += [say(wait, finding)] if wait else []
     # A barrier may keep a message from its receive, so it isn't named beside one.
     ways += [] if late else [say_barrier(finding, order)]
