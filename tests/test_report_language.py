@@ -7,6 +7,7 @@ from wire_up_tools.plan import Call
 from wire_up_tools.plan_reading import read_plan
 from wire_up_tools.report.language import name_call, say_value
 from wire_up_tools.report.places import name_spot, say_place
+from wire_up_tools.report.runs import describe_end
 
 assert support.TOP, "it says where the package is"
 
@@ -57,6 +58,12 @@ class ValuesTest(unittest.TestCase):
             with self.subTest(value):
                 self.assertEqual(say_value(value, True), said)
                 self.assertEqual(say_value(value, False), value)
+
+    def test_how_a_call_ends(self) -> None:
+        said = {"reply": "PMIX_SUCCESS", "value": "number:4"}
+        self.assertEqual(describe_end(said, True), "PMIX_SUCCESS, a number of 4 bytes")
+        self.assertEqual(describe_end(said, False), "PMIX_SUCCESS number:4")
+        self.assertEqual(describe_end({"reply": "PMIX_ERR_NOT_FOUND"}, True), "PMIX_ERR_NOT_FOUND")
 
 
 class NamesTest(unittest.TestCase):

@@ -149,4 +149,5 @@ def describe_end(said: Any, is_recorded: bool) -> str:
     """The reply to a call, and its value if it has one."""
     if "value" not in said:
         return str(said["reply"])
-    return f"{said['reply']} {say_value(said['value'], is_recorded)}"
+    value = say_value(said["value"], is_recorded)
+    return f"{said['reply']}{',' * (value != said['value'])} {value}"
