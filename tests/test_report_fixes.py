@@ -6,10 +6,10 @@ from wire_up_tools.plan import Plan
 from wire_up_tools.plan_reading import read_plan
 from wire_up_tools.report import explaining
 from wire_up_tools.report.findings import read_line
-from wire_up_tools.report.messages import explain_late, find_late
+from wire_up_tools.report.messages import explain_late, find_early, find_late
 from wire_up_tools.report.orders import find_order
 from wire_up_tools.report.readers import list_told
-from wire_up_tools.words import WITHOUT_MPI
+from wire_up_tools.words import LEFT_TO_LUCK, WITHOUT_MPI
 
 assert support.TOP, "it says where the package is"
 
@@ -142,6 +142,10 @@ class BarriersTest(unittest.TestCase):
         gone = "# at main (m.c:7)\nunpublish port\n"
         said = fix(read(PUBLISH + BARRIER + gone, LOOKUP + BARRIER), "race a:0 1 a:1 1 name port")
         self.assertIn("Put an MPI_Barrier of MPI_COMM_WORLD", said)
+        waits = "wait for the name with PMIX_WAIT: it is published once, and taken away only after"
+        last = f"{waits} the PMIx_Lookup. The race is still reported then."
+        self.assertTrue(said.endswith(f"before the PMIx_Lookup of m.c:8; or {last}"), said)
+        said = fix(read(PUBLISH + gone, LOOKUP), "race a:0 1 a:1 1 name port")
         why = "To wait for the name with PMIX_WAIT isn't enough: it is taken away again."
         self.assertTrue(said.endswith(f"before the PMIx_Lookup of m.c:8. {why}"), said)
         got = f"{BARRIER}{RECEIVE}{PUBLISH}"
@@ -160,20 +164,50 @@ class MessagesTest(unittest.TestCase):
         self.assertEqual(
             explain_late(plan, late),
             "a:0 sends a:1 a message after its PMIx_Publish (MPI_Send to 1, tag 7, at m.c:5), but "
-            "a:1 receives from any source, and may have it only at m.c:9. If a:1 received it from "
-            "a:0 before its PMIx_Lookup, the PMIx_Publish would come first.",
+            "a:1 receives from any source, and may have it only after its PMIx_Lookup, at m.c:9. "
+            "If a:1 received it from a:0 before its PMIx_Lookup, the PMIx_Publish would come "
+            "first.",
         )
         self.assertEqual(
             explaining.fix(finding, order),
-            "Move the PMIx_Lookup of m.c:8 after the MPI_Recv of m.c:9; or receive from a:0 in "
-            "place of MPI_ANY_SOURCE before the PMIx_Lookup of m.c:8; or wait for the name with "
-            "PMIX_WAIT: it is published once and never taken away.",
+            "Move the PMIx_Lookup of m.c:8 after the MPI_Recv of m.c:9 that follows it; or "
+            "receive from a:0 in place of MPI_ANY_SOURCE before the PMIx_Lookup of m.c:8; or wait "
+            "for the name with PMIX_WAIT: it is published once and never taken away.",
         )
 
     def test_one_that_waits_for_the_lookup_is_none(self) -> None:
         plan = read(PUBLISH + BARRIER + SEND, LOOKUP + BARRIER + RECEIVE)
         finding = read_line(plan, "race a:0 1 a:1 1 name port")
         self.assertIsNone(find_late(find_order(plan), finding))
+
+    def test_one_that_is_sent_too_early(self) -> None:
+        got = RECEIVE.replace(" from any source", "")
+        moved = "move the MPI_Send of m.c:5 after the PMIx_Publish of serve (s.c:3)"
+        said = fix(read(SEND + PUBLISH, got + LOOKUP), "race a:0 2 a:1 2 name port")
+        self.assertTrue(said.lower().startswith(moved.lower()), said)
+        wild = RECEIVE.replace("0.1.1", "1.0.1")
+        reply = SEND.replace("0.1.1", "1.0.1")
+        other, other_got = SEND.replace("0.1.1", "0.2.1"), got.replace("0.1.1", "0.2.1")
+        awaited = got.replace("0.1.1", "1.0.1") + PUBLISH
+        for name, ranks, number in (
+            ("of any source", (SEND + PUBLISH, RECEIVE + LOOKUP), 2),
+            ("a wait between", (SEND + awaited, got + reply + LOOKUP), 3),
+            ("a wait that stands later", (SEND + PUBLISH + wild, got + reply + LOOKUP), 2),
+            ("another message between", (SEND + other + PUBLISH, got + LOOKUP, other_got), 3),
+            ("received later", (SEND + PUBLISH, LOOKUP + got), 2),
+        ):
+            with self.subTest(name):
+                plan = read(*ranks)
+                lookup = next(it for it in plan.list_single() if it.verb == "lookup")
+                line = f"race a:0 {number} a:1 {lookup.number} name port"
+                self.assertIsNone(find_early(plan, read_line(plan, line)))
+        for note in ("# Left out:\n#   2 messages that can't change a finding\n",
+                     f"# 1 {LEFT_TO_LUCK} (1 by MPI_Test): nothing is taken from them.\n"):
+            with self.subTest(note):
+                ranks_too = f"rank n\n{SEND}{PUBLISH}rank n\n{got}{LOOKUP}"
+                plan = read_plan(f"{RECORDED}{note}{HEAD}{ranks_too}".encode())
+                finding = read_line(plan, "race a:0 2 a:1 2 name port")
+                self.assertIsNone(find_early(plan, finding))
 
 
 class RewritesTest(unittest.TestCase):

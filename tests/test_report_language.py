@@ -5,8 +5,9 @@ from collections.abc import Sequence
 import support
 from wire_up_tools.plan import Call
 from wire_up_tools.plan_reading import read_plan
-from wire_up_tools.report.language import name_call
+from wire_up_tools.report.language import name_call, say_value
 from wire_up_tools.report.places import name_spot, say_place
+from wire_up_tools.report.runs import describe_end
 
 assert support.TOP, "it says where the package is"
 
@@ -32,11 +33,37 @@ NAMES = {
     "# MPI: bcast\npublish mpi.0.all.1 sent": "MPI_Bcast",
     "publish mpi.0.all.1 sent": "MPI collective",
 }
+# Values of a recorded plan, as a reader takes them.
+VALUES = {
+    "v": "v",
+    "number:4": "a number of 4 bytes",
+    "number:1": "a number of 1 byte",
+    "text:29": "a text of 29 bytes",
+    "bytes:4152": "4,152 bytes",
+    "number:4:7": "number:4:7",
+    "tcp://10.0.0.1:5555": "tcp://10.0.0.1:5555",
+}
 
 
 def read_last(text: str) -> Call:
     """The last call of a plan with these lines."""
     return read_plan(f"{text}\n".encode()).calls[-1]
+
+
+class ValuesTest(unittest.TestCase):
+    """What is said of values."""
+
+    def test_a_size_that_stands_for_a_value(self) -> None:
+        for value, said in VALUES.items():
+            with self.subTest(value):
+                self.assertEqual(say_value(value, True), said)
+                self.assertEqual(say_value(value, False), value)
+
+    def test_how_a_call_ends(self) -> None:
+        said = {"reply": "PMIX_SUCCESS", "value": "number:4"}
+        self.assertEqual(describe_end(said, True), "PMIX_SUCCESS, a number of 4 bytes")
+        self.assertEqual(describe_end(said, False), "PMIX_SUCCESS number:4")
+        self.assertEqual(describe_end({"reply": "PMIX_ERR_NOT_FOUND"}, True), "PMIX_ERR_NOT_FOUND")
 
 
 class NamesTest(unittest.TestCase):

@@ -1,4 +1,4 @@
-"""Tests that the barrier of a fix takes the race away, and lets no rank wait for ever."""
+"""Tests that a fix takes the race away, and lets no rank wait for ever."""
 import json
 import os
 import tempfile
@@ -10,6 +10,7 @@ from wire_up_tools.plan import Call, Plan, Rank
 from wire_up_tools.plan_reading import read_plan
 from wire_up_tools.report.barriers import Move, choose_passed, find_move
 from wire_up_tools.report.findings import Finding, read_line
+from wire_up_tools.report.messages import find_early
 from wire_up_tools.report.orders import Order, find_order
 
 HEAD = "# Recorded by wire_up-record on a day: 4 processes\nrehearsal 2\nnode n\njob a\n"
@@ -18,6 +19,7 @@ TWO = BARRIER * 2
 ROOT, LEAF = f"{CAST}publish mpi.0.all.1 sent\n", f"{CAST}lookup-wait mpi.0.all.1\n"
 SENT, GOT = "# MPI: send\npublish mpi.3.0.1 sent\n", "# MPI: receive\nlookup-wait mpi.3.0.1\n"
 LAST, LAST_GOT = SENT.replace("3.0.1", "1.2.1"), GOT.replace("3.0.1", "1.2.1")
+EARLY_GOT = GOT.replace("3.0.1", "0.1.1")
 AT = "# at main (a.c:3)\n"
 # Scripts of four ranks, by what comes in the way of a barrier.
 PLANS = {
@@ -48,6 +50,18 @@ MOVED = {
     "the next of two": (
         (f"publish p v\n{TWO}unpublish p\n", f"lookup p\n{TWO}", TWO, TWO),
         "lookup",
+    ),
+}
+# Those in which a message is sent too early.
+EARLY = {
+    "a name": (f"{LAST.replace('1.2.1', '0.1.1')}publish p v\n", f"{EARLY_GOT}lookup p\n", "", ""),
+    "a key": (
+        f"put global k v\n{LAST.replace('1.2.1', '0.1.1')}commit\n", f"{EARLY_GOT}get-now a:0 k\n",
+        "", "",
+    ),
+    "a name that is taken away": (
+        f"publish p v\n{BARRIER}{EARLY_GOT.replace('0.1.1', '1.0.1')}unpublish p\n",
+        f"{BARRIER}{LAST.replace('1.2.1', '1.0.1')}lookup p\n", BARRIER, BARRIER,
     ),
 }
 
@@ -96,6 +110,15 @@ def move_call(plan: Plan, move: Move) -> bytes:
     return "".join(f"{it}\n" for it in lines).encode()
 
 
+def send_later(plan: Plan, sent: Call, leader: Call) -> bytes:
+    """The plan in which a message is sent right after a call."""
+    lines = list(plan.lines)
+    moved = lines[sent.line - 2:sent.line]
+    lines[leader.line:leader.line] = moved
+    del lines[sent.line - 2:sent.line]
+    return "".join(f"{it}\n" for it in lines).encode()
+
+
 class MendedTest(unittest.TestCase):
     """Plans that are mended as their reports say."""
 
@@ -135,6 +158,14 @@ class MendedTest(unittest.TestCase):
                 assert move
                 self.assertEqual(move.call.verb, verb)
                 self.hold(move_call(order.plan, move))
+
+    def test_a_message_that_is_sent_too_early(self) -> None:
+        for name, scripts in EARLY.items():
+            with self.subTest(name):
+                order, finding = self.find(write(scripts))
+                sent = find_early(order.plan, finding)
+                assert sent
+                self.hold(send_later(order.plan, sent, find_leader(finding)))
 
 
 if __name__ == "__main__":

@@ -3,10 +3,10 @@ from collections.abc import Sequence
 from typing import Optional
 
 from wire_up_tools.plan import Call
-from wire_up_tools.report.barriers import find_move, name_barrier, say_turns
+from wire_up_tools.report.barriers import find_move, list_changes, name_barrier, say_turns
 from wire_up_tools.report.findings import LOOKUPS, Finding, Kind
-from wire_up_tools.report.language import name_bare, name_verb
-from wire_up_tools.report.messages import find_late, mend_late
+from wire_up_tools.report.language import name_bare, name_verb, say_value
+from wire_up_tools.report.messages import find_late, mend_early, mend_late
 from wire_up_tools.report.orders import Order
 from wire_up_tools.report.phrases import VALUE_WIDTH, cut
 from wire_up_tools.report.places import name_shown
@@ -76,6 +76,10 @@ FIX_OF_FENCE = (
 )
 FIX_BY_WAITING = "{use_wait}: it is published once and never taken away"
 NO_WAIT = ". To {wait} isn't enough: it is {why}"
+WAIT_AND_REPORTED = (
+    "{use_wait}: it is published once, and taken away only after the {lookup}. "
+    "The race is still reported then"
+)
 
 
 def title(finding: Finding, abouts: Sequence[str] = (), order: Optional[Order] = None) -> str:
@@ -143,7 +147,7 @@ def role(finding: Finding, call: Call) -> str:
     """What a call does that is told of a key that is put twice; nothing for another finding."""
     if finding.kind is not Kind.REWRITE:
         return ""
-    value = cut(call.words[-1], VALUE_WIDTH)
+    value = cut(say_value(call.words[-1], call.rank.is_recorded), VALUE_WIDTH)
     said = {finding.first: f"first value: {value}", finding.second: f"second value: {value}"}
     return said.get(call, "reads it")
 
@@ -177,22 +181,36 @@ def list_fixes(finding: Finding, order: Order) -> list[str]:
     if finding.kind is Kind.KEY and finding.bringer == "fence":
         return [FIX_OF_FENCE]
     late, wait = find_late(order, finding), choose_wait(finding, order)
-    ways = mend_late(order.plan, late) if late else []
+    ways = mend_late(order.plan, late) if late else mend_early(order.plan, finding)
     ways += [say(wait, finding)] if wait else []
     # A barrier may keep a message from its receive, so it isn't named beside one.
     ways += [] if late else [say_barrier(finding, order)]
-    is_lookup = finding.verbs == ("lookup", "publish")
-    return [*ways[:-1], ways[-1] + say_no_wait(finding, order) * (is_lookup and not wait)]
+    if finding.verbs != ("lookup", "publish") or wait:
+        return ways
+    if is_taken_later(finding, order):
+        return [*ways, say(WAIT_AND_REPORTED, finding)]
+    return [*ways[:-1], ways[-1] + say_no_wait(finding, order)]
 
 
 def choose_wait(finding: Finding, order: Order) -> Optional[str]:
     """The fix by which the call waits that doesn't; None where that orders nothing."""
     if finding.kind is Kind.KEY:
         return "{use_get}"
-    name, uses = finding.about, order.uses
-    is_published_once = len(uses.publishes.get(name, ())) == 1
-    is_open = "lookup" in finding.verbs and is_published_once and name not in uses.unpublished
-    return FIX_BY_WAITING if is_open else None
+    is_open = "lookup" in finding.verbs and finding.about not in order.uses.unpublished
+    return FIX_BY_WAITING if is_open and is_published_once(finding, order) else None
+
+
+def is_published_once(finding: Finding, order: Order) -> bool:
+    """Whether one call alone publishes the name of a race."""
+    return len(order.uses.publishes.get(finding.about, ())) == 1
+
+
+def is_taken_later(finding: Finding, order: Order) -> bool:
+    """Whether the name of a race is published once, and taken away only after the lookup in every
+    run: then a lookup that waits always finds it, though the checker has no order from that."""
+    lookup = finding.find_other(finding.leader or finding.first)
+    changes = list_changes(order, finding)
+    return is_published_once(finding, order) and all(order.is_before(lookup, it) for it in changes)
 
 
 def list_rewrite_fixes(finding: Finding, order: Order) -> list[str]:

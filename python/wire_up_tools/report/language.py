@@ -8,6 +8,7 @@ import re
 from typing import Optional
 
 from wire_up_tools.plan import Call
+from wire_up_tools.report.phrases import count_of
 
 # What is said last of a call: whether it waits.
 HOW = (" that doesn't wait", " with PMIX_WAIT")
@@ -28,6 +29,8 @@ MESSAGE = re.compile(r"mpi_*\.([^.]+)\.([^.]+)\.\d+")
 TO_ALL, FROM_ANY = "all", "from any source"
 COLLECTIVE = "MPI collective"
 TAG = re.compile(r"tag -?\d+")
+# What the recorder writes in the place of a value that no word can be: what it is, and its size.
+SIZED = re.compile(r"(number|text|bytes):(\d+)")
 
 
 def name_verb(verb: str, is_recorded: bool) -> str:
@@ -77,6 +80,15 @@ def name_mpi(call: Call) -> Optional[str]:
 def name_function(remark: str) -> str:
     """The function of MPI that a remark names, such as `barrier`."""
     return f"MPI_{remark.capitalize()}"
+
+
+def say_value(value: str, is_recorded: bool) -> str:
+    """A value as a reader takes it. Of one for which a recorded plan has only the size: that."""
+    sized = SIZED.fullmatch(value) if is_recorded else None
+    if not sized:
+        return value
+    size = count_of(int(sized[2]), "byte")
+    return size if sized[1] == "bytes" else f"a {sized[1]} of {size}"
 
 
 def find_message(call: Call) -> Optional["re.Match[str]"]:

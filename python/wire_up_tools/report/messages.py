@@ -1,4 +1,6 @@
-"""The message that would order two calls that race, and comes too late for that."""
+"""The message that would order two calls that race, and comes too late or is sent too early."""
+import itertools
+import re
 from collections.abc import Sequence
 from dataclasses import dataclass
 from typing import Optional
@@ -8,6 +10,7 @@ from wire_up_tools.report.findings import Finding, Kind
 from wire_up_tools.report.language import find_message, is_from_any, name_bare, name_kind
 from wire_up_tools.report.orders import Order
 from wire_up_tools.report.places import list_later, name_spot, tell_call
+from wire_up_tools.words import LEFT_OUT, LEFT_TO_LUCK
 
 
 @dataclass(frozen=True)
@@ -48,10 +51,11 @@ def explain_late(plan: Plan, late: Late) -> str:
     after, before = name_bare(late.after), name_bare(late.before)
     is_any = is_from_any(received)
     why = "receives from any source, and may have it only" if is_any else "receives it only"
+    spot = name_spot(plan, received)
     source = f" from {sender}" if is_any else ""
     return (
         f"{sender} sends {receiver} a message after its {after} ({name_kind(sent)}, at "
-        f"{name_spot(plan, sent)}), but {receiver} {why} at {name_spot(plan, received)}. "
+        f"{name_spot(plan, sent)}), but {receiver} {why} after its {before}, at {spot}. "
         f"If {receiver} received it{source} before its {before}, the {after} would come first."
     )
 
@@ -59,6 +63,57 @@ def explain_late(plan: Plan, late: Late) -> str:
 def mend_late(plan: Plan, late: Late) -> list[str]:
     """The fixes by which the message comes in time."""
     before = tell_call(plan, late.before)
-    moved = f"move the {before} after the {tell_call(plan, late.received)}"
+    moved = f"move the {before} after the {tell_call(plan, late.received)} that follows it"
     named = f"receive from {late.sent.rank.name} in place of MPI_ANY_SOURCE before the {before}"
     return [moved, *[named] * is_from_any(late.received)]
+
+
+# --- a message that is sent too early ---
+
+# What a send can be moved past: what waits for no other rank.
+FREE = ("put", "commit", "publish", "unpublish", "lookup", "get-now")
+# What isn't in the plan where it was called, and may be a receive.
+MAY_RECEIVE = re.compile(r"\d+ (receives|messages|collectives|calls of MPI_).*")
+
+
+def mend_early(plan: Plan, finding: Finding) -> list[str]:
+    """The fix by which a message is sent after the call that should come first; none where no
+    message is sent before it that orders the two then."""
+    leader, sent = finding.leader, find_early(plan, finding)
+    if not leader or not sent:
+        return []
+    return [f"move the {tell_call(plan, sent)} after the {tell_call(plan, leader)}"]
+
+
+def find_early(plan: Plan, finding: Finding) -> Optional[Call]:
+    """The send before the call that should come first, of a message that the rank of the other call
+    has before that; None where it can't be moved behind the first."""
+    leader = finding.leader
+    if not leader or leader.verb not in FREE or may_receive(plan, leader):
+        return None
+    other = finding.find_other(leader)
+    earlier = itertools.islice(plan.calls_of[other.rank.name], other.number - 1)
+    received = {it.about for it in earlier if is_receive(it)}
+    calls = reversed(plan.calls_of[leader.rank.name][: leader.number - 1])
+    passed = itertools.takewhile(lambda it: it.verb in FREE, calls)
+    sent = next((it for it in passed if find_message(it)), None)
+    return sent if sent and is_remarked(sent, "send") and sent.about in received else None
+
+
+def may_receive(plan: Plan, call: Call) -> bool:
+    """Whether the rank of a call may wait for a message before it where the plan doesn't say so:
+    one that is left out or polled for, or one of any source, which may stand later than it was
+    received."""
+    is_left_out = any(MAY_RECEIVE.fullmatch(it) for it in plan.list_in_head(LEFT_OUT))
+    is_polled = any(LEFT_TO_LUCK in it for it in plan.declared.head)
+    return is_left_out or is_polled or any(is_from_any(it) for it in list_later(plan, call))
+
+
+def is_receive(call: Call) -> bool:
+    """Whether a call receives a message of one process."""
+    return bool(find_message(call)) and is_remarked(call, "receive") and not is_from_any(call)
+
+
+def is_remarked(call: Call, word: str) -> bool:
+    """Whether the comment above a call says that it is of this kind."""
+    return (call.remark or "").split(",")[0] == word

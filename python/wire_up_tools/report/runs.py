@@ -10,7 +10,7 @@ from wire_up_tools.limits import VERSION_2
 from wire_up_tools.plan import Call
 from wire_up_tools.report.asking import CLEAN, FOUND, Asker, name_pair, read_json
 from wire_up_tools.report.findings import Finding, Kind
-from wire_up_tools.report.language import name_verb
+from wire_up_tools.report.language import name_verb, say_value
 
 # For how many seconds runs and chains are looked for, for all findings together. Of a large plan:
 # for how many times the time of a check.
@@ -112,10 +112,11 @@ def read_runs(asker: Asker, finding: Finding, said: Any) -> list[Run]:
     """The two runs that the checker wrote: of their ends, first that of the call it names."""
     shown = f"{said['shown']['proc']} {said['shown']['call']}"
     orders = [said[it]["order"] for it in ("first", "second")]
-    ends = [follow(asker, order, finding.first.rank.is_recorded) for order in orders]
-    differing = [call for call in list_differing(*ends) if call != shown]
     recorded, verb = finding.first.rank.is_recorded, said["shown"]["verb"]
-    verb, told = name_verb(verb, recorded), [describe_end(said[it]) for it in ("first", "second")]
+    ends = [follow(asker, order, recorded) for order in orders]
+    differing = [call for call in list_differing(*ends) if call != shown]
+    verb = name_verb(verb, recorded)
+    told = [describe_end(said[it], recorded) for it in ("first", "second")]
     return [
         Run(call, order, [End(shown, verb, end), *(of_run[it] for it in differing)])
         for call, order, end, of_run in zip(finding.calls, orders, told, ends)
@@ -136,7 +137,7 @@ def follow(asker: Asker, order: Sequence[str], is_recorded: bool) -> dict[str, E
         to.flush()
         said = read_json(asker.ask("follow", "--json", to.name))
     calls = (
-        End(name, name_verb(call["verb"], is_recorded), describe_end(call))
+        End(name, name_verb(call["verb"], is_recorded), describe_end(call, is_recorded))
         for rank in said.get("ranks", ())
         for number, call in enumerate(rank["calls"], 1)
         for name in [f"{rank['proc']} {number}"]
@@ -144,6 +145,9 @@ def follow(asker: Asker, order: Sequence[str], is_recorded: bool) -> dict[str, E
     return {it.call: it for it in calls}
 
 
-def describe_end(said: Any) -> str:
+def describe_end(said: Any, is_recorded: bool) -> str:
     """The reply to a call, and its value if it has one."""
-    return f"{said['reply']} {said['value']}" if "value" in said else str(said["reply"])
+    if "value" not in said:
+        return str(said["reply"])
+    value = say_value(said["value"], is_recorded)
+    return f"{said['reply']}{',' * (value != said['value'])} {value}"

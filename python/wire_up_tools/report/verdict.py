@@ -107,7 +107,8 @@ def say_recording(report: Report) -> str:
         return "A recording, with nothing left out"
     if hides_race(report.plan):
         return "A recording, with calls left out that can hide a race"
-    return "A recording; what is left out can hide no race"
+    besides = "apart from that, " if report.reasons else ""
+    return f"A recording; {besides}what is left out can hide no race"
 
 
 def say_races(report: Report) -> str:
