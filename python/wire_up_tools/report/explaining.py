@@ -69,9 +69,9 @@ MEANING_OF_LOOKUP_WAIT = (
     "so {lookup_wait} may find one value or another, or wait for ever."
 )
 MEANING_OF_LOOKUP_WAIT_THAT_FINDS = (
-    "The name is published once, and taken away only after this {lookup_wait}: it finds the name in "
-    "every run. It is reported all the same, since the checker takes no order from a lookup of a "
-    "name that is taken away."
+    "The name is published once, and taken away only after this {lookup_wait}: it finds the name "
+    "in every run. It is reported all the same, since the checker takes no order from a lookup of "
+    "a name that is taken away."
 )
 
 FIXES_OF_REWRITE = ("put the key once", "put each value under a key of its own")
