@@ -145,6 +145,14 @@ class BarriersTest(unittest.TestCase):
         waits = "wait for the name with PMIX_WAIT: it is published once, and taken away only after"
         last = f"{waits} the PMIx_Lookup. The race is still reported then."
         self.assertTrue(said.endswith(f"before the PMIx_Lookup of m.c:8; or {last}"), said)
+        waiting = LOOKUP.replace("lookup", "lookup-wait")
+        for ranks, wanted in (
+            ((PUBLISH + BARRIER + gone, waiting + BARRIER), "it finds the name in every run."),
+            ((PUBLISH + gone, waiting), "or wait for ever."),
+        ):
+            plan = read(*ranks)
+            finding = read_line(plan, "race a:0 1 a:1 1 name port")
+            self.assertIn(wanted, explaining.explain(finding, find_order(plan)))
         said = fix(read(PUBLISH + gone, LOOKUP), "race a:0 1 a:1 1 name port")
         why = "To wait for the name with PMIX_WAIT isn't enough: it is taken away again."
         self.assertTrue(said.endswith(f"before the PMIx_Lookup of m.c:8. {why}"), said)

@@ -68,6 +68,11 @@ MEANING_OF_LOOKUP_WAIT = (
     "The name is published more than once or taken away again, "
     "so {lookup_wait} may find one value or another, or wait for ever."
 )
+MEANING_OF_LOOKUP_WAIT_THAT_FINDS = (
+    "The name is published once, and taken away only after this {lookup_wait}: it finds the name "
+    "in every run. It is reported all the same, since the checker takes no order from a lookup of "
+    "a name that is taken away."
+)
 
 FIXES_OF_REWRITE = ("put the key once", "put each value under a key of its own")
 FIX_OF_FENCE = (
@@ -127,6 +132,8 @@ def explain(finding: Finding, order: Order) -> str:
     """What a finding means."""
     if finding.kind is Kind.REWRITE:
         return explain_rewrite(finding, order)
+    if finding.verbs == ("lookup-wait", "publish") and is_taken_later(finding, order):
+        return say(MEANING_OF_LOOKUP_WAIT_THAT_FINDS, finding)
     return say(choose_meaning(finding), finding)
 
 
