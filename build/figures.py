@@ -13,6 +13,7 @@ import re
 import subprocess
 import sys
 import tempfile
+import textwrap
 from collections.abc import Iterable, Iterator, Sequence
 from dataclasses import dataclass, replace
 
@@ -191,13 +192,16 @@ def page(figures: Figures) -> str:
     large = table(heads, rows_of(figures.of_machines(), least))
     reported = report_rows(*figures.of_a_report(), least)
     report = table(("command", "s", "processor time, s", "times that of `check`", "MiB"), reported)
-    return f"""\
-# Figures
-
+    how = f"""\
 `make figures` made this page on {today}{commit()}, on {machine()}. Each time is the least of
 {RUNS} runs ({LARGE_RUNS} for whole machines), with the start of the process in it and the output
 thrown away. MiB is the greatest resident size. With findings `replay` writes these, and runs
 nothing, and `check --anywhere --same` the findings alone.
+""".replace("\n", " ")
+    return f"""\
+# Figures
+
+{textwrap.fill(how, 100, break_on_hyphens=False)}
 
 ## Plans near the limits
 
