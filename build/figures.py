@@ -45,7 +45,6 @@ class Measured:
     """A plan and what was measured of it."""
 
     name: str
-    what: str
     calls: int
     findings: int
     check: Taken
@@ -61,7 +60,7 @@ class Figures:
     def __init__(self, program: str, room: str, is_small: bool) -> None:
         self.program, self.room, self.is_small = program, room, is_small
 
-    def measure(self, name: str, what: str, pieces: Iterable[str], runs: int) -> Measured:
+    def measure(self, name: str, pieces: Iterable[str], runs: int) -> Measured:
         """Measures `check` in its forms, and `replay`, of a plan of this text."""
         path, calls = os.path.join(self.room, "measured.plan"), 0
         with open(path, "w", encoding="ascii") as it:
@@ -71,7 +70,7 @@ class Figures:
         words = [[self.program, *command, "--large", path] for command in COMMANDS]
         taken = best_of(1 if self.is_small else runs, [Command(it) for it in words])
         findings = findings_in([self.program, "check", "--large", path])
-        return Measured(name, what, calls, findings, *taken)
+        return Measured(name, calls, findings, *taken)
 
     def near_the_limits(self) -> Iterator[Measured]:
         """Plans near the limits of the versions."""
@@ -79,15 +78,14 @@ class Figures:
             ranks, rounds = kind.ranks, kind.rounds
             if self.is_small:
                 ranks, rounds = min(ranks, SMALL_RANKS), SMALL_ROUNDS
-            yield self.measure(kind.name, kind.what, [kind.text(ranks, rounds)], RUNS)
+            yield self.measure(kind.name, [kind.text(ranks, rounds)], RUNS)
 
     def of_machines(self) -> Iterator[Measured]:
         """Plans of whole machines."""
         for plan in LARGE_PLANS:
             ranks = min(plan.ranks, SMALL_RANKS) if self.is_small else plan.ranks
-            what = f"each of {ranks:,} ranks {plan.what}"
             pieces = replace(plan, ranks=ranks).pieces()
-            yield self.measure(plan.name, what, pieces, LARGE_RUNS)
+            yield self.measure(f"{plan.name}, {ranks:,} ranks", pieces, LARGE_RUNS)
 
     def of_a_report(self) -> tuple[Taken, Taken]:
         """A check of the cards of many ranks, and the report of it with what the checker takes."""
@@ -114,7 +112,7 @@ def rows_of(measured: Iterable[Measured], least: int) -> Iterator[list[str]]:
     for it in measured:
         print(f"{it.name}: check {it.check.seconds:.3f} s", file=sys.stderr, flush=True)
         yield [
-            f"{it.name}: {it.what}",
+            it.name,
             f"{it.calls:,}",
             f"{it.findings:,}",
             seconds(it.check),
@@ -196,7 +194,8 @@ def page(figures: Figures) -> str:
 `make figures` made this page on {today}{commit()}, on {machine()}. Each time is the least of
 {RUNS} runs ({LARGE_RUNS} for whole machines), with the start of the process in it and the output
 thrown away. MiB is the greatest resident size. With findings `replay` writes these, and runs
-nothing, and `check --anywhere --same` the findings alone.
+nothing, and `check --anywhere --same` the findings alone. What the plans are stands in
+`build/bench_plans.py` and `build/large_plans.py`.
 """.replace("\n", " ")
     return f"""\
 # Figures

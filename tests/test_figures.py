@@ -36,7 +36,7 @@ class Page(unittest.TestCase):
                 text = it.read()
         for name in [it.name for it in bench_plans.KINDS] + [it.name for it in LARGE_PLANS]:
             with self.subTest(name):
-                self.assertIn(f"\n| {name}: ", text)
+                self.assertRegex(text, rf"\n\| {name}(, [\d,]+ ranks)? \|")
         for command in ("check", "wire_up-report"):
             row = rf"\n\| `{command} --large` \|( [\d.]+ \|){{3}} (under )?[\d.]+ \|\n"
             self.assertRegex(text, row)
