@@ -151,7 +151,7 @@ pub fn run_command<R: Read, W: Sink>(
         }
         Command::Witness(options) => {
             let asked = asked_of(options);
-            status_of(witness_pair(rt.alloc(), manner, reader, writer, asked))
+            status_of(witness_pair(rt, rt.alloc(), manner, reader, writer, asked))
         }
         Command::Witnesses(most) => {
             status_of(witness_races(rt, rt.alloc(), manner, reader, writer, most))

@@ -17,7 +17,7 @@ use crate::calls_json::begin_finding;
 use crate::ended::Ended;
 use crate::json_builder::JsonBuilder;
 use crate::manner::{Manner, Telling};
-use crate::reading::read_in;
+use crate::shared_reading::read_in;
 use std::alloc::{AllocError, Global};
 use std::thread::Threads;
 use wire_content::Scripts;
@@ -67,7 +67,7 @@ pub fn check_plan<R: Source, W: Sink>(
     ensures read_failed { result ≡ Err Read → R.failures reader.new ≡ one_more (R.failures reader.old) }
     ensures unfailed { IfErr result (λ e. e ≢ Memory → e ≢ Read → R.failures reader.new ≡ R.failures reader.old) }
 {
-    let (scripts, rows) = read_in(alloc, manner.size, manner.form, reader)?;
+    let (scripts, rows) = read_in(rt, alloc, manner.size, manner.form, reader)?;
     let places = Places {
         name: manner.name,
         rows: rows.as_slice(),

@@ -13,7 +13,7 @@ ghost use Rattle.wire_commands.specs.Ending.{ended_of};
 use crate::answer::{Answer, write_answer};
 use crate::ended::Ended;
 use crate::manner::{Manner, Telling};
-use crate::reading::read_in;
+use crate::shared_reading::read_in;
 use std::alloc::Global;
 use std::thread::Threads;
 use wire_anywhere::laws::settled_exactly;
@@ -55,7 +55,7 @@ pub fn check_placements<R: Source, W: Sink>(
     ensures read_failed { result ≡ Err Read → R.failures reader.new ≡ one_more (R.failures reader.old) }
     ensures unfailed { IfErr result (λ e. e ≢ Memory → e ≢ Read → R.failures reader.new ≡ R.failures reader.old) }
 {
-    let (scripts, rows) = read_in(alloc, manner.size, manner.form, reader)?;
+    let (scripts, rows) = read_in(rt, alloc, manner.size, manner.form, reader)?;
     let places = Places {
         name: manner.name,
         rows: rows.as_slice(),

@@ -16,6 +16,7 @@ mod place;
 mod plain;
 mod reading;
 mod replay;
+mod shared_reading;
 mod why;
 mod witness;
 mod witnesses;

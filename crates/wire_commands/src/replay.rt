@@ -15,7 +15,7 @@ ghost use Rattle.wire_commands.specs.Replay.{WritesOneEnd, WritesReplay, BreaksO
 
 use crate::complete::tell_failure;
 use crate::ended::Ended;
-use crate::reading::read_scripts;
+use crate::shared_reading::read_scripts;
 use std::alloc::Global;
 use std::sync::Wait;
 use std::thread::Threads;
@@ -118,7 +118,7 @@ pub fn replay_plan<R: Source, W: Sink, T: Threads + Wait + Sync, G: Gate + Sync>
     if manner.workers < 1 || MOST_WORKERS < manner.workers {
         return Err(Fault::Workers);
     }
-    let scripts = read_scripts(alloc, manner.size, reader)?;
+    let scripts = read_scripts(rt, alloc, manner.size, reader)?;
     replay_scripts(rt, alloc, scripts, manner, writer)
 }
 

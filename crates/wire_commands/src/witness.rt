@@ -18,9 +18,10 @@ use crate::calls_json::call_json;
 use crate::ended::Ended;
 use crate::json_builder::JsonBuilder;
 use crate::manner::{Manner, Telling};
-use crate::reading::read_in;
+use crate::shared_reading::read_in;
 use crate::why::read_pair;
 use std::alloc::{AllocError, Global};
+use std::thread::Threads;
 use wire_content::Scripts;
 use wire_json::{RunTold, run_json, witness_json};
 use wire_plan::Plan;
@@ -48,6 +49,7 @@ pub struct PairAsked<'a> {
 /// other fault nothing. `Memory` may come in place of any other answer. What is said of bytes is said where the reader
 /// and the writer tell theirs.
 pub fn witness_pair<R: Source, W: Sink>(
+    rt: &(impl Threads + Sync),
     alloc: Global,
     manner: Manner<'_>,
     reader: &mut R,
@@ -69,7 +71,7 @@ pub fn witness_pair<R: Source, W: Sink>(
     ensures read_failed { result ≡ Err Read → R.failures reader.new ≡ one_more (R.failures reader.old) }
     ensures unfailed { IfErr result (λ e. e ≢ Memory → e ≢ Read → R.failures reader.new ≡ R.failures reader.old) }
 {
-    let (scripts, rows) = read_in(alloc, manner.size, manner.form, reader)?;
+    let (scripts, rows) = read_in(rt, alloc, manner.size, manner.form, reader)?;
     let places = Places {
         name: manner.name,
         rows: rows.as_slice(),

@@ -10,5 +10,5 @@ mod word;
 pub use call::{CallLine, collect_of, is_star_alone, verb_of};
 pub use line::{Line, header_version, read_line, says_once};
 pub use sets::{Item, Set, cut_parts};
-pub use text::{cut_piece, cut_words, line_past, trim_return};
+pub use text::{count_lines, cut_lines, cut_piece, cut_words, line_past, trim_return};
 pub use word::{ProcName, is_key, is_name, is_text, is_word, number_of, scope_of};

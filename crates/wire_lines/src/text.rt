@@ -4,7 +4,7 @@ ghost use Rattle.std.specs.Prelude.{◌≡◌, ◌+◌, ◌<◌, ◌≤◌, ◌=
 ghost use Rattle.std.specs.Prelude.{OnOk};
 ghost use Rattle.std.specs.Str.Lines.{strip_carriage_return};
 ghost use Rattle.wire_types.specs.Texts.{texts_of};
-ghost use Rattle.wire_lines.specs.Text.{pieces_of, words_of, is_blank};
+ghost use Rattle.wire_lines.specs.Text.{pieces_of, lines_of, line_end, words_of, is_blank};
 
 use std::alloc::AllocError;
 
@@ -27,6 +27,33 @@ fn line_feed(bytes: &[u8]) -> Option<usize>
     ensures { result ≡ position (λ b. b == 10) bytes.now }
 {
     bytes.iter().position(|b| *b == b'\n')
+}
+
+/// The lines of a text up to that in which the byte at this place stands, with its line feed, and the lines after it.
+pub fn cut_lines(bytes: &[u8], at: usize) -> (&[u8], &[u8])
+    requires { at < length bytes.now }
+    ensures front { result.0.now ≡ take (line_end at bytes.now) bytes.now }
+    ensures bytes { bytes.now ≡ result.0.now ++ result.1.now }
+    ensures lines { lines_of bytes.now ≡ lines_of result.0.now ++ lines_of result.1.now }
+    ensures there { at < length result.0.now }
+{
+    let end = match line_feed(&bytes[at..]) {
+        Some(more) => at + more + 1,
+        None => bytes.len(),
+    };
+    bytes.split_at(end)
+}
+
+/// How many lines a text has.
+pub fn count_lines(bytes: &[u8]) -> usize
+    ensures count { result ≡ length (lines_of bytes.now) }
+    ensures few { result ≤ length bytes.now }
+{
+    let feeds = bytes.iter().filter(|b| **b == b'\n').count();
+    match bytes.last() {
+        Some(byte) if *byte != b'\n' => feeds + 1,
+        _ => feeds,
+    }
 }
 
 /// The number of the line in which the byte after the first so many stands: one more than the line feeds

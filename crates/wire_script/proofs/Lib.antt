@@ -29,3 +29,6 @@ pub mod RankParts
 pub mod OrderLimited
 pub mod Limited
 pub mod QuestionRead
+pub mod Parsing
+pub mod Cutting
+pub mod Declaring

@@ -13,3 +13,4 @@ pub mod ProcWords
 pub mod Order
 pub mod Ranks
 pub mod Question
+pub mod Pieces

@@ -1,17 +1,18 @@
 //! The first pass: each line by itself and by those before it.
 
-ghost use Rattle.std.specs.Prelude.{◌≡◌, ◌+◌, ◌<◌, ◌≤◌, ◌⊎◌, true, false, Ok, Err, length, ◌^◌, OnOk, IfOk, IfErr};
+ghost use Rattle.std.specs.Prelude.{◌≡◌, ◌+◌, ◌<◌, ◌≤◌, ◌⊎◌, ℕ, List, Result, true, false, Ok, Err, length, ◌^◌, OnOk, IfOk, IfErr};
 ghost use Rattle.std.specs.Prelude.{MatchResult};
 ghost use Rattle.std.specs.List.{list_all};
 ghost use Rattle.wire_types.specs.Texts.{texts_of};
 ghost use Rattle.wire_lines.specs.Text.{lines_of};
-ghost use Rattle.wire_lines.specs.Said.{Keep};
+ghost use Rattle.wire_lines.specs.Said.{Keep, Rank};
 ghost use Rattle.wire_lines.specs.Shown.{said_by, call_by, item_by, set_by};
 ghost use Rattle.wire_script.specs.Limits as limit;
 ghost use Rattle.wire_script.specs.Statements.{statements};
-ghost use Rattle.wire_script.specs.Left.{statements_left};
+ghost use Rattle.wire_script.specs.Left.{statements_left, end_of};
+ghost use Rattle.wire_script.specs.Pieces.{HasRoom, IsSaid};
 ghost use Rattle.wire_script.specs.FirstPass as spec;
-ghost use Rattle.wire_script.specs.FirstPass.{judged, after, nothing, Judges, JudgesAll, FirstPass};
+ghost use Rattle.wire_script.specs.FirstPass.{Declared, judged, after, nothing, Judges, JudgesAll, FirstPass};
 ghost use Rattle.wire_script.specs.Drafted.{declared_of};
 
 use crate::draft::{Draft, Placed, Started};
@@ -92,7 +93,7 @@ fn is_short(said: &Line) -> bool
 }
 
 /// A draft in which nothing is declared.
-fn new_draft<'a>(alloc: Global, size: Size, version: Version) -> Draft<'a>
+pub fn new_draft<'a>(alloc: Global, size: Size, version: Version) -> Draft<'a>
     ensures { declared_of result ≡ nothing size version }
 {
     Draft {
@@ -200,6 +201,37 @@ fn judge(draft: &Draft, line: u64, said: &Line) -> Result<(), Fault>
     }
 }
 
+/// For how many calls a new process gets room: as many as the last process has, within a bound. In many plans each
+/// process has as many.
+fn room_for_calls(draft: &Draft) -> usize
+    ensures { result ≤ 65536 }
+{
+    match draft.processes.last() {
+        Some(process) => process.calls.len().min(65_536),
+        None => 0,
+    }
+}
+
+/// Declares a process of the last job on the node of this name.
+fn add_process(draft: &mut Draft, alloc: Global, node: &[u8]) -> Result<(), AllocError>
+    requires place { spec.is_in_place (declared_of draft.old) (Rank node.now) ≡ true }
+    requires room { spec.has_room (declared_of draft.old) (Rank node.now) ≡ true }
+    ensures { (line : ℕ) → OnOk result (declared_of draft.new ≡ after (declared_of draft.old) line (Rank node.now)) }
+{
+    let job = draft.jobs.len() - 1;
+    let rank = draft.ranks;
+    let node = draft.nodes.number_or_count(node);
+    let calls = Vec::with_capacity(alloc, room_for_calls(draft))?;
+    draft.processes.push(Started {
+        job,
+        rank,
+        node,
+        calls,
+    })?;
+    draft.ranks += 1;
+    Ok(())
+}
+
 /// Declares what a line says.
 fn add<'a>(
     draft: &mut Draft<'a>,
@@ -224,20 +256,7 @@ fn add<'a>(
             draft.ranks = 0;
             Ok(())
         }
-        Line::Rank(name) => {
-            let job = draft.jobs.len() - 1;
-            let rank = draft.ranks;
-            let node = draft.nodes.number_or_count(name);
-            let calls = Vec::new(alloc);
-            draft.processes.push(Started {
-                job,
-                rank,
-                node,
-                calls,
-            })?;
-            draft.ranks += 1;
-            Ok(())
-        }
+        Line::Rank(name) => add_process(draft, alloc, name),
         Line::Calls(call) => {
             if let Some(process) = draft.processes.last_mut() {
                 process.calls.push(Placed { line, call })?;
@@ -246,6 +265,28 @@ fn add<'a>(
             Ok(())
         }
     }
+}
+
+/// Judges what a line says, and declares it. A line whose words are no line of a plan is refused.
+pub fn take_said<'a>(
+    draft: &mut Draft<'a>,
+    alloc: Global,
+    line: u64,
+    said: Option<Line<'a>>,
+) -> Result<(), Fault>
+    ensures ok { OnOk result ((words : List (List ℕ)) → IsSaid words said.entry →
+        Judges (declared_of draft.old) (line, words) (Ok (declared_of draft.new))) }
+    ensures err { IfErr result (λ e. (e ≡ Fault.Memory) ⊎ ((words : List (List ℕ)) → IsSaid words said.entry →
+        Judges (declared_of draft.old) (line, words) (Err e))) }
+{
+    let Some(said) = said else {
+        return Err(Fault::BadLine(line));
+    };
+    if let Err(fault) = judge(draft, line, &said) {
+        return Err(fault);
+    }
+    add(draft, alloc, line, said)?;
+    Ok(())
 }
 
 /// Judges a line, and declares what it says.
@@ -260,14 +301,8 @@ fn take<'a>(
     ensures err { IfErr result
         (λ e. (e ≡ Fault.Memory) ⊎ Judges (declared_of draft.old) (line, texts_of words.now) (Err e)) }
 {
-    let Some(said) = read_line(alloc, words)? else {
-        return Err(Fault::BadLine(line));
-    };
-    if let Err(fault) = judge(draft, line, &said) {
-        return Err(fault);
-    }
-    add(draft, alloc, line, said)?;
-    Ok(())
+    let said = read_line(alloc, words)?;
+    take_said(draft, alloc, line, said)
 }
 
 /// Declares what the lines left say.
@@ -312,6 +347,24 @@ fn declare_all<'a>(
     }
 }
 
+/// The version that the header of a file says, which is its first line that isn't skipped.
+pub fn read_header(alloc: Global, cursor: &mut Cursor<'_>) -> Result<Version, Fault>
+    requires { HasRoom cursor.old }
+    ensures ok { IfOk result (λ version. (size : Size) (n : ℕ) (r : Result Declared Fault) →
+        JudgesAll (nothing size version) (statements_left cursor.new) r → FirstPass size (statements_left cursor.old) n r) }
+    ensures err { IfErr result (λ e. (e ≡ Fault.Memory) ⊎ ((size : Size) (n : ℕ) → n + 1 ≡ end_of cursor.old →
+        FirstPass size (statements_left cursor.old) n (Err e))) }
+    ensures room { OnOk result (HasRoom cursor.new) }
+{
+    let Some(first) = cursor.next_line(alloc)? else {
+        return Err(Fault::BadHeader(cursor.line));
+    };
+    match header_version(&first.words) {
+        Some(version) => Ok(version),
+        None => Err(Fault::BadHeader(first.number)),
+    }
+}
+
 /// What a file declares.
 pub fn first_pass<'a>(alloc: Global, size: Size, bytes: &'a [u8]) -> Result<Draft<'a>, Fault>
     requires { length bytes.now ≤ limit.file_bytes size }
@@ -321,11 +374,6 @@ pub fn first_pass<'a>(alloc: Global, size: Size, bytes: &'a [u8]) -> Result<Draf
         (λ e. (e ≡ Fault.Memory) ⊎ FirstPass size (statements bytes.now) (length (lines_of bytes.now)) (Err e)) }
 {
     let mut cursor = Cursor::new(bytes);
-    let Some(first) = cursor.next_line(alloc)? else {
-        return Err(Fault::BadHeader(cursor.line));
-    };
-    let Some(version) = header_version(&first.words) else {
-        return Err(Fault::BadHeader(first.number));
-    };
+    let version = read_header(alloc, &mut cursor)?;
     declare_all(alloc, size, version, &mut cursor)
 }

@@ -14,18 +14,22 @@ mod numbered_tables;
 mod numbered_texts;
 mod numbers;
 mod order;
+mod pieces;
 mod proc_words;
 mod question;
 mod ranks;
 mod reader;
 mod second_pass;
+mod shared_pass;
 
 pub use limits::{Limits, Size};
 pub use lines::{Cursor, Statement};
-pub use located::read_located;
+pub use located::{read_located, read_located_shared};
 pub use order::read_order_sized;
 pub use question::{Question, question_reads_once, read_question};
 pub use ranks::read_ranks;
-pub use reader::{migrated_reads_back, one_canonical, read, read_sized, reads_back, reads_once};
+pub use reader::{
+    migrated_reads_back, one_canonical, read, read_shared, read_sized, reads_back, reads_once,
+};
 pub use wire_content::{Process, Scripts, Sets, Texts};
 pub use wire_types::Version;

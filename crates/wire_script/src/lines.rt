@@ -1,12 +1,14 @@
 //! The lines of a file that say something.
 
-ghost use Rattle.std.specs.Prelude.{◌≡◌, ◌+◌, ◌<◌, ◌≤◌, ◌^◌, ◌∷◌, [], length, MatchOption, OnOk, OnErr, IfOk};
+ghost use Rattle.std.specs.Prelude.{◌≡◌, ◌+◌, ◌<◌, ◌≤◌, ◌^◌, ◌∷◌, ◌++◌, [], length, take, MatchOption, OnOk, OnErr, IfOk};
 ghost use Rattle.wire_types.specs.Texts.{texts_of};
+ghost use Rattle.wire_lines.specs.Text.{line_end};
 ghost use Rattle.wire_script.specs.Statements.{is_skipped, statements};
 ghost use Rattle.wire_script.specs.Left.{statements_left, end_of, stated};
+ghost use Rattle.wire_script.specs.Pieces.{HasRoom};
 
 use std::alloc::{AllocError, Global};
-use wire_lines::{cut_piece, cut_words, trim_return};
+use wire_lines::{count_lines, cut_lines, cut_piece, cut_words, trim_return};
 
 /// A line that isn't skipped: its number and its words.
 #[derive(Drop)]
@@ -43,6 +45,29 @@ impl<'a> Cursor<'a> {
             rest: bytes,
             line: 1,
         }
+    }
+
+    /// Cuts off the lines up to that in which the byte at this place stands. What is left begins after them.
+    pub(crate) fn cut(&mut self, at: usize) -> Cursor<'a>
+        requires room { HasRoom self.old }
+        requires there { at < length self.old.rest.now }
+        ensures front { result.rest.now ≡ take (line_end at self.old.rest.now) self.old.rest.now }
+        ensures bytes { self.old.rest.now ≡ result.rest.now ++ self.new.rest.now }
+        ensures line { result.line ≡ self.old.line }
+        ensures next { self.new.line ≡ end_of result }
+        ensures left { statements_left self.old ≡ statements_left result ++ statements_left self.new }
+        ensures piece { HasRoom result }
+        ensures room { HasRoom self.new }
+        ensures shorter { length self.new.rest.now < length self.old.rest.now }
+    {
+        let (lines, rest) = cut_lines(self.rest, at);
+        let piece = Cursor {
+            rest: lines,
+            line: self.line,
+        };
+        self.line += count_lines(lines) as u64;
+        self.rest = rest;
+        piece
     }
 
     /// The number of the next line that isn't skipped. Its words take the place of what the list held. If

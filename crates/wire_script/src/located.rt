@@ -1,19 +1,21 @@
 //! The scripts of a file, with the lines on which their calls stand.
 
-ghost use Rattle.std.specs.Prelude.{◌≡◌, ◌≤◌, ◌⊎◌, Ok, Err, length, IfOk, IfErr};
+ghost use Rattle.std.specs.Prelude.{◌≡◌, ◌⊎◌, Ok, Err, IfOk, IfErr};
 ghost use Rattle.wire_types.specs.Texts.{lists_of};
 ghost use Rattle.wire_script.specs.Drafted.{declared_of, started_of};
-ghost use Rattle.wire_script.specs.Limits as limit;
 ghost use Rattle.wire_script.specs.Located.{AreCallLines, lines_in, lines_of_calls};
-ghost use Rattle.wire_script.specs.Reads.{Reads, ReadsShort};
+ghost use Rattle.wire_script.specs.Reads.{Reads, second_pass};
+ghost use Rattle.wire_script.specs.Within.{IsWithinLimits, IsDeclared};
 
 use crate::draft::{Draft, Started};
 use crate::first_pass::first_pass;
 use crate::limits::Size;
+use crate::reader::refuse_long;
 use crate::second_pass::scripts_of;
+use crate::shared_pass::first_pass_by_size;
 use std::alloc::{AllocError, Global};
+use std::thread::Threads;
 use wire_content::Scripts;
-use wire_lines::line_past;
 use wire_types::Fault;
 
 /// The lines of the calls of a process.
@@ -38,6 +40,26 @@ fn all_lines(alloc: Global, draft: &Draft) -> Result<Vec<Vec<u64>>, AllocError>
     Ok(rows)
 }
 
+/// The scripts of what a file within its limit declares, and the lines of their calls.
+fn scripts_with_lines(alloc: Global, draft: Draft) -> Result<(Scripts, Vec<Vec<u64>>), Fault>
+    requires within { IsWithinLimits (declared_of draft) }
+    requires declared { IsDeclared (declared_of draft) }
+    ensures ok { IfOk result (λ r. second_pass (declared_of draft.entry) ≡ Ok r.0) }
+    ensures lines { IfOk result (λ r. lists_of r.1.items ≡ lines_in (declared_of draft.entry)) }
+    ensures err { IfErr result (λ e. (e ≡ Fault.Memory) ⊎ (second_pass (declared_of draft.entry) ≡ Err e)) }
+{
+    match all_lines(alloc, &draft) {
+        Ok(lines) => match scripts_of(alloc, draft) {
+            Ok(scripts) => Ok((scripts, lines)),
+            Err(fault) => Err(fault),
+        },
+        Err(_) => {
+            drop(draft);
+            Err(Fault::Memory)
+        }
+    }
+}
+
 /// What a file says, as `read_sized` does, and the number of the line of each call: a row for each process, in
 /// the order of the processes and of their calls.
 pub fn read_located(
@@ -49,33 +71,23 @@ pub fn read_located(
     ensures lines { IfOk result (λ r. AreCallLines size bytes.now (lists_of r.1.items)) }
     ensures err { IfErr result (λ e. (e ≡ Fault.Memory) ⊎ Reads size bytes.now (Err e)) }
 {
-    let most = size.file_bytes();
-    if bytes.len() > most {
-        return Err(Fault::TooLong(line_past(bytes, most)));
-    }
-    read_short_located(alloc, size, bytes)
+    refuse_long(size, bytes)?;
+    let draft = first_pass(alloc, size, bytes)?;
+    scripts_with_lines(alloc, draft)
 }
 
-/// The same, of a text within the limit of a file.
-fn read_short_located(
+/// What `read_located` answers. Several threads read the lines, as in `read_shared`.
+pub fn read_located_shared(
+    rt: &(impl Threads + Sync),
     alloc: Global,
     size: Size,
     bytes: &[u8],
 ) -> Result<(Scripts, Vec<Vec<u64>>), Fault>
-    requires { length bytes.now ≤ limit.file_bytes size }
-    ensures ok { IfOk result (λ r. ReadsShort size bytes.now (Ok r.0)) }
+    ensures ok { IfOk result (λ r. Reads size bytes.now (Ok r.0)) }
     ensures lines { IfOk result (λ r. AreCallLines size bytes.now (lists_of r.1.items)) }
-    ensures err { IfErr result (λ e. (e ≡ Fault.Memory) ⊎ ReadsShort size bytes.now (Err e)) }
+    ensures err { IfErr result (λ e. (e ≡ Fault.Memory) ⊎ Reads size bytes.now (Err e)) }
 {
-    let draft = first_pass(alloc, size, bytes)?;
-    match all_lines(alloc, &draft) {
-        Ok(lines) => match scripts_of(alloc, draft) {
-            Ok(scripts) => Ok((scripts, lines)),
-            Err(fault) => Err(fault),
-        },
-        Err(_) => {
-            drop(draft);
-            Err(Fault::Memory)
-        }
-    }
+    refuse_long(size, bytes)?;
+    let draft = first_pass_by_size(rt, alloc, size, bytes)?;
+    scripts_with_lines(alloc, draft)
 }

@@ -1,6 +1,6 @@
 //! Texts that are given numbers while a file is read.
 
-ghost use Rattle.std.specs.Prelude.{◌≡◌, ◌==◌, ◌+◌, ◌<◌, ◌^◌, ◌∷◌, ◌++◌, [], false, length, position, IfOk, OnOk};
+ghost use Rattle.std.specs.Prelude.{◌≡◌, ◌≢◌, ◌==◌, ◌+◌, ◌<◌, ◌^◌, ◌∷◌, ◌++◌, [], Some, true, false, length, position, IfOk, OnOk};
 ghost use Rattle.std.specs.Prelude.{OnErr};
 ghost use Rattle.std.specs.List.{list_any, position_or_len};
 ghost use Rattle.std.specs.Str.{bytes_eq};
@@ -57,10 +57,25 @@ impl NumberedTexts {
         self.set.is_empty()
     }
 
-    /// The number of a text, or nothing where it isn't there.
+    /// Whether a text is the first.
+    fn is_first(&self, text: &[u8]) -> bool
+        ensures first { result ≡ true → position (bytes_eq text.now) self.now ≡ Some 0 }
+        ensures other { result ≡ false → position (bytes_eq text.now) self.now ≢ Some 0 }
+    {
+        match self.set.first() {
+            Some(first) => text == first.as_slice(),
+            None => false,
+        }
+    }
+
+    /// The number of a text, or nothing where it isn't there. The first is compared before anything is hashed:
+    /// most plans have one job, and one key that most calls name.
     fn number_of(&self, text: &[u8]) -> Option<u32>
         ensures { result ≡ position (bytes_eq text.now) self.now }
     {
+        if self.is_first(text) {
+            return Some(0);
+        }
         match self.set.get_index_of(text) {
             Some(number) => Some(number as u32),
             None => None,

@@ -1,14 +1,16 @@
 //! From bytes to scripts.
 
-ghost use Rattle.std.specs.Prelude.{◌≡◌, ◌≤◌, ◌⊎◌, length, Ok, Err, IfOk, IfErr};
+ghost use Rattle.std.specs.Prelude.{◌≡◌, ◌+◌, ◌<◌, ◌≤◌, ◌==◌, ◌⊎◌, length, take, count_by, Ok, Err, OnOk, IfOk, IfErr};
 ghost use Rattle.wire_script.specs.Limits as limit;
 ghost use Rattle.wire_script.specs.Back.{ReadsBack, MigratedReadsBack, OneCanonical};
-ghost use Rattle.wire_script.specs.Reads.{Reads, ReadsShort, ReadsOnce};
+ghost use Rattle.wire_script.specs.Reads.{Reads, ReadsOnce};
 
 use crate::first_pass::first_pass;
 use crate::limits::Size;
 use crate::second_pass::scripts_of;
+use crate::shared_pass::first_pass_by_size;
 use std::alloc::Global;
+use std::thread::Threads;
 use wire_content::Scripts;
 use wire_lines::line_past;
 use wire_types::Fault;
@@ -24,25 +26,43 @@ pub fn read(alloc: Global, bytes: &[u8]) -> Result<Scripts, Fault>
     read_sized(alloc, Size::OfVersion, bytes)
 }
 
+/// Refuses a file that is longer than this size allows.
+pub fn refuse_long(size: Size, bytes: &[u8]) -> Result<(), Fault>
+    ensures ok { OnOk result (length bytes.now ≤ limit.file_bytes size) }
+    ensures err { IfErr result (λ e. (limit.file_bytes size < length bytes.now)
+        × (e ≡ Fault.TooLong (count_by (λ b. b == 10) (take (limit.file_bytes size) bytes.now) + 1))) }
+{
+    let most = size.file_bytes();
+    if bytes.len() > most {
+        Err(Fault::TooLong(line_past(bytes, most)))
+    } else {
+        Ok(())
+    }
+}
+
 /// What a file says, as `read` does, within the limits of this size.
 pub fn read_sized(alloc: Global, size: Size, bytes: &[u8]) -> Result<Scripts, Fault>
     ensures ok { IfOk result (λ s. Reads size bytes.now (Ok s)) }
     ensures err { IfErr result (λ e. (e ≡ Fault.Memory) ⊎ Reads size bytes.now (Err e)) }
 {
-    let most = size.file_bytes();
-    if bytes.len() > most {
-        return Err(Fault::TooLong(line_past(bytes, most)));
-    }
-    read_short(alloc, size, bytes)
+    refuse_long(size, bytes)?;
+    let draft = first_pass(alloc, size, bytes)?;
+    scripts_of(alloc, draft)
 }
 
-/// The scripts of a text within the limit of a file.
-fn read_short(alloc: Global, size: Size, bytes: &[u8]) -> Result<Scripts, Fault>
-    requires { length bytes.now ≤ limit.file_bytes size }
-    ensures ok { IfOk result (λ s. ReadsShort size bytes.now (Ok s)) }
-    ensures err { IfErr result (λ e. (e ≡ Fault.Memory) ⊎ ReadsShort size bytes.now (Err e)) }
+/// What a file says, as `read_sized` answers it. The lines of a file of a MiB or more are read by several
+/// threads.
+pub fn read_shared(
+    rt: &(impl Threads + Sync),
+    alloc: Global,
+    size: Size,
+    bytes: &[u8],
+) -> Result<Scripts, Fault>
+    ensures ok { IfOk result (λ s. Reads size bytes.now (Ok s)) }
+    ensures err { IfErr result (λ e. (e ≡ Fault.Memory) ⊎ Reads size bytes.now (Err e)) }
 {
-    let draft = first_pass(alloc, size, bytes)?;
+    refuse_long(size, bytes)?;
+    let draft = first_pass_by_size(rt, alloc, size, bytes)?;
     scripts_of(alloc, draft)
 }
 

@@ -1,11 +1,5 @@
-use Rattle.std.proofs.Common.{◌∙◌, ◌+◌, ◌<◌, ◌==◌, ap, subst, inl, inr, Err, length, take, count_by}
-use Rattle.wire_types.specs.declared.Fault.TheVariants.{TooLong}
+use Rattle.wire_script.proofs.Within.{first_within}
 use Rattle.wire_script.proofs.located.read_located.Goals as goal
 
-pub returns-then-bytes-most-clause-err : goal.returns-then-bytes-most-clause-err
-returns-then-bytes-most-clause-err c =
-    let is = c.file_bytes-most.ensures in
-    inr (inl (
-      subst (λ k. k < length c.args.bytes.now) is c.if-bytes-most.true,
-      ap (λ n. Err (TooLong n)) c.line_past.ensures ∙ ap (λ k. Err (TooLong (count_by (λ b. b == 10) (take k c.args.bytes.now) + 1))) is,
-    ))
+pub scripts_with_lines-requires-clause-within : goal.scripts_with_lines-requires-clause-within
+scripts_with_lines-requires-clause-within c = first_within _ _ _ _ c.in_ok-draft.ensures.ok

@@ -1,0 +1,5 @@
+use Rattle.wire_script.proofs.Within.{first_within}
+use Rattle.wire_script.proofs.located.read_located_shared.Goals as goal
+
+pub scripts_with_lines-requires-clause-within : goal.scripts_with_lines-requires-clause-within
+scripts_with_lines-requires-clause-within g c = first_within _ _ _ _ c.in_ok-draft.ensures.ok

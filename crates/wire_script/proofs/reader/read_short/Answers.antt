@@ -1,5 +1,0 @@
-use Rattle.wire_script.proofs.Within.{first_within}
-use Rattle.wire_script.proofs.reader.read_short.Goals as goal
-
-pub scripts_of-requires-clause-within : goal.scripts_of-requires-clause-within
-scripts_of-requires-clause-within c = first_within _ _ _ _ c.in_ok-draft.ensures.ok

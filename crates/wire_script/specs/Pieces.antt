@@ -1,0 +1,36 @@
+-- A file in pieces, and what its lines say by themselves: for the contracts of private functions.
+use Rattle.std.specs.Prelude.{◌≡◌, ◌+◌, ◌<◌, ◌^◌, ℕ, List, [], ◌∷◌, ◌++◌, length, Option, Some, None, Vec}
+use Rattle.std.specs.List.{AllZip}
+use Rattle.std.specs.declared.alloc.Global.{Global}
+use Rattle.wire_lines.specs.Said.{Said, Says}
+use Rattle.wire_lines.specs.Shown.{said_by}
+use Rattle.wire_lines.specs.declared.line.Line.{Line}
+use Rattle.wire_script.specs.Statements.{Statement}
+use Rattle.wire_script.specs.Left.{statements_left}
+use Rattle.wire_script.specs.declared.lines.Cursor.{Cursor}
+use Rattle.wire_script.specs.declared.pieces.Parsed.{Parsed}
+
+-- the lines that are left can be numbered
+abbrev pub HasRoom : Cursor → Type 0
+HasRoom c = c.line + length c.rest.now < 2 ^ 64
+
+-- the words say this line, or nothing
+abbrev pub IsSaid : List (List ℕ) → Option Line → Type 0
+IsSaid words (Some line) = Says words (said_by line)
+IsSaid words None = (said : Said) → Says words said → ⊥
+
+-- a statement, and what it says under its number
+abbrev pub IsParsed : Statement → Parsed → Type 0
+IsParsed s p = (p.number ≡ s.0) × IsSaid s.1 p.said
+
+abbrev pub AreParsed : List Statement → List Parsed → Type 0
+AreParsed lines parsed = AllZip IsParsed lines parsed
+
+-- what pieces state, one after the other
+abbrev pub all_left : List Cursor → List Statement
+all_left [] = []
+all_left (c ∷ cs) = statements_left c ++ all_left cs
+
+-- each piece, and what its lines say
+abbrev pub ArePieces : List Cursor → List (Vec Parsed Global) → Type 0
+ArePieces cursors rows = AllZip (λ c row. AreParsed (statements_left c) row.items) cursors rows

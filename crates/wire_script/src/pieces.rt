@@ -1,0 +1,86 @@
+//! A large file in pieces, whose lines several threads read. What a line says depends on its words alone. What it
+//! declares depends on the lines above it, so all lines are judged in their order.
+
+ghost use Rattle.std.specs.Prelude.{◌≡◌, ◌≤◌, length, IfOk};
+ghost use Rattle.wire_lines.specs.Text.{lines_of};
+ghost use Rattle.std.specs.List.{All};
+ghost use Rattle.wire_script.specs.Left.{statements_left};
+ghost use Rattle.wire_script.specs.Pieces.{HasRoom, AreParsed, ArePieces, all_left};
+
+use crate::lines::Cursor;
+use rayon::prelude::*;
+use std::alloc::{AllocError, Global};
+use std::thread::Threads;
+use wire_lines::{Line, count_lines, read_line};
+
+/// A piece has so many bytes, and then the rest of its last line; the last piece may have fewer. To start a thread takes
+/// as long as to read some hundred lines.
+const PIECE_BYTES: usize = 262_144;
+
+/// A line that isn't skipped: its number, and what it says, or nothing where its words are no line of a plan.
+#[derive(Drop)]
+pub struct Parsed<'a> {
+    pub number: u64,
+    pub said: Option<Line<'a>>,
+}
+
+/// A cursor for each piece of what is left, in their order.
+pub fn cut_pieces<'a>(alloc: Global, cursor: Cursor<'a>) -> Result<Vec<Cursor<'a>>, AllocError>
+    requires { HasRoom cursor }
+    ensures left { IfOk result (λ pieces. all_left pieces.items ≡ statements_left cursor.entry) }
+    ensures room { IfOk result (λ pieces. All HasRoom pieces.items) }
+{
+    let mut left = cursor;
+    let mut pieces = Vec::with_capacity(alloc, left.rest.len() / PIECE_BYTES + 1)?;
+    'pieces: while !left.rest.is_empty() {
+        let last = left.rest.len().min(PIECE_BYTES) - 1;
+        pieces.push(left.cut(last))?;
+    }
+    Ok(pieces)
+}
+
+/// How many lines of a text say something, unless many are too short for any line of a plan.
+fn lines_at_most(bytes: &[u8]) -> usize
+    ensures { result ≤ length (lines_of bytes.now) }
+{
+    count_lines(bytes).min(bytes.len() / 6 + 1)
+}
+
+/// What the lines of a piece say.
+fn parse_piece<'a>(alloc: Global, piece: &Cursor<'a>) -> Result<Vec<Parsed<'a>>, AllocError>
+    requires { HasRoom piece.now }
+    ensures { IfOk result (λ parsed. AreParsed (statements_left piece.now) parsed.items) }
+{
+    let mut left = Cursor {
+        rest: piece.rest,
+        line: piece.line,
+    };
+    let mut words = Vec::new(alloc);
+    let mut parsed = Vec::with_capacity(alloc, lines_at_most(piece.rest))?;
+    'statements: while let Some(number) = left.next_words(&mut words)? {
+        let said = read_line(alloc, &words)?;
+        parsed.push(Parsed { number, said })?;
+    }
+    Ok(parsed)
+}
+
+/// What the lines of each piece say, read by several threads.
+pub fn parse_pieces<'a>(
+    rt: &(impl Threads + Sync),
+    alloc: Global,
+    pieces: &[Cursor<'a>],
+) -> Result<Vec<Vec<Parsed<'a>>>, AllocError>
+    requires { All HasRoom pieces.now }
+    ensures { IfOk result (λ rows. ArePieces pieces.now rows.items) }
+{
+    pieces
+        .par_iter()
+        .with_min_len(1)
+        .map(
+            |piece: &Cursor| -> Result<Vec<Parsed>, AllocError>
+                requires { HasRoom piece.now }
+                ensures { IfOk result (λ parsed. AreParsed (statements_left piece.now) parsed.items) }
+            { parse_piece(alloc, piece) },
+        )
+        .collect::<Result<Vec<_>, AllocError>>(rt, alloc)?
+}
