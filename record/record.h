@@ -79,6 +79,20 @@ EXPORTED struct place *wire_up_in_python(struct place *place);
 EXPORTED void wire_up_write(char sign, unsigned long number, struct place *place,
                             const struct text *what);
 
+/* The polls of one function that found nothing, where another call of the process follows: what the
+ * program does then, another run may do otherwise. */
+struct polls {
+    const char *function;
+    unsigned long count;
+    bool is_listed;
+    struct polls *next;
+};
+
+/* Takes what a poll of the code at `caller` has found. One that finds nothing is counted as soon as
+ * this thread makes another call that is noted, unless the same code has found something by then: it
+ * has waited. The count is written whenever it has doubled, and in the end. */
+EXPORTED void wire_up_take_poll(struct polls *of, const void *caller, bool has_found);
+
 /* Finds the line in the program that this call comes from, through however many calls of libraries.
  * Null on a thread that isn't the program's. */
 EXPORTED struct place *wire_up_place_behind(void);

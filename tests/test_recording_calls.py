@@ -247,6 +247,15 @@ class CallsTest(unittest.TestCase):
         self.assertIn(f"{OTHERWISE_AFTER}\n#   1 calls of MPI_Fetch_and_op\n", plan)
         self.assertIn(f"{LEFT_OUT}\n#   1 calls of MPI_Win_flush\n", plan)
 
+    def test_polls_that_found_nothing(self) -> None:
+        """The last count of a process is that of all its polls by a function."""
+        first = Tape(0).say("polled MPI_Test 1").say("polled MPI_Test 2").say("polled MPI_Test 3")
+        second = Tape(1).say("polled MPI_Iprobe 1").say("polled MPI_Test 4")
+        plan = write_plan_of([first, second])
+        told = ("1 calls of MPI_Iprobe", "7 calls of MPI_Test")
+        said = "".join(f"#   {it} that found nothing\n" for it in told)
+        self.assertIn(f"{OTHERWISE_AFTER}\n{said}", plan)
+
     def test_a_name_that_goes_away(self) -> None:
         """At its first read, if another may look it up, or with its process."""
         for how, count, is_said in ((1, 1, False), (1, 2, True), (2, 0, True), (4, 2, False)):

@@ -3,6 +3,7 @@
  * memory, each line goes out by one `write`. */
 #define _GNU_SOURCE
 #include "core/recording.h"
+#include "core/polls.h"
 #include "core/text.h"
 
 #include <errno.h>
@@ -301,6 +302,25 @@ static void note_place(int file, struct place *place)
     }
 }
 
+/* Writes how many polls of a function found nothing so far. */
+static void write_polls(const struct polls *of, unsigned long count)
+{
+    int file = get_file();
+    if (file < 0)
+        return;
+    struct text what;
+    wire_up_text_open(&what);
+    wire_up_text_add(&what, "polled %s %lu", of->function, count);
+    write_line(file, '=', 0, 0, &what);
+    wire_up_text_close(&what);
+}
+
+void write_all_polls(void)
+{
+    count_polls(write_polls);
+    list_polls(write_polls);
+}
+
 void trim_recording(void)
 {
     int file = get_file();
@@ -318,6 +338,8 @@ void wire_up_write(char sign, unsigned long number, struct place *place, const s
     int file = get_file();
     if (file < 0)
         return;
+    if (open_polls && sign != '-')
+        count_polls(write_polls);
     note_place(file, place);
     write_line(file, sign, number, place ? place->number : 0, what);
 }

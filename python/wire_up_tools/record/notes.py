@@ -21,7 +21,7 @@ from wire_up_tools.words import show
 # Functions of MPI whose result depends on which rank was faster. They order nothing.
 OF_LUCK = re.compile(
     r"MPI_(Cancel|Fetch_and_op|Compare_and_swap|(Get|Rget)_accumulate(_c)?"
-    r"|File_i?(read|write)_shared(_c)?)"
+    r"|File_i?(read|write)_shared(_c)?|Parrived|Request_get_status_\w+)"
 )
 
 
@@ -58,6 +58,8 @@ def note_recording(recording: Recording, notes: Notes) -> None:
     for name, count in recording.others.items():
         noted = notes.of_luck if OF_LUCK.fullmatch(name) else notes.left_out
         noted[f"calls of {name}"] += count
+    for name, count in recording.polls.items():
+        notes.of_luck[f"calls of {name} that found nothing"] += count
     if len({call.thread for call in recording.calls}) > 1:
         notes.more_ordered[
             "processes that called from several threads: "

@@ -88,7 +88,8 @@ class RecordedCommunicator:
 class Recording:
     """What one process did, from the file at `path`; `began` is in seconds since 1970.
 
-    `others` counts the calls that are only counted, by their names; `unseen` what called MPI past
+    `others` counts the calls that are only counted, by their names; `polls` those that found
+    nothing before another call; `unseen` what called MPI past
     the recorder, and `unseen_pmix` what called PMIx so, by what is said of it. `outer` has the
     number of the place at which the function of a place was called. A process that `has_finalized`
     has called nothing after PMIx_Finalize; the last line of a recording that `is_cut` was dropped.
@@ -102,6 +103,7 @@ class Recording:
     began: float
     calls: Sequence[Call]
     others: Mapping[str, int]
+    polls: Mapping[str, int]
     unseen: Mapping[str, int]
     unseen_pmix: Mapping[str, int]
     world: Optional[World]
@@ -131,6 +133,7 @@ class Recording:
 PLAIN = {
     "finalize": re.compile(r"finalize"),
     "other": re.compile(r"other (.+)"),
+    "polled": re.compile(r"polled (MPI_\w+) (\d{1,18})"),
     "unseen": re.compile(rf"unseen (call|object|pmix) ({WORD})"),
     "world": re.compile(r"world (\d{1,9}) (\d{1,9})"),
     "comm": re.compile(r"comm (\d{1,9}) (\d{1,9}) ([wcgvs]-?\d{1,18}) ([\d,-]+)"),
@@ -185,6 +188,7 @@ class Records:
     opened: dict[str, Call] = field(default_factory=dict)
     words: dict[str, str] = field(default_factory=dict)
     others: Counter[str] = field(default_factory=Counter)
+    polls: dict[str, int] = field(default_factory=dict)
     unseen: Counter[str] = field(default_factory=Counter)
     unseen_pmix: Counter[str] = field(default_factory=Counter)
     world: Optional[World] = None
@@ -235,6 +239,8 @@ class Records:
         self.has_finalized = verb == "finalize"
         if verb == "other":
             self.others[groups[0]] += 1
+        elif verb == "polled":
+            self.polls[groups[0]] = max(int(groups[1]), self.polls.get(groups[0], 0))
         elif verb == "unseen":
             counts = self.unseen_pmix if groups[0] == OF_PMIX else self.unseen
             counts[read_unseen(groups)] += 1
@@ -307,6 +313,7 @@ def read_recording(path: str, data: bytes) -> Recording:
         began=head.began,
         calls=records.calls,
         others=records.others,
+        polls=records.polls,
         unseen=records.unseen,
         unseen_pmix=records.unseen_pmix,
         world=records.world,
