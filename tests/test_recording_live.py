@@ -235,6 +235,15 @@ class CasesTest(LiveTest):
         self.assertIn('look_up("first")', wild)
         self.assertIn("MPI_Lookup_name", look_up)
 
+    def test_callers(self) -> None:
+        """Messages lead to those that called a helper, also where the stack is the same."""
+        if not shutil.which("addr2line"):
+            self.skipTest("there is no addr2line")
+        self.record(*mpirun(2, self.compile("callers")))
+        form = r"# at main \(callers\.c:\d+\) -> (\w+) \(callers\.c:\d+\) -> hand "
+        found = re.findall(form, read_file(self.plan))
+        self.assertEqual(found, ["first", "second", "with_room"] * 3 * 2)
+
     def test_strict(self) -> None:
         self.record("--strict", *mpirun(2, self.compile("cases"), "poll"))
         if self.program:
