@@ -159,9 +159,16 @@ MPI_Status *told = choose_status(watch.is_on, status, &own);
 """
 
 
-def shape_some(how: str, before: str = "") -> Shape:
+# Which of several sends is over first, other processes decide.
+NOTE_SENDS = """\
+if (are_sends(&call, &watch, count, requests))
+    note_other("$function of sends");
+"""
+
+
+def shape_some(how: str, after: str, before: str = "") -> Shape:
     """A call that completes some of several requests."""
-    return Shape(WATCH_ALL, before + f"""\
+    return Shape(WATCH_ALL + before, after + f"""\
 int some = note_some_complete(&watch, result, ended, indices, told, {how});
 result = end_watch(&watch, result, some);
 """, TOLD_ALL)
@@ -177,15 +184,15 @@ if (watch.is_on && (result == MPI_ERR_IN_STATUS || (result == MPI_SUCCESS && *fl
     note_all_complete(&watch, result, told, POLLED);
 result = end_watch(&watch, result, count);
 """, TOLD_ALL),
-    "wait-some": shape_some("name_wait(&watch)"),
-    "test-some": shape_some("POLLED", take_poll("call.is_noted", "*ended != 0")),
-    "wait-any": Shape(WATCH_ANY, """\
+    "wait-some": shape_some("name_wait(&watch)", "", NOTE_SENDS),
+    "test-some": shape_some("name_poll(&watch)", take_poll("call.is_noted", "*ended != 0")),
+    "wait-any": Shape(WATCH_ANY + NOTE_SENDS, """\
 note_one_complete(&watch, result, which, told, name_wait(&watch));
 result = end_watch(&watch, result, 0);
 """, TOLD),
     "test-any": Shape(WATCH_ANY, take_poll("call.is_noted") + """\
 if (watch.is_on && flag && *flag)
-    note_one_complete(&watch, result, which, told, POLLED);
+    note_one_complete(&watch, result, which, told, name_poll(&watch));
 result = end_watch(&watch, result, 0);
 """, TOLD),
 }

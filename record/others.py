@@ -23,7 +23,7 @@ LOCAL = {
         r"(Comm|Win|File)_(get_\w+|call_errhandler|\w+_errhandler|\w+_keyval|\w+_attr|set_name)",
         r"(Cart|Graph|Dist_graph|Dims|Cartdim|Graphdims)_?\w*",
         r"Comm_(group|rank|size|compare|remote_group|remote_size|test_inter)",
-        r"Win_(attach|detach|sync|shared_query)",
+        r"Win_(attach|detach|sync)",
         r"Topo_test",
         r"(Pack|Unpack)\w*",
         r"Get_(address|count|elements|elements_x|library_version|processor_name|version)",

@@ -138,6 +138,7 @@ DIRECT = {
 # Those of `luck`.
 LUCK = {
     "cancelled": Program(2, 0, 1, luck=1, poll="MPI_Iprobe"),
+    "several": Program(3, 0, 1, luck=2),
     "asked": Program(2, 0, 1, luck=1),
     "nothing": Program(2, 0, 1, poll="MPI_Iprobe"),
     "header": Program(3, 0, 1, luck=2, received=2),

@@ -70,15 +70,20 @@ static long long tell_bytes(const MPI_Status *status)
 #endif
 }
 
+bool is_cancelled(int result, const MPI_Status *status)
+{
+    int is_so = 0;
+    if (result == MPI_SUCCESS)
+        mpi.test_cancelled(status, &is_so);
+    return is_so;
+}
+
 void note_received(unsigned long number, int result, const MPI_Status *status, const char *how)
 {
-    int is_cancelled = 0;
     struct numbers what = {.first = "1"};
     if (!number)
         return;
-    if (result == MPI_SUCCESS)
-        mpi.test_cancelled(status, &is_cancelled);
-    if (result == MPI_SUCCESS && !is_cancelled) {
+    if (result == MPI_SUCCESS && !is_cancelled(result, status)) {
         long long bytes = tell_bytes(status);
         what = (struct numbers){"0", {status->MPI_SOURCE, status->MPI_TAG, bytes}, 3, how};
     }

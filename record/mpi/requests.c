@@ -231,5 +231,7 @@ void note_complete(MPI_Request request, int result, const MPI_Status *status, co
         note_collected(done.number, result, done.sources ? done.sources : "all", how);
     else
         note_received(done.number, result, status, done.is_cancelled ? POLLED : how);
+    if (done.number && done.is_cancelled && is_cancelled(result, status))
+        note_other("MPI_Cancel of a receive");
     free(done.sources);
 }

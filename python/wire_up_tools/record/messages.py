@@ -10,7 +10,7 @@ from collections.abc import Iterable, Iterator, Mapping, Sequence, Set
 from dataclasses import dataclass, field
 from typing import NamedTuple, Optional, Union
 
-from wire_up_tools.record.calls import Call, MessageEnd, Probe, Receive, Send
+from wire_up_tools.record.calls import Call, FoundBy, MessageEnd, Probe, Receive, Send
 from wire_up_tools.record.communicators import Communicator, Communicators, Side
 from wire_up_tools.record.notes import Notes
 from wire_up_tools.record.processes import Process, Processes
@@ -377,13 +377,18 @@ class Inbox:
         return {}
 
 
-# In a communicator of two, who isn't oneself is known.
-PAIR = 2
+def is_found_by_luck(own: Communicator, asked: Union[Receive, Probe], call: Call) -> bool:
+    """Whether it was luck of whom a message came that was asked for: of any, or by one of several
+    requests. Of a communicator of two, who isn't oneself is known."""
+    end = call.end
+    is_one_of_some = isinstance(end, MessageEnd) and end.found_by is FoundBy.SOME
+    others = len(own.peers) - (not own.has_two_sides)
+    return (asked.source is None or is_one_of_some) and others > 1
 
 
 class Found:
-    """Whom a process has found by messages of any source, and up to which line of its recording it
-    didn't know them. Later the program may send to them, or receive from them, since they came."""
+    """Whom a process has found by luck, and up to which line of its recording it didn't know them.
+    Later the program may send to them, or receive from them, since they came."""
 
     def __init__(self) -> None:
         self.at: dict[Process, int] = {}
@@ -430,7 +435,7 @@ class Inboxes:
         source = end.source if isinstance(end, MessageEnd) else -1
         peer = own.peers[source] if 0 <= source < len(own.peers) else None
         inbox.take_ask(asked, call, found.has(peer, call))
-        if asked.source is None and peer and len(own.peers) > PAIR:
+        if peer and is_found_by_luck(own, asked, call):
             found.add(peer, call)
 
 

@@ -8,7 +8,8 @@
 - A collective in which all processes wait for all is a fence. Any other is names: each process
   waits for those whose data it needs.
 - An end that another run may have found open, since a poll succeeded or it was one of several,
-  orders nothing with --strict. Nor does a message whose peer one of any source may have named.
+  orders nothing with --strict. Nor does a message whose peer may have been named by one of any
+  source, or by the first of several requests.
 
 Which receive got which message is found by messages.py; where that isn't certain, nothing is
 ordered, and the head of the plan says so.

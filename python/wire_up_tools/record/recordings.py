@@ -91,8 +91,9 @@ class Recording:
     `others` counts the calls that are only counted, by their names; `polls` those that found
     nothing before another call; `unseen` what called MPI past
     the recorder, and `unseen_pmix` what called PMIx so, by what is said of it. `outer` has the
-    number of the place at which the function of a place was called. A process that `has_finalized`
-    has called nothing after PMIx_Finalize; the last line of a recording that `is_cut` was dropped.
+    number of the place at which the function of a place was called; `awaited_elsewhere` counts the
+    calls of MPI that another thread waited for. A process that `has_finalized` has called nothing
+    after PMIx_Finalize; the last line of a recording that `is_cut` was dropped.
     """
 
     path: str
@@ -110,6 +111,7 @@ class Recording:
     communicators: Mapping[int, RecordedCommunicator]
     places: Mapping[str, Place]
     outer: Mapping[str, str]
+    awaited_elsewhere: int
     has_finalized: bool
     is_cut: bool
 
@@ -195,6 +197,7 @@ class Records:
     communicators: dict[int, RecordedCommunicator] = field(default_factory=dict)
     places: dict[str, Place] = field(default_factory=dict)
     outer: dict[str, str] = field(default_factory=dict)
+    awaited_elsewhere: int = 0
     has_finalized: bool = False
 
     def read(self, number: int, line: str) -> None:
@@ -211,7 +214,7 @@ class Records:
                 place = self.words.setdefault(place, place) if place else None
                 self.begin(call, Call(read_begin(text), number, thread, place, None, None))
             elif sign == "-":
-                self.end(call, number, text)
+                self.end(call, number, thread, text)
             else:
                 self.note(number, text)
         except (ValueError, KeyError):
@@ -225,12 +228,14 @@ class Records:
         self.calls.append(call)
         self.has_finalized = False
 
-    def end(self, call: str, number: int, text: str) -> None:
+    def end(self, call: str, number: int, thread: str, text: str) -> None:
         """Takes the end of a call. Raises Refused or ValueError."""
         opened = self.opened.pop(call, None)
         if not opened:
             refuse(self.path, number, "ends a call that isn't open")
         opened.finish(number, read_end(opened.action.verb, text))
+        if thread != opened.thread and not opened.is_of_pmix:
+            self.awaited_elsewhere += 1
 
     def note(self, number: int, text: str) -> None:
         """Takes what isn't a call, of a line. Raises ValueError or KeyError."""
@@ -320,6 +325,7 @@ def read_recording(path: str, data: bytes) -> Recording:
         communicators=records.communicators,
         places=records.places,
         outer=records.outer,
+        awaited_elsewhere=records.awaited_elsewhere,
         has_finalized=records.has_finalized,
         is_cut=end < len(data),
     )
