@@ -40,6 +40,7 @@ class SuiteTest(unittest.TestCase):
         plain = make_run(0, "b\na took 1.5 s\n")
         for other, said in (
             (make_run(0, "a took 2 s\nb\n", "wire_up-record: in part\n"), ""),
+            (make_run(0, "a took 2 s\nb\n", "[n0:1] [ 2] record-mpi.so(+0x1)[0x2]\n"), ""),
             (make_run(1, "a took 2 s\nb\n"), "status 1, not 0"),
             (make_run(125, "a took 2 s\nb\n", "wire_up-record: no plan\n"), ""),
             (make_run(0, "a took 2 s\nc\n"), "output: c"),

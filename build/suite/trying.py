@@ -32,6 +32,8 @@ NO_PLAN = 125
 OWN_LINE = re.compile(r"^wire_up-record: (.*)$", re.M)
 ENDED = re.compile(r"the command ended (?:with status|by signal) (\d+)")
 IN_PART = "holds only in part"
+# What Open MPI says of a function that a process was in when it crashed: the recorder's, too.
+FRAME = re.compile(r"^\[\S+:\d+\] \[ *\d+\] .*$", re.M)
 # What differs from run to run in any program: numbers, such as times, addresses and processes.
 NUMBER = re.compile(r"0x[0-9a-fA-F]+|\d+(?:\.\d+)?(?:e[-+]\d+)?")
 
@@ -47,8 +49,9 @@ class Ran:
 
     @property
     def lines(self) -> tuple[Sequence[str], Sequence[str]]:
-        """What it wrote, in any order, without numbers and without the recorder's own lines."""
-        said = OWN_LINE.sub("", self.said)
+        """What it wrote, in any order, without numbers, the recorder's own lines, and the functions
+        in which it crashed."""
+        said = FRAME.sub("", OWN_LINE.sub("", self.said))
         return sort_lines(self.wrote), sort_lines(said)
 
 
