@@ -38,8 +38,9 @@ class Program:
     many where MPI's order is left out. `said` is what the recorder says where it runs, and
     `in_part` why a verdict over its recording holds only in part. `words` are what runs it, if that
     isn't its name. `luck` counts the ends that were left to luck, without which there is one more
-    finding, and `received` the receives that could have got another message; `poll` is the function
-    by which one poll found nothing before another call. `is_replayed` says that the replay of the
+    finding, `received` the receives that could have got another message, and `first` those that were
+    the first of several requests; `poll` is the function by which one poll found nothing before
+    another call. `is_replayed` says that the replay of the
     plan answers as the program was answered."""
 
     processes: int
@@ -50,6 +51,7 @@ class Program:
     words: tuple[str, ...] = ()
     luck: int = 0
     received: int = 0
+    first: int = 0
     poll: str = ""
     is_replayed: bool = True
 
@@ -63,10 +65,12 @@ class Program:
 
     def says_otherwise(self, with_mpi: bool = True) -> str:
         """What the recorder says of a poll that found nothing and, with MPI's order, of receives
-        that could have got another message."""
+        that could have got another message or were the first of several requests."""
         told = [f"1 calls of {self.poll} that found nothing"] if self.poll else []
         if self.received and with_mpi:
             told.append(f"{self.received} receives that could have got another message")
+        if self.first and with_mpi:
+            told.append(f"{self.first} receives that were the first of several requests")
         said = f"wire_up-record: {', '.join(told)}: another run may do otherwise after them\n"
         return said if told else ""
 
@@ -138,7 +142,7 @@ DIRECT = {
 # Those of `luck`.
 LUCK = {
     "cancelled": Program(2, 0, 1, luck=1, poll="MPI_Iprobe"),
-    "several": Program(3, 0, 1, luck=2),
+    "several": Program(3, 0, 1, luck=2, first=1),
     "asked": Program(2, 0, 1, luck=1),
     "nothing": Program(2, 0, 1, poll="MPI_Iprobe"),
     "header": Program(3, 0, 1, luck=2, received=2),

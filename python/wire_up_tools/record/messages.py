@@ -377,13 +377,16 @@ class Inbox:
         return {}
 
 
+def is_one_of_some(call: Call) -> bool:
+    """Whether a call was the first of several requests to get its message."""
+    return isinstance(call.end, MessageEnd) and call.end.found_by is FoundBy.SOME
+
+
 def is_found_by_luck(own: Communicator, asked: Union[Receive, Probe], call: Call) -> bool:
     """Whether it was luck of whom a message came that was asked for: of any, or by one of several
     requests. Of a communicator of two, who isn't oneself is known."""
-    end = call.end
-    is_one_of_some = isinstance(end, MessageEnd) and end.found_by is FoundBy.SOME
     others = len(own.peers) - (not own.has_two_sides)
-    return (asked.source is None or is_one_of_some) and others > 1
+    return (asked.source is None or is_one_of_some(call)) and others > 1
 
 
 class Found:
@@ -431,6 +434,8 @@ class Inboxes:
         is_open = isinstance(asked, Receive) and call.status is None
         if is_open:
             self.notes.left_out["receives whose end isn't recorded"] += 1
+        if is_one_of_some(call):
+            self.notes.of_luck["receives that were the first of several requests"] += 1
         inbox, end = self.find(own.identity, own.members[own.rank], own.peers), call.end
         source = end.source if isinstance(end, MessageEnd) else -1
         peer = own.peers[source] if 0 <= source < len(own.peers) else None
