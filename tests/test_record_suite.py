@@ -5,7 +5,7 @@ import unittest
 import support
 from build.record_suite import Tried, count_row, make_table, tell
 from build.suite.source import SuiteProgram, read_list
-from build.suite.trying import Outcome, Ran, why_different
+from build.suite.trying import CRASHED, Outcome, Ran, why_different
 
 assert support.TOP, "it says where the package is"
 
@@ -40,13 +40,21 @@ class SuiteTest(unittest.TestCase):
         plain = make_run(0, "b\na took 1.5 s\n")
         for other, said in (
             (make_run(0, "a took 2 s\nb\n", "wire_up-record: in part\n"), ""),
-            (make_run(0, "a took 2 s\nb\n", "[n0:1] [ 2] record-mpi.so(+0x1)[0x2]\n"), ""),
             (make_run(1, "a took 2 s\nb\n"), "status 1, not 0"),
             (make_run(125, "a took 2 s\nb\n", "wire_up-record: no plan\n"), ""),
             (make_run(0, "a took 2 s\nc\n"), "output: c"),
         ):
             with self.subTest(said):
                 self.assertEqual(why_different(plain, other), said)
+
+    def test_crashes(self) -> None:
+        """Where a process crashed is said in other words with the recorder."""
+        plain, recorded = (
+            make_run(139, "", f"[n0:{it}] {CRASHED}\n[n0:{it}] [ {it}] a(+0x{it})[0x2]\n" * it)
+            for it in (1, 2)
+        )
+        self.assertEqual(why_different(plain, recorded), "")
+        self.assertNotEqual(why_different(make_run(139, ""), recorded), "")
 
     def test_table(self) -> None:
         outcomes = [
