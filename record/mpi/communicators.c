@@ -4,8 +4,8 @@
 #include <pthread.h>
 #include <stdlib.h>
 
-#define BUCKETS 256
-static struct communicator *communicators[BUCKETS];
+#define BUCKET_BITS 13
+static struct communicator *communicators[1 << BUCKET_BITS];
 static pthread_mutex_t table = PTHREAD_MUTEX_INITIALIZER;
 static unsigned numbers;
 /* Counts what is kept and forgotten, from 1. */
@@ -21,7 +21,7 @@ static int sessions;
 /* Answers where the communicator of a handle hangs, or would: called with the lock. */
 static struct communicator **find_slot(uintptr_t handle)
 {
-    struct communicator **at = &communicators[((handle >> 4) ^ handle) % BUCKETS];
+    struct communicator **at = &communicators[mix_handle(handle, BUCKET_BITS)];
     while (*at && (*at)->handle != handle)
         at = &(*at)->next;
     return at;

@@ -21,9 +21,8 @@ struct request {
     struct request *next;
 };
 
-#define BUCKET_BITS 12
-#define BUCKETS (1 << BUCKET_BITS)
-static struct request *requests[BUCKETS];
+#define BUCKET_BITS 13
+static struct request *requests[1 << BUCKET_BITS];
 static pthread_mutex_t table = PTHREAD_MUTEX_INITIALIZER;
 
 /* --- the table --- */
@@ -32,7 +31,7 @@ static pthread_mutex_t table = PTHREAD_MUTEX_INITIALIZER;
 static struct request **find_slot(MPI_Request request)
 {
     uintptr_t handle = (uintptr_t)request;
-    struct request **at = &requests[handle * 0x9e3779b97f4a7c15u >> (64 - BUCKET_BITS)];
+    struct request **at = &requests[mix_handle(handle, BUCKET_BITS)];
     while (*at && (*at)->handle != handle)
         at = &(*at)->next;
     return at;
