@@ -90,7 +90,7 @@ note_received(number, result, told, WAITED);
 def take_poll(is_watched: str, has_found: str = "*flag") -> str:
     """C that takes what a poll has found, if it is to be noted."""
     return f"""\
-static struct polls polls = {{.function = "$function"}};
+static struct counter polls = {{.what = POLLS_IN_VAIN, .function = "$function"}};
 if ({is_watched} && result == MPI_SUCCESS)
     wire_up_take_poll(&polls, caller, {has_found});
 """

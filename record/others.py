@@ -61,13 +61,15 @@ NOT_LOCAL = ("MPI_File_get_position_shared",)
 
 NOTES = {
     "MPI": """\
+static struct counter others = {.what = OTHERS, .function = "$function"};
 struct call call = enter_call("$function", caller);
 if (call.is_noted)
-    note_other("$function");
+    wire_up_count(&others);
 """,
     "PMIx": """\
+static struct counter others = {.what = OTHERS, .function = "$function"};
 if (is_noted(caller))
-    note_other("$function");
+    wire_up_count(&others);
 """,
 }
 # What the function makes may have the handle of something that is gone.

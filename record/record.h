@@ -92,19 +92,24 @@ EXPORTED void wire_up_write_numbers(char sign, unsigned long number, struct plac
 EXPORTED void wire_up_write(char sign, unsigned long number, struct place *place,
                             struct text *what);
 
-/* The polls of one function that found nothing, where another call of the process follows: what the
- * program does then, another run may do otherwise. */
-struct polls {
-    const char *function;
+/* Calls of a function that are counted: so many have no records. The count is written with the word
+ * for what they are, whenever it has doubled, and in the end. */
+struct counter {
+    const char *what, *function;
     unsigned long count;
     bool is_listed;
-    struct polls *next;
+    struct counter *next;
 };
+#define POLLS_IN_VAIN "polled"
+#define OTHERS "others"
+
+/* Counts a call. */
+EXPORTED void wire_up_count(struct counter *of);
 
 /* Takes what a poll of the code at `caller` has found. One that finds nothing is counted as soon as
- * this thread makes another call that is noted, unless the same code has found something by then: it
- * has waited. The count is written whenever it has doubled, and in the end. */
-EXPORTED void wire_up_take_poll(struct polls *of, const void *caller, bool has_found);
+ * this thread makes another call that is noted or counted, unless the same code has found something
+ * by then: it has waited. What the program does otherwise, another run may not do. */
+EXPORTED void wire_up_take_poll(struct counter *of, const void *caller, bool has_found);
 
 /* Finds the line in the program that a call comes from which a place makes, through however many
  * calls of libraries, and the functions that called there. Null on a thread that isn't the

@@ -252,6 +252,13 @@ class CallsTest(unittest.TestCase):
         self.assertIn(f"{OTHERWISE_AFTER}\n{said}", plan)
         self.assertIn(f"{LEFT_OUT}\n#   1 calls of MPI_Win_flush\n", plan)
 
+    def test_calls_that_are_counted(self) -> None:
+        """The last count of a process is that of its calls, besides those with a record each."""
+        tape = Tape(0).say("other MPI_Cancel").say("others MPI_Get 1").say("others MPI_Get 2")
+        plan = write_plan_of([tape.say("others MPI_Cancel 4"), Tape(1).say("others MPI_Get 5")])
+        self.assertIn(f"{OTHERWISE_AFTER}\n#   5 calls of MPI_Cancel\n", plan)
+        self.assertIn(f"{LEFT_OUT}\n#   7 calls of MPI_Get\n", plan)
+
     def test_a_wait_of_another_thread(self) -> None:
         """A thread that only waits makes a process one of several threads."""
         for thread in (1, 2):

@@ -3,7 +3,7 @@
  * memory, each line goes out by one `write`. */
 #define _GNU_SOURCE
 #include "core/recording.h"
-#include "core/polls.h"
+#include "core/counters.h"
 #include "core/text.h"
 
 #include <errno.h>
@@ -413,23 +413,31 @@ static void note_place(int file, struct place *place)
     }
 }
 
-/* Writes how many polls of a function found nothing so far. */
-static void write_polls(const struct polls *of, unsigned long count)
+/* Writes how many calls of a function were counted so far. */
+static void write_counted(const struct counter *of, unsigned long count)
 {
     int file = get_file();
     if (file < 0)
         return;
     struct text what;
     wire_up_text_open(&what);
-    wire_up_text_add(&what, "polled %s %lu", of->function, count);
+    wire_up_text_add(&what, "%s %s %lu", of->what, of->function, count);
     write_line(file, '=', 0, 0, &what);
     wire_up_text_close(&what);
 }
 
-void write_all_polls(void)
+void write_all_counts(void)
 {
-    count_polls(write_polls);
-    list_polls(write_polls);
+    count_polls(write_counted);
+    write_counts(write_counted);
+}
+
+void wire_up_count(struct counter *of)
+{
+    if (get_file() < 0)
+        return;
+    count_polls(write_counted);
+    count_call(of, write_counted);
 }
 
 void trim_recording(void)
@@ -452,7 +460,7 @@ __attribute__((destructor)) static void trim_at_exit(void) { trim_recording(); }
 static void write_what_is_new(int file, char sign, struct place *place)
 {
     if (open_polls && sign != '-')
-        count_polls(write_polls);
+        count_polls(write_counted);
     if (place && !__atomic_load_n(&place->is_noted, __ATOMIC_RELAXED))
         note_place(file, place);
 }

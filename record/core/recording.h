@@ -19,8 +19,8 @@ bool has_recording(void);
  * it is of. Says on standard error where this fails. */
 void open_recording(const struct identity *me);
 
-/* Writes how many polls of each function found nothing. */
-void write_all_polls(void);
+/* Writes how many calls of each function were counted. */
+void write_all_counts(void);
 
 /* Cuts the file behind what is written, until more comes. */
 void trim_recording(void);

@@ -135,6 +135,7 @@ class Recording:
 PLAIN = {
     "finalize": re.compile(r"finalize"),
     "other": re.compile(r"other (.+)"),
+    "others": re.compile(r"others (\w+) (\d{1,18})"),
     "polled": re.compile(r"polled (MPI_\w+) (\d{1,18})"),
     "unseen": re.compile(rf"unseen (call|object|pmix) ({WORD})"),
     "world": re.compile(r"world (\d{1,9}) (\d{1,9})"),
@@ -190,6 +191,7 @@ class Records:
     opened: dict[str, Call] = field(default_factory=dict)
     words: dict[str, str] = field(default_factory=dict)
     others: Counter[str] = field(default_factory=Counter)
+    counted: dict[str, int] = field(default_factory=dict)
     polls: dict[str, int] = field(default_factory=dict)
     unseen: Counter[str] = field(default_factory=Counter)
     unseen_pmix: Counter[str] = field(default_factory=Counter)
@@ -244,11 +246,12 @@ class Records:
         self.has_finalized = verb == "finalize"
         if verb == "other":
             self.others[groups[0]] += 1
-        elif verb == "polled":
-            self.polls[groups[0]] = max(int(groups[1]), self.polls.get(groups[0], 0))
+        elif verb in ("others", "polled"):
+            counts = self.counted if verb == "others" else self.polls
+            counts[groups[0]] = max(int(groups[1]), counts.get(groups[0], 0))
         elif verb == "unseen":
-            counts = self.unseen_pmix if groups[0] == OF_PMIX else self.unseen
-            counts[read_unseen(groups)] += 1
+            unseen = self.unseen_pmix if groups[0] == OF_PMIX else self.unseen
+            unseen[read_unseen(groups)] += 1
         elif verb == "world":
             self.world = World(int(groups[0]), int(groups[1]), number)
         elif verb in ("comm", "inter"):
@@ -317,7 +320,7 @@ def read_recording(path: str, data: bytes) -> Recording:
         library=head.library,
         began=head.began,
         calls=records.calls,
-        others=records.others,
+        others=records.others + Counter(records.counted),
         polls=records.polls,
         unseen=records.unseen,
         unseen_pmix=records.unseen_pmix,
