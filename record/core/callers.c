@@ -105,6 +105,7 @@ struct place *wire_up_place_called(struct place *place, const void *frame)
     if (is_known && __atomic_fetch_add(&walked, 1, __ATOMIC_RELAXED) > MOST_WALKS)
         return wire_up_in_python(place);
     struct walk it = {.caller = place->address, .frame = frame};
+    note_past_if_loaded();
     walk_frames(&it, place);
     struct walk *kept = it.is_kept ? find_slot(it.caller, frame) : NULL;
     if (kept)

@@ -25,6 +25,10 @@ _Unwind_Reason_Code keep_frame(struct _Unwind_Context *frame, void *to);
 /* The place of the first of these, called at those of the others; null where there are none. */
 struct place *join_frames(const struct frames *found);
 
+/* Notes what wire_up_note_past does, if objects were loaded since: another library may take the
+ * calls of dlclose. */
+void note_past_if_loaded(void);
+
 /* Finds where in the program a call comes from that the code at `caller` makes, through however many
  * calls of libraries. Null on a thread that isn't the program's. The frame is that of the wrapper. */
 static inline struct place *find_origin(const void *caller, const void *frame)
