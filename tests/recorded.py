@@ -38,10 +38,10 @@ class Program:
     many where MPI's order is left out. `said` is what the recorder says where it runs, and
     `in_part` why a verdict over its recording holds only in part. `words` are what runs it, if that
     isn't its name. `luck` counts the ends that were left to luck, without which there is one more
-    finding, `received` the receives that could have got another message, and `first` those that were
-    the first of several requests; `poll` is the function by which one poll found nothing before
-    another call. `is_replayed` says that the replay of the
-    plan answers as the program was answered."""
+    finding, `received` the receives that could have got another message, and `first` those that
+    were the first of several requests; `poll` is the function by which one poll found nothing
+    before another call. `is_replayed` says that the replay of the plan answers as the program was
+    answered."""
 
     processes: int
     findings: int
