@@ -11,7 +11,8 @@ export PYTHONDONTWRITEBYTECODE = 1
 
 MPICC ?= mpicc
 CFLAGS ?= -O2 -Wall -Wextra
-SHARED = -std=gnu11 $(CFLAGS) -shared -fPIC -fvisibility=hidden -pthread -Irecord
+SHARED = -std=gnu11 $(CFLAGS) -shared -fPIC -fvisibility=hidden -ftls-model=initial-exec -pthread \
+	-Irecord
 
 # An example without proofs, then the proof, and the same example by the proved ./wire_up.
 run:

@@ -87,11 +87,20 @@ note_received(number, result, told, WAITED);
 }
 
 
+def take_poll(is_watched: str, has_found: str = "*flag") -> str:
+    """C that takes what a poll has found, if it is to be noted."""
+    return f"""\
+static struct counter polls = {{.what = POLLS_IN_VAIN, .function = "$function"}};
+if ({is_watched} && result == MPI_SUCCESS)
+    wire_up_take_poll(&polls, caller, {has_found});
+"""
+
+
 def shape_poll(note: str) -> Shape:
-    """A probe that doesn't wait. One that found nothing isn't noted."""
+    """A probe that doesn't wait. One that found nothing isn't noted, but counted."""
     return Shape(CALL + """\
 bool is_watched = call.is_noted;
-""" + WATCH_STATUS, f"""\
+""" + WATCH_STATUS, take_poll("is_watched") + f"""\
 if (call.is_noted && result == MPI_SUCCESS && *flag)
     note_received({note}(&call, (struct envelope){{comm, from, tag}}), result, told, POLLED);
 """, TOLD)
@@ -125,9 +134,16 @@ if (call.is_noted && request)
 if (is_watched)
     note_complete(before, result, told, WAITED);
 """, TOLD),
-    "test": Shape(WATCH_REQUEST, """\
+    "test": Shape(WATCH_REQUEST, take_poll("is_watched") + """\
 if (is_watched && (result != MPI_SUCCESS || *flag))
     note_complete(before, result, told, POLLED);
+""", TOLD),
+    # The request stays, but it has nothing open any more.
+    "ask-request": Shape(CALL + """\
+bool is_watched = call.is_noted;
+""" + WATCH_STATUS, take_poll("is_watched") + """\
+if (is_watched && result == MPI_SUCCESS && *flag)
+    note_complete(request, result, told, POLLED);
 """, TOLD),
 }
 
@@ -143,9 +159,16 @@ MPI_Status *told = choose_status(watch.is_on, status, &own);
 """
 
 
-def shape_some(how: str) -> Shape:
+# Which of several sends is over first, other processes decide.
+NOTE_SENDS = """\
+if (are_sends(&call, &watch, count, requests))
+    note_other("$function of sends");
+"""
+
+
+def shape_some(how: str, after: str, before: str = "") -> Shape:
     """A call that completes some of several requests."""
-    return Shape(WATCH_ALL, f"""\
+    return Shape(WATCH_ALL + before, after + f"""\
 int some = note_some_complete(&watch, result, ended, indices, told, {how});
 result = end_watch(&watch, result, some);
 """, TOLD_ALL)
@@ -156,20 +179,20 @@ SEVERAL_REQUESTS = {
 note_all_complete(&watch, result, told, WAITED);
 result = end_watch(&watch, result, count);
 """, TOLD_ALL),
-    "test-all": Shape(WATCH_ALL, """\
+    "test-all": Shape(WATCH_ALL, take_poll("call.is_noted") + """\
 if (watch.is_on && (result == MPI_ERR_IN_STATUS || (result == MPI_SUCCESS && *flag)))
     note_all_complete(&watch, result, told, POLLED);
 result = end_watch(&watch, result, count);
 """, TOLD_ALL),
-    "wait-some": shape_some("name_wait(&watch)"),
-    "test-some": shape_some("POLLED"),
-    "wait-any": Shape(WATCH_ANY, """\
+    "wait-some": shape_some("name_wait(&watch)", "", NOTE_SENDS),
+    "test-some": shape_some("name_poll(&watch)", take_poll("call.is_noted", "*ended != 0")),
+    "wait-any": Shape(WATCH_ANY + NOTE_SENDS, """\
 note_one_complete(&watch, result, which, told, name_wait(&watch));
 result = end_watch(&watch, result, 0);
 """, TOLD),
-    "test-any": Shape(WATCH_ANY, """\
+    "test-any": Shape(WATCH_ANY, take_poll("call.is_noted") + """\
 if (watch.is_on && flag && *flag)
-    note_one_complete(&watch, result, which, told, POLLED);
+    note_one_complete(&watch, result, which, told, name_poll(&watch));
 result = end_watch(&watch, result, 0);
 """, TOLD),
 }
@@ -305,7 +328,7 @@ note_completion(&call, window);
     "wait-epoch": Shape(CALL, """\
 note_awaited(&call, result, window, WAITED);
 """),
-    "test-epoch": Shape(CALL, """\
+    "test-epoch": Shape(CALL, take_poll("call.is_noted") + """\
 if (result == MPI_SUCCESS && *flag)
     note_awaited(&call, result, window, POLLED);
 """),

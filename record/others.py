@@ -23,7 +23,7 @@ LOCAL = {
         r"(Comm|Win|File)_(get_\w+|call_errhandler|\w+_errhandler|\w+_keyval|\w+_attr|set_name)",
         r"(Cart|Graph|Dist_graph|Dims|Cartdim|Graphdims)_?\w*",
         r"Comm_(group|rank|size|compare|remote_group|remote_size|test_inter)",
-        r"Win_(attach|detach|sync|shared_query)",
+        r"Win_(attach|detach|sync)",
         r"Topo_test",
         r"(Pack|Unpack)\w*",
         r"Get_(address|count|elements|elements_x|library_version|processor_name|version)",
@@ -61,13 +61,15 @@ NOT_LOCAL = ("MPI_File_get_position_shared",)
 
 NOTES = {
     "MPI": """\
+static struct counter others = {.what = OTHERS, .function = "$function"};
 struct call call = enter_call("$function", caller);
 if (call.is_noted)
-    note_other("$function");
+    wire_up_count(&others);
 """,
     "PMIx": """\
+static struct counter others = {.what = OTHERS, .function = "$function"};
 if (is_noted(caller))
-    note_other("$function");
+    wire_up_count(&others);
 """,
 }
 # What the function makes may have the handle of something that is gone.

@@ -8,7 +8,8 @@ def write_begin(form: str, note: str) -> str:
     return f"""\
 unsigned long number = 0;
 if (is_noted(caller)) {{
-    struct call call = {{.form = {form}, .place = find_place_in_program()}};
+    struct call call = {{.form = {form}}};
+    call.place = find_origin(caller, __builtin_frame_address(0));
     number = {note};
 }}
 """

@@ -74,14 +74,50 @@ EXPORTED const void *wire_up_base(const void *address);
 /* Finds the line of Python that called, where the place is in mpi4py; else answers the place. */
 EXPORTED struct place *wire_up_in_python(struct place *place);
 
-/* Writes one record: a sign (+ a call begins, - it ended, = anything else), the number, the thread,
- * the time, the place if there is one, and the text. */
-EXPORTED void wire_up_write(char sign, unsigned long number, struct place *place,
-                            const struct text *what);
+/* The text of a record that has a word, some numbers, and then another word, if there is one. Most
+ * records of MPI are such: they are written at less cost. */
+#define MOST_NUMBERS 4
+#define ANY_NUMBER (-0x7fffffffffffffffLL - 1)
+struct numbers {
+    const char *first;
+    long long at[MOST_NUMBERS]; /* ANY_NUMBER is written as `any` */
+    size_t count;
+    const char *last;
+};
+EXPORTED void wire_up_write_numbers(char sign, unsigned long number, struct place *place,
+                                    const struct numbers *what);
 
-/* Finds the line in the program that this call comes from, through however many calls of libraries.
- * Null on a thread that isn't the program's. */
-EXPORTED struct place *wire_up_place_behind(void);
+/* Writes one record: a sign (+ a call begins, - it ended, = anything else), the number, the thread,
+ * the time, the place if there is one, and the text, to which the end of the line is added. */
+EXPORTED void wire_up_write(char sign, unsigned long number, struct place *place,
+                            struct text *what);
+
+/* Calls of a function that are counted: so many have no records. The count is written with the word
+ * for what they are, whenever it has doubled, and in the end. */
+struct counter {
+    const char *what, *function;
+    unsigned long count;
+    bool is_listed;
+    struct counter *next;
+};
+#define POLLS_IN_VAIN "polled"
+#define OTHERS "others"
+
+/* Counts a call. */
+EXPORTED void wire_up_count(struct counter *of);
+
+/* Takes what a poll of the code at `caller` has found. One that finds nothing is counted as soon as
+ * this thread makes another call that is noted or counted, unless the same code has found something
+ * by then: it has waited. What the program does otherwise, another run may not do. */
+EXPORTED void wire_up_take_poll(struct counter *of, const void *caller, bool has_found);
+
+/* Finds the line in the program that a call comes from which a place makes, through however many
+ * calls of libraries, and the functions that called there. Null on a thread that isn't the
+ * program's. The frame is that of the function which asks. */
+EXPORTED struct place *wire_up_place_called(struct place *place, const void *frame);
+
+/* Finds that line again, where the code at `caller` was called by the same functions before. */
+EXPORTED bool wire_up_recall_place(const void *caller, const void *frame, struct place **line);
 
 /* Notes each object of the program that is bound to functions of MPI or PMIx for which the recorder
  * has its own: it was opened so that it finds the library first. */

@@ -38,8 +38,10 @@ class Program:
     many where MPI's order is left out. `said` is what the recorder says where it runs, and
     `in_part` why a verdict over its recording holds only in part. `words` are what runs it, if that
     isn't its name. `luck` counts the ends that were left to luck, without which there is one more
-    finding, and `received` the receives that could have got another message. `is_replayed` says
-    that the replay of the plan answers as the program was answered."""
+    finding, `received` the receives that could have got another message, and `first` those that
+    were the first of several requests; `poll` is the function by which one poll found nothing
+    before another call. `is_replayed` says that the replay of the plan answers as the program was
+    answered."""
 
     processes: int
     findings: int
@@ -49,6 +51,8 @@ class Program:
     words: tuple[str, ...] = ()
     luck: int = 0
     received: int = 0
+    first: int = 0
+    poll: str = ""
     is_replayed: bool = True
 
     @property
@@ -59,13 +63,16 @@ class Program:
         both = f"findings {self.findings}, and findings {self.findings + 1} with --strict"
         return f"wire_up-record: {both}, which takes nothing from {self.luck} ends of requests\n"
 
-    @property
-    def says_received(self) -> str:
-        """What the recorder says of receives that could have got another message."""
-        if not self.received:
-            return ""
-        what = "receives that could have got another message"
-        return f"wire_up-record: {self.received} {what}: another run may do otherwise after them\n"
+    def says_otherwise(self, with_mpi: bool = True) -> str:
+        """What the recorder says of a poll that found nothing and, with MPI's order, of receives
+        that could have got another message or were the first of several requests."""
+        told = [f"1 calls of {self.poll} that found nothing"] if self.poll else []
+        if self.received and with_mpi:
+            told.append(f"{self.received} receives that could have got another message")
+        if self.first and with_mpi:
+            told.append(f"{self.first} receives that were the first of several requests")
+        said = f"wire_up-record: {', '.join(told)}: another run may do otherwise after them\n"
+        return said if told else ""
 
     @property
     def says_in_part(self) -> str:
@@ -134,7 +141,10 @@ DIRECT = {
 }
 # Those of `luck`.
 LUCK = {
-    "cancelled": Program(2, 0, 1, luck=1),
+    "cancelled": Program(2, 0, 1, luck=1, poll="MPI_Iprobe"),
+    "several": Program(3, 0, 1, luck=2, first=1),
+    "asked": Program(2, 0, 1, luck=1),
+    "nothing": Program(2, 0, 1, poll="MPI_Iprobe"),
     "header": Program(3, 0, 1, luck=2, received=2),
     "answer": Program(3, 0, 1, luck=2, received=2),
     "once": Program(2, 0, 1, IN_PART, f"{IN_PART}{GOES_AWAY}", is_replayed=False),

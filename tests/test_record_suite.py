@@ -5,7 +5,7 @@ import unittest
 import support
 from build.record_suite import Tried, count_row, make_table, tell
 from build.suite.source import SuiteProgram, read_list
-from build.suite.trying import Outcome, Ran, why_different
+from build.suite.trying import CRASHED, Outcome, Ran, why_different
 
 assert support.TOP, "it says where the package is"
 
@@ -46,6 +46,15 @@ class SuiteTest(unittest.TestCase):
         ):
             with self.subTest(said):
                 self.assertEqual(why_different(plain, other), said)
+
+    def test_crashes(self) -> None:
+        """Where a process crashed is said in other words with the recorder."""
+        plain, recorded = (
+            make_run(139, "", f"[n0:{it}] {CRASHED}\n[n0:{it}] [ {it}] a(+0x{it})[0x2]\n" * it)
+            for it in (1, 2)
+        )
+        self.assertEqual(why_different(plain, recorded), "")
+        self.assertNotEqual(why_different(make_run(139, ""), recorded), "")
 
     def test_table(self) -> None:
         outcomes = [

@@ -4,7 +4,7 @@ from collections.abc import Sequence
 from dataclasses import dataclass
 from typing import Optional
 
-from tapes import Recorded, Tape, read_scripts, write_plan_of
+from tapes import Recorded, Tape, make_world, read_scripts, write_plan_of
 from wire_up_tools.words import LEFT_OUT, MORE_ORDERED, OTHERWISE_AFTER
 
 PUT, COMMIT, FENCE = ("put global k text:v", "0"), ("commit", "0"), ("fence blocks all -", "0")
@@ -243,9 +243,43 @@ class CallsTest(unittest.TestCase):
 
     def test_calls_whose_result_depends_on_speed(self) -> None:
         """They are told apart from calls that are left out."""
-        plan = write_plan_of([Tape(0).say("other MPI_Fetch_and_op").say("other MPI_Win_flush")])
-        self.assertIn(f"{OTHERWISE_AFTER}\n#   1 calls of MPI_Fetch_and_op\n", plan)
+        names = ("Cancel of a receive", "Fetch_and_op", "Waitany of sends", "Win_lock_all")
+        tape = Tape(0).say("other MPI_Win_flush")
+        for name in names:
+            tape.say(f"other MPI_{name}")
+        plan = write_plan_of([tape])
+        said = "".join(f"#   1 calls of MPI_{it}\n" for it in names)
+        self.assertIn(f"{OTHERWISE_AFTER}\n{said}", plan)
         self.assertIn(f"{LEFT_OUT}\n#   1 calls of MPI_Win_flush\n", plan)
+
+    def test_calls_that_are_counted(self) -> None:
+        """The last count of a process is that of its calls, besides those with a record each."""
+        tape = Tape(0).say("other MPI_Cancel").say("others MPI_Get 1").say("others MPI_Get 2")
+        plan = write_plan_of([tape.say("others MPI_Cancel 4"), Tape(1).say("others MPI_Get 5")])
+        self.assertIn(f"{OTHERWISE_AFTER}\n#   5 calls of MPI_Cancel\n", plan)
+        self.assertIn(f"{LEFT_OUT}\n#   7 calls of MPI_Get\n", plan)
+
+    def test_a_wait_of_another_thread(self) -> None:
+        """A thread that only waits makes a process one of several threads."""
+        for thread in (1, 2):
+            with self.subTest(thread=thread):
+                first, second = make_world(2)
+                number = first.begin("receive 1 1 0")
+                first.thread = thread
+                first.end(number, "0 1 0 4 wait")
+                second.begin("send 1 0 0 4")
+                plan = write_plan_of([first, second])
+                said = "1 processes that called from several threads" in plan
+                self.assertEqual(said, thread == 2)
+
+    def test_polls_that_found_nothing(self) -> None:
+        """The last count of a process is that of all its polls by a function."""
+        first = Tape(0).say("polled MPI_Test 1").say("polled MPI_Test 2").say("polled MPI_Test 3")
+        second = Tape(1).say("polled MPI_Iprobe 1").say("polled MPI_Test 4")
+        plan = write_plan_of([first, second])
+        told = ("1 calls of MPI_Iprobe", "7 calls of MPI_Test")
+        said = "".join(f"#   {it} that found nothing\n" for it in told)
+        self.assertIn(f"{OTHERWISE_AFTER}\n{said}", plan)
 
     def test_a_name_that_goes_away(self) -> None:
         """At its first read, if another may look it up, or with its process."""

@@ -187,7 +187,7 @@ class CasesTest(LiveTest):
         words = ["--checker", self.program or "/dev/null", "--answers", self.answers]
         ran = self.record(*words, *mpirun(of.processes, self.compile(compiled), name))
         self.assertEqual((ran.returncode, ran.stdout), (0, f"{name} done\n"), ran.stderr[:300])
-        said = of.said or of.says_received + (of.says_both if self.program else "")
+        said = of.said or of.says_otherwise() + (of.says_both if self.program else "")
         self.assertIn(said, ran.stderr)
         self.assertTrue(said or not ran.stderr, ran.stderr[:300])
         if self.program:
@@ -234,6 +234,15 @@ class CasesTest(LiveTest):
         self.assertIn("wild(", main)
         self.assertIn('look_up("first")', wild)
         self.assertIn("MPI_Lookup_name", look_up)
+
+    def test_callers(self) -> None:
+        """Messages lead to those that called a helper, also where the stack is the same."""
+        if not shutil.which("addr2line"):
+            self.skipTest("there is no addr2line")
+        self.record(*mpirun(2, self.compile("callers")))
+        form = r"# at main \(callers\.c:\d+\) -> (\w+) \(callers\.c:\d+\) -> hand "
+        found = re.findall(form, read_file(self.plan))
+        self.assertEqual(found, ["first", "second", "with_room"] * 3 * 2)
 
     def test_strict(self) -> None:
         self.record("--strict", *mpirun(2, self.compile("cases"), "poll"))

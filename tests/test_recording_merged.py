@@ -153,7 +153,7 @@ class MergedTest(unittest.TestCase):
             first, second = (os.path.join(SHIPPED, name) for name in ("wild1", "wild2"))
             ran = run_recorder(*words, "--from", first, "--from", second)
             each = "by themselves they have findings 1, findings 1"
-            received = CASES["wild1"].says_received.replace("2", "4")
+            received = CASES["wild1"].says_otherwise().replace("2", "4")
             said = f"wire_up-record: what the runs share has findings 1; {each}\n"
             self.assertEqual((ran.returncode, ran.stderr), (0, received + said))
             self.assertIn("# 2 runs: ", read_file(plan))

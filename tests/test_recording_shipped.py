@@ -36,7 +36,7 @@ class ShippedTest(unittest.TestCase):
         words = ["-o", self.plan, "--answers", self.answers]
         words += ["--checker", self.program or "/dev/null", *([] if with_mpi else ["--no-mpi"])]
         ran = run_recorder(*words, "--from", os.path.join(tapes.SHIPPED, name))
-        said += of.says_received if with_mpi else ""
+        said += of.says_otherwise(with_mpi)
         said += of.says_both if with_mpi and self.program else ""
         self.assertEqual((ran.returncode, ran.stderr), (0, said))
         if self.program:

@@ -32,6 +32,9 @@ NO_PLAN = 125
 OWN_LINE = re.compile(r"^wire_up-record: (.*)$", re.M)
 ENDED = re.compile(r"the command ended (?:with status|by signal) (\d+)")
 IN_PART = "holds only in part"
+# How Open MPI begins to say where a process crashed. The functions of the recorder are named too,
+# and what several processes say is mixed.
+CRASHED = "*** Process received signal ***"
 # What differs from run to run in any program: numbers, such as times, addresses and processes.
 NUMBER = re.compile(r"0x[0-9a-fA-F]+|\d+(?:\.\d+)?(?:e[-+]\d+)?")
 
@@ -47,8 +50,9 @@ class Ran:
 
     @property
     def lines(self) -> tuple[Sequence[str], Sequence[str]]:
-        """What it wrote, in any order, without numbers and without the recorder's own lines."""
-        said = OWN_LINE.sub("", self.said)
+        """What it wrote, in any order, without numbers and without the recorder's own lines; of a
+        crash that it was one."""
+        said = CRASHED if CRASHED in self.said else OWN_LINE.sub("", self.said)
         return sort_lines(self.wrote), sort_lines(said)
 
 

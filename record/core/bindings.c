@@ -100,6 +100,23 @@ void wire_up_note_past(void)
         dl_iterate_phdr(look_at, NULL);
 }
 
+/* Takes how many objects were loaded so far. */
+static int take_loaded(struct dl_phdr_info *object, size_t size, void *with)
+{
+    (void)size;
+    *(unsigned long long *)with = object->dlpi_adds;
+    return 1;
+}
+
+void note_past_if_loaded(void)
+{
+    static unsigned long long looked_at;
+    unsigned long long loaded = 0;
+    dl_iterate_phdr(take_loaded, &loaded);
+    if (__atomic_exchange_n(&looked_at, loaded, __ATOMIC_RELAXED) != loaded)
+        wire_up_note_past();
+}
+
 /* What is closed can't be looked at when the program ends. */
 EXPORTED int dlclose(void *object)
 {

@@ -164,8 +164,6 @@ struct place *join_frames(const struct frames *found)
     return it;
 }
 
-struct place *wire_up_place_behind(void) { return find_place_in_program(); }
-
 /* Whether a call leads to where an offset says within the object, or to where its table says. A
  * pointer to a function is called in other words. Elsewhere than on x86-64 each call counts as one
  * by name. */

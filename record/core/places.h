@@ -25,13 +25,19 @@ _Unwind_Reason_Code keep_frame(struct _Unwind_Context *frame, void *to);
 /* The place of the first of these, called at those of the others; null where there are none. */
 struct place *join_frames(const struct frames *found);
 
-/* Finds where in the program this call comes from, through however many calls of libraries. Null
- * on a thread that isn't the program's. Inline: a wrapper is the one frame of the recorder. */
-static inline struct place *find_place_in_program(void)
+/* Notes what wire_up_note_past does, if objects were loaded since: another library may take the
+ * calls of dlclose. */
+void note_past_if_loaded(void);
+
+/* Finds where in the program a call comes from that the code at `caller` makes, through however many
+ * calls of libraries. Null on a thread that isn't the program's. The frame is that of the wrapper. */
+static inline struct place *find_origin(const void *caller, const void *frame)
 {
-    struct frames found = {.count = 0};
-    _Unwind_Backtrace(keep_frame, &found);
-    return wire_up_in_python(join_frames(&found));
+    struct place *line;
+    if (wire_up_recall_place(caller, frame, &line))
+        return line;
+    struct place *place = wire_up_place(caller);
+    return place ? wire_up_place_called(place, frame) : NULL;
 }
 
 #endif

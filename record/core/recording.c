@@ -3,6 +3,7 @@
  * memory, each line goes out by one `write`. */
 #define _GNU_SOURCE
 #include "core/recording.h"
+#include "core/counters.h"
 #include "core/text.h"
 
 #include <errno.h>
@@ -36,8 +37,10 @@ static struct {
 static unsigned long calls, threads;
 static __thread unsigned long own_thread;
 
-/* What has been written, and the part of the file that is memory. A signal handler that calls PMIx
- * or MPI finds it locked by its own thread, and is told so. */
+/* Whether this thread writes: a signal handler that calls PMIx or MPI meanwhile is told so. */
+static __thread volatile bool is_writing;
+
+/* What has been written, and the part of the file that is memory. */
 static struct {
     pthread_mutex_t lock;
     char *window; /* null where there is none */
@@ -47,7 +50,7 @@ static struct {
     off_t size;   /* of the file */
     size_t wanted;
     bool has_no_windows;
-} written = {.lock = PTHREAD_ERRORCHECK_MUTEX_INITIALIZER_NP, .wanted = LEAST_WINDOW};
+} written = {.lock = PTHREAD_MUTEX_INITIALIZER, .wanted = LEAST_WINDOW};
 
 /* --- the file --- */
 
@@ -73,14 +76,14 @@ static bool is_still_open(int file)
     return fstat(file, &it) == 0 && it.st_dev == recording.device && it.st_ino == recording.inode;
 }
 
-/* What is done with a file: some bytes are written at its end, or so many are made room for. */
-struct change {
+/* Some bytes that are written to a file; or room for so many, if there are none. */
+struct piece {
     const char *bytes;
     size_t length;
 };
 
-/* Makes a change at an offset. Answers the error, 0 for none. */
-static int change_file(int file, struct change what, off_t at)
+/* Writes a piece at an offset. Answers the error, 0 for none. */
+static int change_file(int file, struct piece what, off_t at)
 {
     if (!what.bytes)
         return posix_fallocate(file, at, (off_t)what.length);
@@ -90,9 +93,9 @@ static int change_file(int file, struct change what, off_t at)
     return (size_t)wrote < what.length ? ENOSPC : 0;
 }
 
-/* Makes a change without the signal that a limit of file sizes brings: the program isn't to see
+/* Writes a piece without the signal that a limit of file sizes brings: the program isn't to see
  * it. */
-static int change_quietly(int file, struct change what, off_t at)
+static int change_quietly(int file, struct piece what, off_t at)
 {
     sigset_t of_size, before, pending;
     sigemptyset(&of_size);
@@ -133,7 +136,7 @@ static int map_up_to(int file, off_t size)
     off_t page = (off_t)sysconf(_SC_PAGESIZE);
     int error = 0;
     if (size > written.size)
-        error = change_quietly(file, (struct change){NULL, (size_t)(size - written.size)},
+        error = change_quietly(file, (struct piece){NULL, (size_t)(size - written.size)},
                                written.size);
     if (error)
         return error;
@@ -167,45 +170,69 @@ static bool has_room(size_t length)
 }
 
 /* Writes bytes at the end by a call of the system. Answers the error, 0 for none. */
-static int write_plainly(int file, const char *bytes, size_t length)
+static int write_plainly(int file, struct piece it)
 {
-    int error = change_quietly(file, (struct change){bytes, length}, written.end);
+    if (!it.length)
+        return 0;
+    int error = change_quietly(file, it, written.end);
     if (!error)
-        written.end += (off_t)length;
+        written.end += (off_t)it.length;
     if (written.size < written.end)
         written.size = written.end;
     return error;
 }
 
-/* Adds bytes at the end. Answers the error, 0 for none. */
-static int add_bytes(int file, const char *bytes, size_t length)
+/* Makes room for bytes at the end. Answers the error, 0 for none. */
+static int make_room(int file, size_t length)
 {
     int error = 0;
-    if (!has_room(length) && !is_still_open(file))
+    if (!is_still_open(file))
         return EBADF;
-    if (!written.has_no_windows && !has_room(length) && !open_window(file, length, &error)) {
+    if (!written.has_no_windows && !open_window(file, length, &error)) {
         if (error == ENOSPC || error == EFBIG || error == EDQUOT)
             return error;
         written.has_no_windows = true;
     }
-    if (written.has_no_windows)
-        return write_plainly(file, bytes, length);
-    memcpy(written.window + (written.end - written.start), bytes, length);
-    written.end += (off_t)length;
     return 0;
 }
 
-/* Writes all bytes, or gives up. */
-static bool write_whole(int file, const char *bytes, size_t length)
+/* Adds bytes in the window, which has room for them. */
+static void add_piece(struct piece it)
 {
-    if (pthread_mutex_lock(&written.lock)) {
+    memcpy(written.window + (written.end - written.start), it.bytes, it.length);
+    written.end += (off_t)it.length;
+}
+
+/* Adds two pieces at the end. Answers the error, 0 for none. */
+static int add_pieces(int file, struct piece first, struct piece second)
+{
+    size_t length = first.length + second.length;
+    int error = has_room(length) ? 0 : make_room(file, length);
+    if (error)
+        return error;
+    if (written.has_no_windows) {
+        error = write_plainly(file, first);
+        return error ? error : write_plainly(file, second);
+    }
+    add_piece(first);
+    add_piece(second);
+    return 0;
+}
+
+/* Writes two pieces, or gives up. */
+static bool write_whole(int file, struct piece first, struct piece second)
+{
+    if (is_writing) {
         give_up("a signal handler called PMIx or MPI while a record was written");
         return false;
     }
-    int error = add_bytes(file, bytes, length);
+    is_writing = true;
+    pthread_mutex_lock(&written.lock);
+    int error = add_pieces(file, first, second);
     if (error)
         trim(file);
     pthread_mutex_unlock(&written.lock);
+    is_writing = false;
     if (error == EBADF)
         give_up("the program closed it");
     else if (error)
@@ -230,7 +257,18 @@ static int get_file(void)
 
 bool wire_up_is_recording(void) { return get_file() >= 0; }
 
-unsigned long wire_up_number(void) { return __atomic_add_fetch(&calls, 1, __ATOMIC_RELAXED); }
+/* Each thread takes some numbers at once. */
+#define NUMBERS_AT_ONCE 64
+static __thread unsigned long next_number, last_number;
+
+unsigned long wire_up_number(void)
+{
+    if (next_number == last_number) {
+        last_number = __atomic_add_fetch(&calls, NUMBERS_AT_ONCE, __ATOMIC_RELAXED);
+        next_number = last_number - NUMBERS_AT_ONCE;
+    }
+    return ++next_number;
+}
 
 /* Answers the number of this thread, which it gets with its first record. */
 static unsigned long number_thread(void)
@@ -240,37 +278,111 @@ static unsigned long number_thread(void)
     return own_thread;
 }
 
-/* Adds the seconds since the file was opened. */
-static void add_time(struct text *to)
+/* A line, or what all begin with, put together from behind. */
+#define LINE_ROOM 256
+struct start {
+    char bytes[LINE_ROOM];
+    char *at;
+};
+
+static void open_start(struct start *it) { it->at = it->bytes + sizeof it->bytes; }
+
+static void put_byte(struct start *it, char byte) { *--it->at = byte; }
+
+static void put_word(struct start *it, const char *word)
 {
-    struct timespec now;
-    clock_gettime(CLOCK_MONOTONIC, &now);
-    long seconds = now.tv_sec - recording.began.tv_sec;
-    long nanoseconds = now.tv_nsec - recording.began.tv_nsec;
-    if (nanoseconds < 0) {
-        seconds--;
-        nanoseconds += 1000000000;
-    }
-    wire_up_text_add(to, "%ld.%06ld", seconds, nanoseconds / 1000);
+    size_t length = strlen(word);
+    it->at -= length;
+    memcpy(it->at, word, length);
 }
 
-/* Writes one line: what all records begin with, the number of the place if it has one, and the
- * text. */
-static void write_line(int file, char sign, unsigned long number, unsigned place,
-                       const struct text *what)
+static void put_signed(struct start *it, long long number)
 {
-    struct text line;
-    wire_up_text_open(&line);
-    wire_up_text_add(&line, "%c %lu %lu ", sign, number, number_thread());
-    add_time(&line);
-    if (place)
-        wire_up_text_add(&line, " @%u", place);
-    wire_up_text_add(&line, " %s\n", what->at);
-    if (line.is_lost || what->is_lost)
-        write_whole(file, "lost\n", 5);
-    else
-        write_whole(file, line.at, line.length);
-    wire_up_text_close(&line);
+    if (number == ANY_NUMBER) {
+        put_word(it, "any");
+    } else if (number < 0) {
+        it->at = put_number(it->at, 0ULL - (unsigned long long)number);
+        put_byte(it, '-');
+    } else {
+        it->at = put_number(it->at, (unsigned long long)number);
+    }
+}
+
+/* A clock that is read in no time: it goes on every few milliseconds. */
+#define CLOCK CLOCK_MONOTONIC_COARSE
+
+/* The number of a thread and the time, as they stand in its records: from ` 1 0.123456` on. */
+struct stamp {
+    struct timespec time;
+    char bytes[64];
+    unsigned start;
+};
+static __thread struct stamp last_stamp;
+
+/* Writes the number of this thread, and the seconds since the file was opened. */
+static void make_stamp(struct stamp *to)
+{
+    long long since = (to->time.tv_sec - recording.began.tv_sec) * 1000000000LL +
+                      to->time.tv_nsec - recording.began.tv_nsec;
+    unsigned microseconds = (unsigned)(since / 1000 % 1000000);
+    /* The first of seven digits gives way to the point. */
+    char *at = put_number(to->bytes + sizeof to->bytes, 1000000 + microseconds);
+    *at = '.';
+    at = put_number(at, (unsigned long long)since / 1000000000);
+    *--at = ' ';
+    at = put_number(at, number_thread());
+    *--at = ' ';
+    to->start = (unsigned)(at - to->bytes);
+}
+
+/* Puts the number of this thread and the time. */
+static void put_stamp(struct start *it)
+{
+    struct stamp *last = &last_stamp;
+    struct timespec now;
+    clock_gettime(CLOCK, &now);
+    if (!last->start || now.tv_nsec != last->time.tv_nsec || now.tv_sec != last->time.tv_sec) {
+        last->time = now;
+        make_stamp(last);
+    }
+    size_t length = sizeof last->bytes - last->start;
+    it->at -= length;
+    memcpy(it->at, last->bytes + last->start, length);
+}
+
+/* Puts the sign, the number, the thread, the time, and the number of the place if it has one. */
+static void put_start(struct start *it, char sign, unsigned long number, unsigned place)
+{
+    put_byte(it, ' ');
+    if (place) {
+        it->at = put_number(it->at, place);
+        put_byte(it, '@');
+        put_byte(it, ' ');
+    }
+    put_stamp(it);
+    it->at = put_number(it->at, number);
+    put_byte(it, ' ');
+    put_byte(it, sign);
+}
+
+/* Answers what is put together as a piece. */
+static struct piece take_start(const struct start *it)
+{
+    return (struct piece){it->at, (size_t)(it->bytes + sizeof it->bytes - it->at)};
+}
+
+/* Writes one line: what all records begin with, and the text, which ends with its line then. */
+static void write_line(int file, char sign, unsigned long number, unsigned place, struct text *what)
+{
+    struct start start;
+    wire_up_text_add(what, "\n");
+    if (what->is_lost) {
+        write_whole(file, (struct piece){"lost\n", 5}, (struct piece){"", 0});
+        return;
+    }
+    open_start(&start);
+    put_start(&start, sign, number, place);
+    write_whole(file, take_start(&start), (struct piece){what->at, what->length});
 }
 
 /* Writes what a place stands for. */
@@ -301,25 +413,88 @@ static void note_place(int file, struct place *place)
     }
 }
 
+/* Writes how many calls of a function were counted so far. */
+static void write_counted(const struct counter *of, unsigned long count)
+{
+    int file = get_file();
+    if (file < 0)
+        return;
+    struct text what;
+    wire_up_text_open(&what);
+    wire_up_text_add(&what, "%s %s %lu", of->what, of->function, count);
+    write_line(file, '=', 0, 0, &what);
+    wire_up_text_close(&what);
+}
+
+void write_all_counts(void)
+{
+    count_polls(write_counted);
+    write_counts(write_counted);
+}
+
+void wire_up_count(struct counter *of)
+{
+    if (get_file() < 0)
+        return;
+    count_polls(write_counted);
+    count_call(of, write_counted);
+}
+
 void trim_recording(void)
 {
     int file = get_file();
-    if (file < 0 || pthread_mutex_lock(&written.lock))
+    if (file < 0 || is_writing)
         return;
+    is_writing = true;
+    pthread_mutex_lock(&written.lock);
     trim(file);
     pthread_mutex_unlock(&written.lock);
+    is_writing = false;
 }
 
 /* What a process writes after this begins a new window. */
 __attribute__((destructor)) static void trim_at_exit(void) { trim_recording(); }
 
-void wire_up_write(char sign, unsigned long number, struct place *place, const struct text *what)
+/* Writes what comes before a record: the polls of the thread that found nothing, where a call
+ * follows, and what its place stands for. */
+static void write_what_is_new(int file, char sign, struct place *place)
+{
+    if (open_polls && sign != '-')
+        count_polls(write_counted);
+    if (place && !__atomic_load_n(&place->is_noted, __ATOMIC_RELAXED))
+        note_place(file, place);
+}
+
+void wire_up_write(char sign, unsigned long number, struct place *place, struct text *what)
 {
     int file = get_file();
     if (file < 0)
         return;
-    note_place(file, place);
+    write_what_is_new(file, sign, place);
     write_line(file, sign, number, place ? place->number : 0, what);
+}
+
+void wire_up_write_numbers(char sign, unsigned long number, struct place *place,
+                           const struct numbers *what)
+{
+    int file = get_file();
+    if (file < 0)
+        return;
+    struct start line;
+    write_what_is_new(file, sign, place);
+    open_start(&line);
+    put_byte(&line, '\n');
+    if (what->last) {
+        put_word(&line, what->last);
+        put_byte(&line, ' ');
+    }
+    for (size_t n = what->count; n > 0; n--) {
+        put_signed(&line, what->at[n - 1]);
+        put_byte(&line, ' ');
+    }
+    put_word(&line, what->first);
+    put_start(&line, sign, number, place ? place->number : 0);
+    write_whole(file, take_start(&line), (struct piece){"", 0});
 }
 
 /* --- opening --- */
@@ -367,7 +542,8 @@ static bool write_head(int file, const struct identity *me, const char *host)
                      (long long)today.tv_sec, today.tv_nsec / 1000);
     add_word(&head, me->version, strlen(me->version));
     wire_up_text_add(&head, "\n");
-    bool is_written = !head.is_lost && write_whole(file, head.at, head.length);
+    struct piece whole = {head.at, head.length};
+    bool is_written = !head.is_lost && write_whole(file, whole, (struct piece){"", 0});
     wire_up_text_close(&head);
     return is_written;
 }
@@ -400,7 +576,7 @@ static void begin_file(int file, const struct identity *me, const char *host)
     recording.inode = it.st_ino;
     recording.process = getpid();
     recording.mark = make_mark();
-    clock_gettime(CLOCK_MONOTONIC, &recording.began);
+    clock_gettime(CLOCK, &recording.began);
     if (write_head(file, me, host)) {
         __atomic_store_n(&recording.file, file, __ATOMIC_RELEASE);
     } else {

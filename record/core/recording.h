@@ -19,6 +19,9 @@ bool has_recording(void);
  * it is of. Says on standard error where this fails. */
 void open_recording(const struct identity *me);
 
+/* Writes how many calls of each function were counted. */
+void write_all_counts(void);
+
 /* Cuts the file behind what is written, until more comes. */
 void trim_recording(void);
 

@@ -46,28 +46,54 @@ static void add_bytes(struct text *to, const char *bytes, size_t length)
         return;
     memcpy(to->at + to->length, bytes, length);
     to->length += length;
-    to->at[to->length] = 0;
+}
+
+static void add_byte(struct text *to, char byte)
+{
+    if (to->length + 1 < to->room || widen(to, 1))
+        to->at[to->length++] = byte;
+}
+
+/* The digits of all numbers up to 99. */
+static const char pairs[] =
+    "00010203040506070809101112131415161718192021222324252627282930313233343536373839404142434445464748"
+    "49505152535455565758596061626364656667686970717273747576777879808182838485868788899091929394959697"
+    "9899";
+
+char *put_number(char *end, unsigned long long number)
+{
+    for (; number >= 100; number /= 100)
+        memcpy(end -= 2, pairs + 2 * (number % 100), 2);
+    if (number >= 10)
+        return memcpy(end - 2, pairs + 2 * number, 2);
+    *--end = (char)('0' + number);
+    return end;
+}
+
+static char *put_hexadecimal(char *end, unsigned long long number)
+{
+    do
+        *--end = "0123456789abcdef"[number & 15];
+    while (number >>= 4);
+    return end;
 }
 
 /* Adds a number, with zeros before it up to a width. */
-static void add_number(struct text *to, unsigned long long number, unsigned base, int width)
+static void add_number(struct text *to, unsigned long long number, bool is_decimal, int width)
 {
-    char digits[24];
-    size_t at = sizeof digits;
-    do {
-        digits[--at] = "0123456789abcdef"[number % base];
-        number /= base;
-        width--;
-    } while (at && (number || width > 0));
-    add_bytes(to, digits + at, sizeof digits - at);
+    char digits[24], *end = digits + sizeof digits;
+    char *at = is_decimal ? put_number(end, number) : put_hexadecimal(end, number);
+    while (end - at < width && at > digits)
+        *--at = '0';
+    add_bytes(to, at, (size_t)(end - at));
 }
 
 static void add_signed(struct text *to, long long number, int width)
 {
     if (number < 0)
-        add_bytes(to, "-", 1);
-    add_number(to, number < 0 ? 0ULL - (unsigned long long)number : (unsigned long long)number, 10,
-               width);
+        add_byte(to, '-');
+    add_number(to, number < 0 ? 0ULL - (unsigned long long)number : (unsigned long long)number,
+               true, width);
 }
 
 /* How a number is written: from `%06ld`, the zeros, the size, and the letter. */
@@ -92,34 +118,36 @@ static const char *read_form(const char *at, struct form *it)
 #define TAKE(words, longs, type) \
     ((longs) > 1 ? va_arg(words, type long long) : (longs) ? va_arg(words, type long) : va_arg(words, type int))
 
-/* A printf of what records need: it is called several times for each of them. */
+/* Adds what a form stands for: the next of the words. */
+static void add_formed(struct text *to, const struct form *form, va_list *words)
+{
+    if (form->letter == 'd') {
+        add_signed(to, TAKE(*words, form->longs, ), form->width);
+    } else if (form->letter == 'u' || form->letter == 'x') {
+        add_number(to, TAKE(*words, form->longs, unsigned), form->letter == 'u', form->width);
+    } else if (form->letter == 's') {
+        const char *word = va_arg(*words, const char *);
+        add_bytes(to, word, strlen(word));
+    } else {
+        add_byte(to, form->letter == 'c' ? (char)va_arg(*words, int) : form->letter);
+    }
+}
+
+/* A printf of what records need: it is called for each of them. */
 void wire_up_text_add(struct text *to, const char *format, ...)
 {
     struct form form;
-    const char *word;
     va_list words;
     va_start(words, format);
-    while (*format) {
-        size_t plain = strcspn(format, "%");
-        add_bytes(to, format, plain);
-        format += plain;
-        if (!*format)
-            break;
-        format = read_form(format + 1, &form);
-        if (form.letter == 'd') {
-            add_signed(to, TAKE(words, form.longs, ), form.width);
-        } else if (form.letter == 'u' || form.letter == 'x') {
-            unsigned base = form.letter == 'x' ? 16 : 10;
-            add_number(to, TAKE(words, form.longs, unsigned), base, form.width);
-        } else if (form.letter == 's') {
-            word = va_arg(words, const char *);
-            add_bytes(to, word, strlen(word));
+    while (*format)
+        if (*format == '%') {
+            format = read_form(format + 1, &form);
+            add_formed(to, &form, &words);
         } else {
-            char one = form.letter == 'c' ? (char)va_arg(words, int) : form.letter;
-            add_bytes(to, &one, 1);
+            add_byte(to, *format++);
         }
-    }
     va_end(words);
+    to->at[to->length] = 0;
 }
 
 static bool stands_plainly(unsigned char byte)

@@ -8,6 +8,9 @@
  * other byte as %XX. No byte at all is %. */
 void add_word(struct text *to, const char *bytes, size_t length);
 
+/* Puts a number before `end`, and answers where it begins. */
+char *put_number(char *end, unsigned long long number);
+
 /* Whether a text begins with another. */
 bool begins_with(const char *text, const char *start);
 

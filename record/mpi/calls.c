@@ -13,26 +13,28 @@ static bool is_watched(struct place *place)
     return !wire_up_is_own(place, OF_MPI) && !wire_up_is_own(place, OF_PMIX);
 }
 
-/* Finds where in the program a call comes from that this place makes: a tool, the bindings of
- * another language, or a library that called back may stand between. */
-static struct place *find_origin(struct place *place)
+/* Whether a call that a place makes can come from the program: a tool, the bindings of another
+ * language, or a library that called back may stand between. */
+static bool has_origin(const struct place *place)
 {
-    if (!place || place->owner == OF_SYSTEM || place->owner == OF_RECORDER)
-        return NULL;
-    return place->owner == OF_PROGRAM ? wire_up_in_python(place) : wire_up_place_behind();
+    return place && place->owner != OF_SYSTEM && place->owner != OF_RECORDER;
 }
 
 struct call enter_call(const char *function, const void *caller)
 {
     struct call call = {.function = function};
+    const void *frame = __builtin_frame_address(0);
     if (!is_mpi_found() || !wire_up_is_recording())
         return call;
-    struct place *place = wire_up_place(caller);
-    call.is_noted = is_watched(place);
-    if (!call.is_noted)
-        return call;
-    call.place = find_origin(place);
-    note_world();
+    call.is_noted = wire_up_recall_place(caller, frame, &call.place);
+    if (!call.is_noted) {
+        struct place *place = wire_up_place(caller);
+        call.is_noted = is_watched(place);
+        if (call.is_noted && has_origin(place))
+            call.place = wire_up_place_called(place, frame);
+    }
+    if (call.is_noted)
+        note_world();
     return call;
 }
 

@@ -4,10 +4,12 @@
 #include <pthread.h>
 #include <stdlib.h>
 
-#define BUCKETS 256
-static struct communicator *communicators[BUCKETS];
+#define BUCKET_BITS 13
+static struct communicator *communicators[1 << BUCKET_BITS];
 static pthread_mutex_t table = PTHREAD_MUTEX_INITIALIZER;
 static unsigned numbers;
+/* Counts what is kept and forgotten, from 1. */
+static unsigned changes = 1;
 
 /* The group of the world: of MPI_COMM_WORLD, once it is noted, or of a session. */
 static MPI_Group world_group;
@@ -19,7 +21,7 @@ static int sessions;
 /* Answers where the communicator of a handle hangs, or would: called with the lock. */
 static struct communicator **find_slot(uintptr_t handle)
 {
-    struct communicator **at = &communicators[((handle >> 4) ^ handle) % BUCKETS];
+    struct communicator **at = &communicators[mix_handle(handle, BUCKET_BITS)];
     while (*at && (*at)->handle != handle)
         at = &(*at)->next;
     return at;
@@ -36,12 +38,28 @@ struct communicator find_communicator(uintptr_t handle)
     return found;
 }
 
+unsigned number_of_communicator(uintptr_t handle)
+{
+    static __thread struct {
+        uintptr_t handle;
+        unsigned number, change;
+    } last;
+    unsigned change = __atomic_load_n(&changes, __ATOMIC_ACQUIRE);
+    if (last.handle != handle || last.change != change) {
+        last.number = find_communicator(handle).number;
+        last.handle = handle;
+        last.change = change;
+    }
+    return last.number;
+}
+
 void forget_communicator(uintptr_t handle)
 {
     pthread_mutex_lock(&table);
     struct communicator **at = find_slot(handle), *it = *at;
     if (it)
         *at = it->next;
+    __atomic_add_fetch(&changes, 1, __ATOMIC_RELEASE);
     pthread_mutex_unlock(&table);
     free(it);
 }
@@ -57,6 +75,7 @@ static void keep_communicator(struct communicator it)
     struct communicator **at = find_slot(it.handle);
     kept->next = *at;
     *at = kept;
+    __atomic_add_fetch(&changes, 1, __ATOMIC_RELEASE);
     pthread_mutex_unlock(&table);
 }
 

@@ -21,6 +21,9 @@ struct communicator {
 /* Answers a copy of what is known of a communicator; its number is 0 where nothing is. */
 struct communicator find_communicator(uintptr_t handle);
 
+/* Answers its number alone, 0 where nothing is known: mostly without a lock. */
+unsigned number_of_communicator(uintptr_t handle);
+
 /* Forgets what had a handle that is free or new. */
 void forget_communicator(uintptr_t handle);
 

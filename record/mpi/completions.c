@@ -52,6 +52,17 @@ const char *name_wait(const struct watch *watch)
     return watch->active > 1 ? ONE_OF_SOME : WAITED;
 }
 
+const char *name_poll(const struct watch *watch)
+{
+    return watch->active > 1 ? ONE_OF_SOME : POLLED;
+}
+
+bool are_sends(const struct call *call, const struct watch *watch, int count,
+               const MPI_Request requests[])
+{
+    return call->is_noted && !watch->is_on && requests && count_active(count, requests) > 1;
+}
+
 /* --- what is complete --- */
 
 /* Answers the result of one of several requests. */

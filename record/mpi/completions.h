@@ -32,8 +32,15 @@ int note_some_complete(const struct watch *watch, int result, const int *ended, 
 void note_one_complete(const struct watch *watch, int result, const int *index,
                        const MPI_Status *status, const char *how);
 
+/* Whether a call that isn't watched has several active requests: sends, mostly. */
+bool are_sends(const struct call *call, const struct watch *watch, int count,
+               const MPI_Request requests[]);
+
 /* Says how a wait for any of the requests ends. */
 const char *name_wait(const struct watch *watch);
+
+/* Says how a poll of any of the requests ends that finds one. */
+const char *name_poll(const struct watch *watch);
 
 /* Ends the watch, and answers the result for the program: where it has no statuses of its own, it
  * is told of the first error of so many requests itself, and not that it stands in a status. */

@@ -7,6 +7,7 @@
 #include "record.h"
 
 #include <mpi.h>
+#include <stdint.h>
 
 /* The functions of MPI that the recorder calls for itself, and the objects that stand for handles
  * where the MPI library has such. */
@@ -41,6 +42,12 @@ void *look_up_function(void **known, const char *name, const void *wrapper, void
  * it in `known`: the address of `no_tool` where there is none. */
 void *look_up_tool(void **known, const char *name, const void *wrapper, void *caller);
 extern char no_tool;
+
+/* Answers a number of so many bits by which a table finds a handle. */
+static inline size_t mix_handle(uintptr_t handle, unsigned bits)
+{
+    return (size_t)(handle * 0x9e3779b97f4a7c15u >> (64 - bits));
+}
 
 /* Answers how many bytes so many elements of a type have. */
 long long count_bytes(MPI_Count count, MPI_Datatype type);

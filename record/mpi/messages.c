@@ -8,41 +8,35 @@ static unsigned find_number(const struct call *call, struct envelope message)
 {
     if (message.rank == MPI_PROC_NULL)
         return 0;
-    unsigned number = find_communicator((uintptr_t)message.comm).number;
+    unsigned number = number_of_communicator((uintptr_t)message.comm);
     if (!number)
         note_other(call->function);
+    return number;
+}
+
+/* Writes that a call begins which has numbers alone, and answers its own. */
+static unsigned long write_begun(const struct call *call, const struct numbers *what)
+{
+    unsigned long number = wire_up_number();
+    wire_up_write_numbers('+', number, call->place, what);
     return number;
 }
 
 unsigned long note_send(const struct call *call, struct envelope to, long long bytes)
 {
     unsigned comm = find_number(call, to);
-    if (!comm)
-        return 0;
-    struct text what;
-    wire_up_text_open(&what);
-    wire_up_text_add(&what, "send %u %d %d %lld", comm, to.rank, to.tag, bytes);
-    return write_begin(call, &what);
+    const struct numbers what = {.first = "send", .at = {comm, to.rank, to.tag, bytes}, .count = 4};
+    return comm ? write_begun(call, &what) : 0;
 }
 
 /* Notes what is asked for: a message of a rank or of any, with a tag or any. */
 static unsigned long note_asked(const struct call *call, const char *verb, struct envelope from)
 {
     unsigned comm = find_number(call, from);
-    if (!comm)
-        return 0;
-    struct text what;
-    wire_up_text_open(&what);
-    wire_up_text_add(&what, "%s %u", verb, comm);
-    if (from.rank == MPI_ANY_SOURCE)
-        wire_up_text_add(&what, " any");
-    else
-        wire_up_text_add(&what, " %d", from.rank);
-    if (from.tag == MPI_ANY_TAG)
-        wire_up_text_add(&what, " any");
-    else
-        wire_up_text_add(&what, " %d", from.tag);
-    return write_begin(call, &what);
+    long long rank = from.rank == MPI_ANY_SOURCE ? ANY_NUMBER : from.rank;
+    long long tag = from.tag == MPI_ANY_TAG ? ANY_NUMBER : from.tag;
+    const struct numbers what = {.first = verb, .at = {comm, rank, tag}, .count = 3};
+    return comm ? write_begun(call, &what) : 0;
 }
 
 unsigned long note_receive(const struct call *call, struct envelope from)
@@ -76,19 +70,22 @@ static long long tell_bytes(const MPI_Status *status)
 #endif
 }
 
+bool is_cancelled(int result, const MPI_Status *status)
+{
+    int is_so = 0;
+    if (result == MPI_SUCCESS)
+        mpi.test_cancelled(status, &is_so);
+    return is_so;
+}
+
 void note_received(unsigned long number, int result, const MPI_Status *status, const char *how)
 {
-    int is_cancelled = 0;
-    struct text what;
+    struct numbers what = {.first = "1"};
     if (!number)
         return;
-    if (result == MPI_SUCCESS)
-        mpi.test_cancelled(status, &is_cancelled);
-    wire_up_text_open(&what);
-    if (result == MPI_SUCCESS && !is_cancelled)
-        wire_up_text_add(&what, "0 %d %d %lld %s", status->MPI_SOURCE, status->MPI_TAG,
-                         tell_bytes(status), how);
-    else
-        wire_up_text_add(&what, "1");
-    write_end(number, &what);
+    if (result == MPI_SUCCESS && !is_cancelled(result, status)) {
+        long long bytes = tell_bytes(status);
+        what = (struct numbers){"0", {status->MPI_SOURCE, status->MPI_TAG, bytes}, 3, how};
+    }
+    wire_up_write_numbers('-', number, NULL, &what);
 }

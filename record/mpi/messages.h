@@ -27,6 +27,9 @@ unsigned long note_probe(const struct call *call, struct envelope from);
 /* Notes that a send ended, for one that ends only when its receive has begun. */
 void note_sent(unsigned long number, int result);
 
+/* Whether a receive that is over got no message, since it was cancelled in time. */
+bool is_cancelled(int result, const MPI_Status *status);
+
 /* Notes how a receive or a probe ended. Nothing where its number is 0. */
 void note_received(unsigned long number, int result, const MPI_Status *status, const char *how);
 

@@ -21,8 +21,8 @@ struct request {
     struct request *next;
 };
 
-#define BUCKETS 256
-static struct request *requests[BUCKETS];
+#define BUCKET_BITS 13
+static struct request *requests[1 << BUCKET_BITS];
 static pthread_mutex_t table = PTHREAD_MUTEX_INITIALIZER;
 
 /* --- the table --- */
@@ -31,7 +31,7 @@ static pthread_mutex_t table = PTHREAD_MUTEX_INITIALIZER;
 static struct request **find_slot(MPI_Request request)
 {
     uintptr_t handle = (uintptr_t)request;
-    struct request **at = &requests[((handle >> 4) ^ handle) % BUCKETS];
+    struct request **at = &requests[mix_handle(handle, BUCKET_BITS)];
     while (*at && (*at)->handle != handle)
         at = &(*at)->next;
     return at;
@@ -47,11 +47,6 @@ static struct request find_request(MPI_Request request)
         found = *it;
     pthread_mutex_unlock(&table);
     return found;
-}
-
-static bool is_persistent(const struct request *it)
-{
-    return it->kind == PERSISTENT_SEND || it->kind == PERSISTENT_RECEIVE;
 }
 
 static void free_request(struct request *it)
@@ -71,22 +66,35 @@ void forget_request(MPI_Request request)
     free_request(it);
 }
 
+/* Makes the request of a handle, which hangs nowhere else: called with the lock. */
+static struct request *hang(struct request **at)
+{
+    struct request *made = malloc(sizeof *made);
+    if (made) {
+        made->next = *at;
+        *at = made;
+    }
+    return made;
+}
+
 /* Keeps a request in place of what had its handle. */
 static void keep(MPI_Request request, struct request what)
 {
-    forget_request(request);
-    struct request *kept = malloc(sizeof *kept);
-    if (!kept) {
-        free(what.sources);
-        return;
-    }
-    *kept = what;
-    kept->handle = (uintptr_t)request;
+    what.handle = (uintptr_t)request;
     pthread_mutex_lock(&table);
     struct request **at = find_slot(request);
-    kept->next = *at;
-    *at = kept;
+    struct request *kept = *at;
+    char *gone = kept ? kept->sources : NULL;
+    if (!kept)
+        kept = hang(at);
+    if (kept) {
+        what.next = kept->next;
+        *kept = what;
+    } else {
+        gone = what.sources;
+    }
     pthread_mutex_unlock(&table);
+    free(gone);
 }
 
 bool is_open(MPI_Request request)
@@ -195,20 +203,19 @@ void note_collected(unsigned long number, int result, const char *sources, const
     write_end(number, &what);
 }
 
-/* Takes a request that is complete off the table, but for one that may be started again. Answers
- * what it was; its number is 0 where nothing was open. What is taken off is put in `gone`. */
-static struct request take_complete(MPI_Request request, struct request **gone)
+/* Takes what a request that is complete was. Its handle keeps its place in the table, with nothing
+ * open: MPI gives the same handles again and again. */
+static struct request take_complete(MPI_Request request)
 {
     struct request done = {.handle = 0};
     pthread_mutex_lock(&table);
-    struct request **at = find_slot(request), *it = *at;
+    struct request *it = *find_slot(request);
     if (it) {
         done = *it;
         it->number = 0;
-    }
-    if (it && !is_persistent(it)) {
-        *at = it->next;
-        *gone = it;
+        it->sources = NULL;
+        if (it->kind == DUPLICATE)
+            it->kind = RECEIVE;
     }
     pthread_mutex_unlock(&table);
     return done;
@@ -216,12 +223,14 @@ static struct request take_complete(MPI_Request request, struct request **gone)
 
 void note_complete(MPI_Request request, int result, const MPI_Status *status, const char *how)
 {
-    struct request *gone = NULL, done = take_complete(request, &gone);
+    struct request done = take_complete(request);
     if (done.handle && done.kind == DUPLICATE && result == MPI_SUCCESS)
         note_duplicate(&done.parent, done.message.comm, done.made);
     else if (done.number && done.kind == COLLECTIVE)
         note_collected(done.number, result, done.sources ? done.sources : "all", how);
     else
         note_received(done.number, result, status, done.is_cancelled ? POLLED : how);
-    free_request(gone);
+    if (done.number && done.is_cancelled && is_cancelled(result, status))
+        note_other("MPI_Cancel of a receive");
+    free(done.sources);
 }

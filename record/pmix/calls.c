@@ -179,14 +179,3 @@ void note_found(unsigned long number, pmix_status_t status, const pmix_pdata_t f
     add_found(&what, found, count);
     write_end(number, &what);
 }
-
-/* --- that are only counted --- */
-
-void note_other(const char *name)
-{
-    struct text what;
-    wire_up_text_open(&what);
-    wire_up_text_add(&what, "other %s", name);
-    wire_up_write('=', 0, NULL, &what);
-    wire_up_text_close(&what);
-}

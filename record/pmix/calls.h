@@ -44,7 +44,4 @@ void note_value(unsigned long number, pmix_status_t status, const pmix_value_t *
 void note_found(unsigned long number, pmix_status_t status, const pmix_pdata_t found[],
                 size_t count);
 
-/* Notes that a function was called that a plan has no word for: it is only counted. */
-void note_other(const char *name);
-
 #endif

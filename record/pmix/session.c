@@ -38,6 +38,7 @@ void leave_session(void)
     if (is_last) {
         struct text what;
         wire_up_note_past();
+        write_all_counts();
         wire_up_text_open(&what);
         wire_up_text_add(&what, "finalize");
         wire_up_write('=', 0, NULL, &what);

@@ -3,6 +3,9 @@
  *
  *   cancelled        a receive that is cancelled too late: a race that only --strict shows
  *   header, answer   a receive from whom a message came, or a send there: the same, since another's may come first
+ *   several          a receive from whom one of several requests was the first: the same
+ *   asked            a request that the program asks about before it waits for it: the same
+ *   nothing          a poll that finds nothing: another run may publish no name, and the head tells of that
  *   once, brief      a name that goes away when it is read, and a wait for ten seconds at most: races that the plan doesn't have, and that its
  *                    head tells of
  */
@@ -81,6 +84,65 @@ static void answer(void)
         look_up();
 }
 
+/* Process 1 is the slower one. */
+static void several(void)
+{
+    MPI_Request requests[2];
+    int first, second;
+    if (rank == 0) {
+        for (int n = 0; n < 2; n++)
+            MPI_Irecv(&x, 1, MPI_INT, n + 1, 1, MPI_COMM_WORLD, &requests[n]);
+        MPI_Waitany(2, requests, &first, MPI_STATUS_IGNORE);
+        MPI_Recv(&x, 1, MPI_INT, first + 1, 2, MPI_COMM_WORLD, MPI_STATUS_IGNORE);
+        look_up();
+        MPI_Waitany(2, requests, &second, MPI_STATUS_IGNORE);
+        MPI_Recv(&x, 1, MPI_INT, second + 1, 2, MPI_COMM_WORLD, MPI_STATUS_IGNORE);
+    }
+    if (rank == 1)
+        usleep(300000);
+    if (rank == 2)
+        publish();
+    for (int tag = 1; rank > 0 && tag <= 2; tag++)
+        MPI_Send(&x, 1, MPI_INT, 0, tag, MPI_COMM_WORLD);
+}
+
+static void asked(void)
+{
+    MPI_Request request;
+    int is_there = 0;
+    if (rank == 1) {
+        publish();
+        MPI_Send(&rank, 1, MPI_INT, 0, 0, MPI_COMM_WORLD);
+    }
+    if (rank == 0) {
+        MPI_Irecv(&x, 1, MPI_INT, 1, 0, MPI_COMM_WORLD, &request);
+        while (!is_there)
+            MPI_Request_get_status(request, &is_there, MPI_STATUS_IGNORE);
+        look_up();
+        MPI_Wait(&request, MPI_STATUS_IGNORE);
+    }
+}
+
+static void nothing(void)
+{
+    int is_there = 0;
+    if (rank == 0) {
+        MPI_Iprobe(1, 0, MPI_COMM_WORLD, &is_there, MPI_STATUS_IGNORE);
+        if (!is_there)
+            publish();
+        while (!is_there)
+            MPI_Iprobe(1, 0, MPI_COMM_WORLD, &is_there, MPI_STATUS_IGNORE);
+        MPI_Recv(&x, 1, MPI_INT, 1, 0, MPI_COMM_WORLD, MPI_STATUS_IGNORE);
+    }
+    if (rank == 1) {
+        usleep(300000);
+        MPI_Send(&rank, 1, MPI_INT, 0, 0, MPI_COMM_WORLD);
+    }
+    MPI_Barrier(MPI_COMM_WORLD);
+    if (rank == 1)
+        look_up();
+}
+
 /* Publishes the name so that the first lookup takes it away. */
 static void publish_once(void)
 {
@@ -129,6 +191,12 @@ int main(int count, char **words)
         header();
     else if (!strcmp(which, "answer"))
         answer();
+    else if (!strcmp(which, "several"))
+        several();
+    else if (!strcmp(which, "asked"))
+        asked();
+    else if (!strcmp(which, "nothing"))
+        nothing();
     else if (!strcmp(which, "once"))
         once();
     else if (!strcmp(which, "brief"))

@@ -21,19 +21,27 @@ class Line:
     """A line of a plan, and the call that it comes from.
 
     `at` is where it stands in the recording of its process, and `value` what it got. A line that
-    stands for an order, not for a call of PMIx, has an `order`: the name that it publishes or
-    waits for. A fence that stands for a collective of MPI has a remark above it.
+    stands for an order, not for a call of PMIx, has an `order`: the name that it publishes, or
+    waits for if it has a value. It has no `said`, since the name says it all. A fence that stands
+    for a collective of MPI has a remark above it.
     """
 
-    __slots__ = ("process", "at", "words", "call", "value", "order", "remark")
+    __slots__ = ("process", "at", "said", "call", "value", "order", "remark")
 
     process: Process
     at: int
-    words: str
+    said: Optional[str]
     call: Call
     value: Optional[Value]
     order: Optional[str]
     remark: Optional[str]
+
+    @property
+    def words(self) -> str:
+        """Its words in the plan."""
+        if self.said is not None:
+            return self.said
+        return f"lookup-wait {self.order}" if self.value else f"publish {self.order} {SENT}"
 
     @property
     def verb(self) -> str:
@@ -95,7 +103,7 @@ class Part:
         """Adds a line that waits for a name at the end of a call."""
         name, at = published.order, ended.ends
         assert at is not None, "a call that hasn't ended waits for nothing"
-        line = Line(target, at, f"lookup-wait {name}", ended, SENT_VALUE, name, None)
+        line = Line(target, at, None, ended, SENT_VALUE, name, None)
         self.lines.append(line)
         self.awaited[line] = published
 
@@ -120,7 +128,7 @@ class Ordered:
 
 def make_publish(name: str, source: Process, begun: Call) -> Line:
     """The line by which a process says that it has come to the beginning of a call."""
-    return Line(source, begun.begins, f"publish {name} {SENT}", begun, None, name, None)
+    return Line(source, begun.begins, None, begun, None, name, None)
 
 
 @dataclass(frozen=True)

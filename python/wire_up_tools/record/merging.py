@@ -6,7 +6,7 @@ from dataclasses import dataclass, field, replace
 from wire_up_tools.failures import Refused
 from wire_up_tools.limits import VERSION_1
 from wire_up_tools.record.calls import Call, End
-from wire_up_tools.record.draft import SENT, SENT_VALUE, Draft, Line, Step, walk
+from wire_up_tools.record.draft import SENT_VALUE, Draft, Line, Step, walk
 from wire_up_tools.record.knowledge import find_heard
 from wire_up_tools.record.notes import Notes
 from wire_up_tools.record.open_groups import find_sources
@@ -83,7 +83,7 @@ class Merged:
             after = self.shared[process][count - 1]
             name = f"{self.mark}{after.process.short_name}.{count}"
             self.sent[process, count] = Line(
-                after.process, after.at, f"publish {name} {SENT}", after.call, None, name, None
+                after.process, after.at, None, after.call, None, name, None
             )
         return self.sent[process, count]
 
@@ -105,8 +105,7 @@ class Merged:
     def wait(self, line: Line, sent: Line) -> None:
         """Adds a line before another that waits for a name."""
         call = Call(line.call.action, line.at, line.call.thread, line.call.place, line.at, End(0))
-        words = f"lookup-wait {sent.order}"
-        added = Line(line.process, line.at, words, call, SENT_VALUE, sent.order, None)
+        added = Line(line.process, line.at, None, call, SENT_VALUE, sent.order, None)
         self.waits.setdefault(line, []).append(added)
         self.awaited[added] = sent
 

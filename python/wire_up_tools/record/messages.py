@@ -10,7 +10,7 @@ from collections.abc import Iterable, Iterator, Mapping, Sequence, Set
 from dataclasses import dataclass, field
 from typing import NamedTuple, Optional, Union
 
-from wire_up_tools.record.calls import Call, MessageEnd, Probe, Receive, Send
+from wire_up_tools.record.calls import Call, FoundBy, MessageEnd, Probe, Receive, Send
 from wire_up_tools.record.communicators import Communicator, Communicators, Side
 from wire_up_tools.record.notes import Notes
 from wire_up_tools.record.processes import Process, Processes
@@ -101,6 +101,24 @@ class OneStream(Mapping[Stream, Sequence[Call]]):
 
     def __len__(self) -> int:
         return 1
+
+
+class SomeStreams(Mapping[Stream, Sequence[Call]]):
+    """Some of the streams of an inbox with their messages."""
+
+    __slots__ = ("streams", "some")
+
+    def __init__(self, streams: Mapping[Stream, Sequence[Call]], some: Sequence[Stream]) -> None:
+        self.streams, self.some = streams, some
+
+    def __getitem__(self, stream: Stream) -> Sequence[Call]:
+        return self.streams[stream]
+
+    def __iter__(self) -> Iterator[Stream]:
+        return iter(self.some)
+
+    def __len__(self) -> int:
+        return len(self.some)
 
 
 @dataclass(frozen=True, eq=False)
@@ -233,6 +251,16 @@ def part_streams(streams: Iterable[Stream], asks: set[Ask]) -> Parts:
     return parts
 
 
+class Alike(NamedTuple):
+    """What groups of one message and its receive have in common that are taken as one: large
+    recordings have as many as messages."""
+
+    source: int
+    sender: str
+    receiver: str
+    is_from_any: bool
+
+
 @dataclass
 class Inbox:
     """What one process is sent in one communicator, by streams, and what it asked for there, in
@@ -275,16 +303,60 @@ class Inbox:
         """Parts the streams into groups: those for which one receive could get a message of
         either are in one. The groups stand in the order of the first that got a message."""
         parts = part_streams(self.streams, {it.ask for it in self.asked})
-        asked: dict[Key, list[Got]] = {}
-        for it in self.asked:
-            if isinstance(it, Got):
-                asked.setdefault(parts.find_key(it.ask), []).append(it)
         lacking = {parts.find_key(it.ask) for it in self.asked if isinstance(it, Missed)}
         joint = parts.find_joint(self.streams)
+        several: dict[Key, list[Got]] = {}
+        pairs: dict[Alike, list[Got]] = {}
+        found: list[Union[Key, Alike]] = []
+        for key, them in self.find_asked(parts).items():
+            alike = None if key in lacking or key in joint else self.find_alike(key, them)
+            if alike is None:
+                several[key] = [*them]
+                found.append(key)
+            elif alike in pairs:
+                pairs[alike] += them
+            else:
+                pairs[alike] = [*them]
+                found.append(alike)
         return [
-            self.make_group(joint.get(key) or self.find_alone(key), them, key in lacking)
-            for key, them in asked.items()
+            self.join_pairs(pairs[it])
+            if isinstance(it, Alike)
+            else self.make_group(joint.get(it) or self.find_alone(it), several[it], it in lacking)
+            for it in found
         ]
+
+    def find_asked(self, parts: Parts) -> Mapping[Key, Sequence[Got]]:
+        """What got a message, by what stands for its group."""
+        found: dict[Key, Sequence[Got]] = {}
+        for it in self.asked:
+            if isinstance(it, Got):
+                key = parts.find_key(it.ask)
+                before = found.get(key)
+                if isinstance(before, list):
+                    before.append(it)
+                else:
+                    found[key] = [*before, it] if before else (it,)
+        return found
+
+    def find_alike(self, key: Key, asked: Sequence[Got]) -> Optional[Alike]:
+        """What is alike in the groups of one message and its receive that are taken as one; None
+        of another group."""
+        got = asked[0]
+        sends: Sequence[Call] = self.streams.get(key, ()) if isinstance(key, Stream) else ()
+        if len(asked) > 1 or len(sends) != 1 or not got.is_receive or got.stream != key:
+            return None
+        if differs_in_size(sends, asked) or got.stream in self.chosen_receives:
+            return None
+        if got.stream in self.chosen_sends:
+            return None
+        is_from_any = got.ask.source is None
+        return Alike(got.stream.source, sends[0].thread, got.call.thread, is_from_any)
+
+    def join_pairs(self, asked: Sequence[Got]) -> Group:
+        """A group of messages of one process that each have a receive and a stream of their
+        own."""
+        streams = SomeStreams(self.streams, [it.stream for it in asked])
+        return Group(streams, asked, False, NONE_CHOSEN)
 
     def make_group(
         self, streams: Mapping[Stream, Sequence[Call]], asked: Sequence[Got], lacks: bool
@@ -305,13 +377,21 @@ class Inbox:
         return {}
 
 
-# In a communicator of two, who isn't oneself is known.
-PAIR = 2
+def is_one_of_some(call: Call) -> bool:
+    """Whether a call was the first of several requests to get its message."""
+    return isinstance(call.end, MessageEnd) and call.end.found_by is FoundBy.SOME
+
+
+def is_found_by_luck(own: Communicator, asked: Union[Receive, Probe], call: Call) -> bool:
+    """Whether it was luck of whom a message came that was asked for: of any, or by one of several
+    requests. Of a communicator of two, who isn't oneself is known."""
+    others = len(own.peers) - (not own.has_two_sides)
+    return (asked.source is None or is_one_of_some(call)) and others > 1
 
 
 class Found:
-    """Whom a process has found by messages of any source, and up to which line of its recording it
-    didn't know them. Later the program may send to them, or receive from them, since they came."""
+    """Whom a process has found by luck, and up to which line of its recording it didn't know them.
+    Later the program may send to them, or receive from them, since they came."""
 
     def __init__(self) -> None:
         self.at: dict[Process, int] = {}
@@ -352,12 +432,15 @@ class Inboxes:
     ) -> None:
         """Takes a receive or a probe, and whom one of any source finds."""
         is_open = isinstance(asked, Receive) and call.status is None
-        self.notes.left_out["receives whose end isn't recorded"] += is_open
+        if is_open:
+            self.notes.left_out["receives whose end isn't recorded"] += 1
+        if is_one_of_some(call):
+            self.notes.of_luck["receives that were the first of several requests"] += 1
         inbox, end = self.find(own.identity, own.members[own.rank], own.peers), call.end
         source = end.source if isinstance(end, MessageEnd) else -1
         peer = own.peers[source] if 0 <= source < len(own.peers) else None
         inbox.take_ask(asked, call, found.has(peer, call))
-        if asked.source is None and peer and len(own.peers) > PAIR:
+        if peer and is_found_by_luck(own, asked, call):
             found.add(peer, call)
 
 

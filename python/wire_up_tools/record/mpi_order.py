@@ -8,7 +8,8 @@
 - A collective in which all processes wait for all is a fence. Any other is names: each process
   waits for those whose data it needs.
 - An end that another run may have found open, since a poll succeeded or it was one of several,
-  orders nothing with --strict. Nor does a message whose peer one of any source may have named.
+  orders nothing with --strict. Nor does a message whose peer may have been named by one of any
+  source, or by the first of several requests.
 
 Which receive got which message is found by messages.py; where that isn't certain, nothing is
 ordered, and the head of the plan says so.
@@ -94,20 +95,20 @@ def order_messages(
                 open_groups.append(found)
     horizon = find_horizon(processes.all, links, [*certain, *open_groups])
     for found in certain:
-        ordered.add(order_pairs(found, horizon, names, is_strict))
+        order_pairs(found, horizon, names, is_strict, ordered)
     return MessageOrder(ordered, open_groups, names, horizon)
 
 
 def order_pairs(
-    found: OpenGroup, horizon: Horizon, names: MessageNames, is_strict: bool
-) -> Ordered:
-    """Orders messages and receives that are the same pairs in every run.
+    found: OpenGroup, horizon: Horizon, names: MessageNames, is_strict: bool, ordered: Ordered
+) -> None:
+    """Orders messages and receives that are the same pairs in every run, besides what is ordered.
 
     Where a receive isn't there (one that failed), the next ones get a message that was sent
     before theirs. That is less order for the receiver, but would be more for a sender that waited
     for its receive: so then it has none.
     """
-    ordered, group, target, useless = Ordered(), found.group, found.target, 0
+    group, target, useless = found.group, found.target, 0
     is_all = group.message_count == group.receive_count and not group.lacks
     is_chosen = False
     for send, got in group.pairs():
@@ -129,7 +130,6 @@ def order_pairs(
         if waits:
             ordered.part.add_order(f"{name}.begun", target, got.call, {source: send})
     note_useless(useless, ordered.notes)
-    return ordered
 
 
 # --- collectives ---
@@ -228,7 +228,7 @@ def order_by_fence(meeting: JointCalls, sets: Sets) -> Ordered:
         Line(
             process=process,
             at=call.begins,
-            words=f"fence {sets.find_word(process, meeting.members)}",
+            said=f"fence {sets.find_word(process, meeting.members)}",
             call=call,
             value=None,
             order=None,

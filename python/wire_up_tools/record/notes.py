@@ -18,10 +18,12 @@ from wire_up_tools.record.directives import KNOWN, find_ending, gives_up, stands
 from wire_up_tools.record.recordings import Recording
 from wire_up_tools.words import show
 
-# Functions of MPI whose result depends on which rank was faster. They order nothing.
+# Functions of MPI whose result depends on which rank was faster, or behind which another rank's
+# memory is read. They order nothing.
 OF_LUCK = re.compile(
-    r"MPI_(Cancel|Fetch_and_op|Compare_and_swap|(Get|Rget)_accumulate(_c)?"
-    r"|File_i?(read|write)_shared(_c)?)"
+    r"MPI_(Cancel( of a receive)?|Fetch_and_op|Compare_and_swap|(Get|Rget)_accumulate(_c)?"
+    r"|File_i?(read|write)_shared(_c)?|File_get_position_shared|Parrived|Request_get_status_\w+"
+    r"|Win_lock(_all)?|Win_shared_query(_c)?|Wait(any|some) of sends)"
 )
 
 
@@ -58,7 +60,9 @@ def note_recording(recording: Recording, notes: Notes) -> None:
     for name, count in recording.others.items():
         noted = notes.of_luck if OF_LUCK.fullmatch(name) else notes.left_out
         noted[f"calls of {name}"] += count
-    if len({call.thread for call in recording.calls}) > 1:
+    for name, count in recording.polls.items():
+        notes.of_luck[f"calls of {name} that found nothing"] += count
+    if len({call.thread for call in recording.calls}) > 1 or recording.awaited_elsewhere:
         notes.more_ordered[
             "processes that called from several threads: "
             "their calls stand in the order in which they began"

@@ -88,10 +88,12 @@ class RecordedCommunicator:
 class Recording:
     """What one process did, from the file at `path`; `began` is in seconds since 1970.
 
-    `others` counts the calls that are only counted, by their names; `unseen` what called MPI past
+    `others` counts the calls that are only counted, by their names; `polls` those that found
+    nothing before another call; `unseen` what called MPI past
     the recorder, and `unseen_pmix` what called PMIx so, by what is said of it. `outer` has the
-    number of the place at which the function of a place was called. A process that `has_finalized`
-    has called nothing after PMIx_Finalize; the last line of a recording that `is_cut` was dropped.
+    number of the place at which the function of a place was called; `awaited_elsewhere` counts the
+    calls of MPI that another thread waited for. A process that `has_finalized` has called nothing
+    after PMIx_Finalize; the last line of a recording that `is_cut` was dropped.
     """
 
     path: str
@@ -102,12 +104,14 @@ class Recording:
     began: float
     calls: Sequence[Call]
     others: Mapping[str, int]
+    polls: Mapping[str, int]
     unseen: Mapping[str, int]
     unseen_pmix: Mapping[str, int]
     world: Optional[World]
     communicators: Mapping[int, RecordedCommunicator]
     places: Mapping[str, Place]
     outer: Mapping[str, str]
+    awaited_elsewhere: int
     has_finalized: bool
     is_cut: bool
 
@@ -131,6 +135,8 @@ class Recording:
 PLAIN = {
     "finalize": re.compile(r"finalize"),
     "other": re.compile(r"other (.+)"),
+    "others": re.compile(r"others (\w+) (\d{1,18})"),
+    "polled": re.compile(r"polled (MPI_\w+) (\d{1,18})"),
     "unseen": re.compile(rf"unseen (call|object|pmix) ({WORD})"),
     "world": re.compile(r"world (\d{1,9}) (\d{1,9})"),
     "comm": re.compile(r"comm (\d{1,9}) (\d{1,9}) ([wcgvs]-?\d{1,18}) ([\d,-]+)"),
@@ -185,12 +191,15 @@ class Records:
     opened: dict[str, Call] = field(default_factory=dict)
     words: dict[str, str] = field(default_factory=dict)
     others: Counter[str] = field(default_factory=Counter)
+    counted: dict[str, int] = field(default_factory=dict)
+    polls: dict[str, int] = field(default_factory=dict)
     unseen: Counter[str] = field(default_factory=Counter)
     unseen_pmix: Counter[str] = field(default_factory=Counter)
     world: Optional[World] = None
     communicators: dict[int, RecordedCommunicator] = field(default_factory=dict)
     places: dict[str, Place] = field(default_factory=dict)
     outer: dict[str, str] = field(default_factory=dict)
+    awaited_elsewhere: int = 0
     has_finalized: bool = False
 
     def read(self, number: int, line: str) -> None:
@@ -207,7 +216,7 @@ class Records:
                 place = self.words.setdefault(place, place) if place else None
                 self.begin(call, Call(read_begin(text), number, thread, place, None, None))
             elif sign == "-":
-                self.end(call, number, text)
+                self.end(call, number, thread, text)
             else:
                 self.note(number, text)
         except (ValueError, KeyError):
@@ -221,12 +230,14 @@ class Records:
         self.calls.append(call)
         self.has_finalized = False
 
-    def end(self, call: str, number: int, text: str) -> None:
+    def end(self, call: str, number: int, thread: str, text: str) -> None:
         """Takes the end of a call. Raises Refused or ValueError."""
         opened = self.opened.pop(call, None)
         if not opened:
             refuse(self.path, number, "ends a call that isn't open")
         opened.finish(number, read_end(opened.action.verb, text))
+        if thread != opened.thread and not opened.is_of_pmix:
+            self.awaited_elsewhere += 1
 
     def note(self, number: int, text: str) -> None:
         """Takes what isn't a call, of a line. Raises ValueError or KeyError."""
@@ -235,9 +246,12 @@ class Records:
         self.has_finalized = verb == "finalize"
         if verb == "other":
             self.others[groups[0]] += 1
+        elif verb in ("others", "polled"):
+            counts = self.counted if verb == "others" else self.polls
+            counts[groups[0]] = max(int(groups[1]), counts.get(groups[0], 0))
         elif verb == "unseen":
-            counts = self.unseen_pmix if groups[0] == OF_PMIX else self.unseen
-            counts[read_unseen(groups)] += 1
+            unseen = self.unseen_pmix if groups[0] == OF_PMIX else self.unseen
+            unseen[read_unseen(groups)] += 1
         elif verb == "world":
             self.world = World(int(groups[0]), int(groups[1]), number)
         elif verb in ("comm", "inter"):
@@ -306,13 +320,15 @@ def read_recording(path: str, data: bytes) -> Recording:
         library=head.library,
         began=head.began,
         calls=records.calls,
-        others=records.others,
+        others=records.others + Counter(records.counted),
+        polls=records.polls,
         unseen=records.unseen,
         unseen_pmix=records.unseen_pmix,
         world=records.world,
         communicators=records.communicators,
         places=records.places,
         outer=records.outer,
+        awaited_elsewhere=records.awaited_elsewhere,
         has_finalized=records.has_finalized,
         is_cut=end < len(data),
     )

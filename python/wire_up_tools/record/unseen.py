@@ -60,9 +60,9 @@ def note_unfit_messages(
     target: Process, inbox: Inbox, groups: Sequence[Group], notes: Notes
 ) -> None:
     """Notes where messages to a process, which are in groups, and its receives don't fit."""
-    asked = {stream for group in groups for stream in group.streams}
     has_missed = any(isinstance(it, Missed) for it in inbox.asked)
-    is_any_left = not has_missed and any(it not in asked for it in inbox.streams)
+    asked_count = sum(len(it.streams) for it in groups)
+    is_any_left = not has_missed and asked_count < len(inbox.streams)
     if (is_any_left or any(map(is_unfit, groups))) and has_all_messages(target, inbox):
         notes.more_ordered[MISFIT] += 1
 
