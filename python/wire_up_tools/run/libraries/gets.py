@@ -46,6 +46,8 @@ def answer_map(asked: Question) -> Reply:
         return None if is_asked and asked.is_of_job else NOT_FOUND
     rule = asked.traits.map_rule
     is_told = rule is MapRule.EVERY_RANK or asked.is_of_job
+    if rule is MapRule.HOST_OF_OWN_JOB and asked.key != HOST:
+        is_told = True
     if rule is MapRule.OWN_JOB_AND_NODE and asked.key != HOST and not asked.is_near:
         is_told = False
     return read_map(asked) if is_told else NOT_FOUND

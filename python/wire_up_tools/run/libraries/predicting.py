@@ -8,7 +8,7 @@ from wire_up_tools.run.libraries.fences import Fences
 from wire_up_tools.run.libraries.gets import answer_get
 from wire_up_tools.run.libraries.name_calls import BAD, answer_name_call
 from wire_up_tools.run.libraries.rules import Rule
-from wire_up_tools.run.libraries.traits import Traits
+from wire_up_tools.run.libraries.traits import Mixed, Traits
 from wire_up_tools.run.libraries.world import SUCCESS, Held, Question, Reply, World
 from wire_up_tools.run.reports import (
     UNREACHED,
@@ -20,6 +20,9 @@ from wire_up_tools.run.reports import (
     compare,
 )
 from wire_up_tools.words import is_reserved
+
+# A way more takes as long as each of the others.
+MOST_FIRST = 16
 
 
 @dataclass(eq=False)
@@ -82,8 +85,7 @@ class Prediction:
         rank that can go on."""
         for name in way.order:
             self.step(self.world.ranks[name])
-        ranks = self.world.plan.ranks
-        in_turn = ranks[::-1] if way.is_backwards else ranks
+        in_turn = way.sort(self.world.plan.ranks)
         while any(self.step(it) for it in in_turn):
             pass
 
@@ -102,11 +104,17 @@ class Prediction:
 
 @dataclass(frozen=True)
 class Way:
-    """Which steps come first: those of an order, and then those of the lowest rank that can go on,
-    or of the highest."""
+    """Which steps come first: those of an order, then those of a rank that is named, and then those
+    of the lowest rank that can go on, or of the highest."""
 
     order: Sequence[str] = ()
     is_backwards: bool = False
+    first: str = ""
+
+    def sort(self, ranks: Sequence[Rank]) -> list[Rank]:
+        """The ranks, those first whose steps come first."""
+        in_turn = ranks[::-1] if self.is_backwards else ranks
+        return sorted(in_turn, key=lambda it: it.name != self.first)
 
 
 LOWEST_FIRST = Way()
@@ -120,6 +128,17 @@ def predict(
     prediction = Prediction(World(plan, traits, rules))
     prediction.run(way)
     return prediction.report()
+
+
+def list_ways(plan: Plan, traits: Traits) -> list[Way]:
+    """The ways that are taken of a plan without races: with the lowest rank first, and with the
+    highest; where a fence fails for the caller that arrives first, also with each of these."""
+    ways = [LOWEST_FIRST, Way(is_backwards=True)]
+    if traits.mixed is Mixed.FAILS_FOR_FIRST:
+        prediction = Prediction(World(plan, traits, traits.rules))
+        prediction.run(LOWEST_FIRST)
+        ways += [Way(first=it) for it in prediction.fences.list_mixed()[:MOST_FIRST]]
+    return ways
 
 
 @dataclass(frozen=True)

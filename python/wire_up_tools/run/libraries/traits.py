@@ -19,6 +19,7 @@ class Mixed(enum.Enum):
 
     COLLECTS_NOT = "it doesn't collect"
     FAILS_ON_NODE = "it fails on a node with both; from the other nodes it may bring"
+    FAILS_FOR_FIRST = "on a node with both it fails for the caller that arrives there first"
     FAILS = "it fails"
 
 
@@ -47,7 +48,7 @@ class MapRule(enum.Enum):
     """Of which ranks the map can be asked."""
 
     EVERY_RANK = "of every rank"
-    OWN_JOB = "of ranks of the caller's job"
+    HOST_OF_OWN_JOB = "of every rank, for the host name of ranks of the caller's job alone"
     OWN_JOB_AND_NODE = "of ranks of the caller's job, on other nodes for the host name alone"
 
 
@@ -76,7 +77,7 @@ class Traits:
     publish: Publish = Publish.ADDED
     several: Several = Several.PARTIAL
     kept: Kept = Kept.WITH_GETS
-    map_rule: MapRule = MapRule.OWN_JOB
+    map_rule: MapRule = MapRule.HOST_OF_OWN_JOB
 
 
 COMMON = frozenset(
@@ -122,10 +123,18 @@ OPENPMIX_4 = Traits(
     map_rule=MapRule.EVERY_RANK,
 )
 OPENPMIX_5 = Traits(
-    rules=COMMON | {Rule.KEPT_BY_CALLER, Rule.COLLECT_BRINGS_NOTHING, Rule.ANSWERED_AT_COMMIT}
+    rules=COMMON
+    | {
+        Rule.KEPT_BY_CALLER,
+        Rule.COLLECT_BRINGS_NOTHING,
+        Rule.ANSWERED_AT_COMMIT,
+        Rule.MIXED_COLLECT,
+    },
+    invalid="PMIX_STATUS(-33,PMIX_ERR_INVALID_ARG)",
+    mixed=Mixed.FAILS_FOR_FIRST,
 )
 OPENPMIX_7 = Traits(
-    rules=COMMON | {Rule.KEPT_BY_CALLER, Rule.MIXED_COLLECT},
+    rules=COMMON | {Rule.KEPT_BY_CALLER, Rule.ANSWERED_AT_COMMIT, Rule.MIXED_COLLECT},
     invalid="PMIX_STATUS(-33,PMIX_ERR_INVALID_ARG)",
     drops_repeats=True,
     is_across_jobs=False,
@@ -142,9 +151,12 @@ SLURM = Traits(
         Rule.KEPT_BY_CALLER,
         Rule.OWNER_ANSWERS,
         Rule.ANSWERED_AT_COMMIT,
+        Rule.MIXED_COLLECT,
         Rule.FENCE_OF_NODE,
     },
     local_elsewhere="PMIX_ERROR",
+    invalid="PMIX_STATUS(-33,PMIX_ERR_INVALID_ARG)",
+    mixed=Mixed.FAILS_FOR_FIRST,
     asks_owner_at_once=True,
     has_names=False,
     map_rule=MapRule.OWN_JOB_AND_NODE,
