@@ -122,6 +122,19 @@ def answer_far_now(asked: Question) -> Reply:
 
 def answer_far(asked: Question) -> Reply:
     """What a get that waits gives of a rank on another node."""
+    if not asked.has(Rule.SHARED_REQUEST):
+        return answer_asked(asked)
+    request = asked.join()
+    if not asked.world.holds_answers and request.key in asked.put.committed:
+        request.is_answered = True
+    if not request.is_answered:
+        return None
+    del asked.world.joined[asked.caller.name]
+    return answer_asked(asked) or NOT_FOUND
+
+
+def answer_asked(asked: Question) -> Reply:
+    """What a get gives of a rank on another node by a request of its own."""
     put, asks_at_once = asked.put, asked.traits.asks_owner_at_once
     is_at_once = asks_at_once and asked.has(Rule.OWNER_ANSWERS)
     if not put.commits or (asked.key not in put.committed and not is_at_once):

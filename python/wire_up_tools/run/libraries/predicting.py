@@ -86,8 +86,13 @@ class Prediction:
         for name in way.order:
             self.step(self.world.ranks[name])
         in_turn = way.sort(self.world.plan.ranks)
-        while any(self.step(it) for it in in_turn):
-            pass
+        self.world.holds_answers, is_over = way.is_slow, False
+        while not is_over:
+            is_over = not any(self.step(it) for it in in_turn)
+            if is_over and self.world.holds_answers:
+                self.world.holds_answers = is_over = False
+            elif not is_over:
+                self.world.holds_answers = way.is_slow
 
     def report(self) -> Report:
         """What became of all calls."""
@@ -105,11 +110,13 @@ class Prediction:
 @dataclass(frozen=True)
 class Way:
     """Which steps come first: those of an order, then those of a rank that is named, and then those
-    of the lowest rank that can go on, or of the highest."""
+    of the lowest rank that can go on, or of the highest. In a slow one requests are answered once
+    nobody can do anything else."""
 
     order: Sequence[str] = ()
     is_backwards: bool = False
     first: str = ""
+    is_slow: bool = False
 
     def sort(self, ranks: Sequence[Rank]) -> list[Rank]:
         """The ranks, those first whose steps come first."""
@@ -132,8 +139,11 @@ def predict(
 
 def list_ways(plan: Plan, traits: Traits) -> list[Way]:
     """The ways that are taken of a plan without races: with the lowest rank first, and with the
-    highest; where a fence fails for the caller that arrives first, also with each of these."""
+    highest; where ranks share requests, slowly too; and where a fence fails for the caller that
+    arrives first, with each of these."""
     ways = [LOWEST_FIRST, Way(is_backwards=True)]
+    if Rule.SHARED_REQUEST in traits.rules:
+        ways += [Way(is_slow=True), Way(is_backwards=True, is_slow=True)]
     if traits.mixed is Mixed.FAILS_FOR_FIRST:
         prediction = Prediction(World(plan, traits, traits.rules))
         prediction.run(LOWEST_FIRST)

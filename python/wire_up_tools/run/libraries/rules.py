@@ -14,6 +14,8 @@ same ranks is another fence, and a rank that repeats makes it wait for ever"
 another key"
     ANSWERED_AT_COMMIT = "a get that waits for a rank of its node isn't found once that rank \
 commits, if that brings no such key"
+    SHARED_REQUEST = "gets of ranks of one node of one rank on another share a request: all are \
+answered once the key comes that was asked for first, found or not, and none before"
     LOCAL_ELSEWHERE = "a key of scope local gives an error of the library on other nodes"
     RESERVED_KEYS = "reserved keys are taken like others, and some of the map isn't found"
     NAMES = "a second publish of a name succeeds, and so does an unpublish of what isn't there"
@@ -36,6 +38,7 @@ TIMED = frozenset(
         Rule.KEPT_BY_CALLER,
         Rule.GET_BRINGS_ALL,
         Rule.ANSWERED_AT_COMMIT,
+        Rule.SHARED_REQUEST,
         Rule.FENCE_OF_NODE,
     }
 )

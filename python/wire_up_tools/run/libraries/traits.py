@@ -128,13 +128,20 @@ OPENPMIX_5 = Traits(
         Rule.KEPT_BY_CALLER,
         Rule.COLLECT_BRINGS_NOTHING,
         Rule.ANSWERED_AT_COMMIT,
+        Rule.SHARED_REQUEST,
         Rule.MIXED_COLLECT,
     },
     invalid="PMIX_STATUS(-33,PMIX_ERR_INVALID_ARG)",
     mixed=Mixed.FAILS_FOR_FIRST,
 )
 OPENPMIX_7 = Traits(
-    rules=COMMON | {Rule.KEPT_BY_CALLER, Rule.ANSWERED_AT_COMMIT, Rule.MIXED_COLLECT},
+    rules=COMMON
+    | {
+        Rule.KEPT_BY_CALLER,
+        Rule.ANSWERED_AT_COMMIT,
+        Rule.SHARED_REQUEST,
+        Rule.MIXED_COLLECT,
+    },
     invalid="PMIX_STATUS(-33,PMIX_ERR_INVALID_ARG)",
     drops_repeats=True,
     is_across_jobs=False,
