@@ -42,6 +42,7 @@ EARLIER = os.path.join(TOP, "tests", "earlier_tables")
 UNLIKE = {
     "openpmix-4.2": {"get-then-now-samenode", "jobs-fence"},
     "openpmix-5.0": {"collect-mixed-one-node"},
+    "openpmix-7.0": {"collect-mixed-one-node"},
     "slurm-24.11": {"collect-mixed-one-node"},
 }
 PLANS = {it.name: it for it in read_suite()}
