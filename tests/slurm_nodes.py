@@ -89,6 +89,8 @@ def start_munge(folder: str) -> None:
     with open(key, "wb") as it:
         it.write(os.urandom(1024))
     os.makedirs(MUNGE, exist_ok=True)
+    # Another one may run beside it.
+    subprocess.run(["mount", "-t", "tmpfs", "none", MUNGE], check=True)
     os.chmod(folder, 0o755)
     for path, mode in ((key, 0o600), (MUNGE, 0o755)):
         shutil.chown(path, "munge")

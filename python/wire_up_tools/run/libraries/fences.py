@@ -6,7 +6,7 @@ from typing import Optional
 
 from wire_up_tools.plan import Call
 from wire_up_tools.run.libraries.rules import Rule
-from wire_up_tools.run.libraries.traits import Kept, Mixed
+from wire_up_tools.run.libraries.traits import Brought, Kept, Mixed
 from wire_up_tools.run.libraries.world import SUCCESS, Arrival, Reply, World
 
 # What identifies a fence to the library: the job of a fence of all its ranks, or a list.
@@ -195,15 +195,23 @@ class End:
         if self.world.has(Rule.COLLECT_BRINGS_NOTHING):
             return
         self.meeting.has_brought = True
-        jobs = {self.world.ranks[it].job for it in self.members}
-        if len(jobs) == 1 or self.world.traits.is_across_jobs:
-            for member in self.members & self.arrived.keys():
-                self.bring_from(member)
+        for member in self.members & self.arrived.keys():
+            self.bring_from(member)
+
+    def find_nodes(self, member: str) -> set[str]:
+        """The nodes to which it brings the keys of a member."""
+        ranks = self.world.ranks
+        if not self.world.has(Rule.FENCE_OF_JOBS):
+            return set(self.nodes)
+        only_members = self.world.traits.brought is Brought.WITH_MEMBERS
+        among = self.members if only_members else ranks
+        of_job = {self.node_of(it) for it in among if ranks[it].job == ranks[member].job}
+        return of_job.intersection(self.nodes)
 
     def bring_from(self, member: str) -> None:
-        """Brings what a member committed to the nodes of all members."""
+        """Brings what a member committed to nodes of the others."""
         values, is_apart = self.arrived[member].values, self.world.traits.kept is Kept.APART
-        for node in self.nodes:
+        for node in self.find_nodes(member):
             if is_apart:
                 self.world.by_fences[node, member].update(values)
             elif node != self.node_of(member):

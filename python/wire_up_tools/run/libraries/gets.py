@@ -78,7 +78,7 @@ def answer_own(asked: Question) -> Reply:
 
 def answer_other(asked: Question) -> Reply:
     """What a get of a key of another rank gives."""
-    if asked.traits.kept is Kept.APART and asked.is_of_job and asked.key in asked.by_fences:
+    if asked.traits.kept is Kept.APART and asked.key in asked.by_fences:
         return succeed(asked.by_fences[asked.key])
     if asked.has(Rule.KEPT_BY_CALLER) and asked.key in asked.in_caller:
         return succeed(asked.in_caller[asked.key])

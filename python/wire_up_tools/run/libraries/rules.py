@@ -21,6 +21,7 @@ answered once the key comes that was asked for first, found or not, and none bef
     NAMES = "a second publish of a name succeeds, and so does an unpublish of what isn't there"
     MIXED_COLLECT = "a fence whose callers differ in collecting fails for all or one of them, or \
 brings a part"
+    FENCE_OF_JOBS = "a fence of several jobs brings no keys of a rank to a node without its job"
     COLLECT_BRINGS_NOTHING = "a fence that collects brings nothing"
     OWN_FROM_STORE = "a rank reads of its own keys what it has committed, before what it has put"
     FENCE_OF_NODE = "a fence that doesn't collect waits only for the ranks of the caller's node"

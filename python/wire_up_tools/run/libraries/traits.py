@@ -44,6 +44,13 @@ class Kept(enum.Enum):
     APART = "apart, where it is seen before all else"
 
 
+class Brought(enum.Enum):
+    """To which nodes of its members a fence of several jobs brings the keys of one of them."""
+
+    WITH_RANKS = "to those that have a rank of its job"
+    WITH_MEMBERS = "to those that have a member of its job"
+
+
 class MapRule(enum.Enum):
     """Of which ranks the map can be asked."""
 
@@ -59,7 +66,6 @@ class Traits:
     `local_elsewhere` is the reply for a key of scope local on another node, `invalid` that for a
     fence whose callers differ. With `asks_owner_at_once` a get of a rank on another node that has
     committed anything is answered at once. `drops_repeats`: a list is taken as a set.
-    `is_across_jobs`: a fence that collects brings keys to other jobs too.
     """
 
     rules: frozenset[Rule]
@@ -67,7 +73,7 @@ class Traits:
     invalid: str = ""
     asks_owner_at_once: bool = False
     drops_repeats: bool = False
-    is_across_jobs: bool = True
+    brought: Brought = Brought.WITH_MEMBERS
     has_names: bool = True
     unpublishes_of_others: bool = False
     takes_reserved: bool = True
@@ -112,11 +118,17 @@ class Library:
 
 OPENPMIX_4 = Traits(
     rules=COMMON
-    | {Rule.OWNER_ANSWERS, Rule.ANSWERED_AT_COMMIT, Rule.MIXED_COLLECT, Rule.OWN_FROM_STORE},
+    | {
+        Rule.OWNER_ANSWERS,
+        Rule.ANSWERED_AT_COMMIT,
+        Rule.MIXED_COLLECT,
+        Rule.FENCE_OF_JOBS,
+        Rule.OWN_FROM_STORE,
+    },
     local_elsewhere="PMIX_STATUS(-13,HANDSHAKE-FAILED)",
     invalid="PMIX_STATUS(-33,INVALID-ARG)",
     asks_owner_at_once=True,
-    is_across_jobs=False,
+    brought=Brought.WITH_RANKS,
     has_own_reserved=False,
     mixed=Mixed.FAILS_ON_NODE,
     several=Several.LAST,
@@ -141,10 +153,10 @@ OPENPMIX_7 = Traits(
         Rule.ANSWERED_AT_COMMIT,
         Rule.SHARED_REQUEST,
         Rule.MIXED_COLLECT,
+        Rule.FENCE_OF_JOBS,
     },
     invalid="PMIX_STATUS(-33,PMIX_ERR_INVALID_ARG)",
     drops_repeats=True,
-    is_across_jobs=False,
     unpublishes_of_others=True,
     takes_reserved=False,
     asks_owner_of_reserved=True,
