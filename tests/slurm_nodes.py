@@ -120,6 +120,16 @@ def wait_for_nodes() -> bool:
     return False
 
 
+def run_command(words: Sequence[str]) -> int:
+    """Runs a command, and answers its status. As the first process of its table this one takes the
+    ends of all those without a parent."""
+    process = subprocess.Popen(words)
+    while True:
+        ended, status = os.wait()
+        if ended == process.pid:
+            return os.waitstatus_to_exitcode(status)
+
+
 def run(words: Sequence[str]) -> int:
     """Runs a command among the nodes, and answers its status."""
     with tempfile.TemporaryDirectory(prefix="slurm-") as folder:
@@ -132,7 +142,7 @@ def run(words: Sequence[str]) -> int:
             named = ["sh", "-c", 'hostname "$0" && exec slurmd -D -N "$0"', it]
             start(["unshare", "--uts", *named], folder)
         if wait_for_nodes():
-            return subprocess.run(words, check=False).returncode
+            return run_command(words)
         with open(os.path.join(folder, "said"), encoding="utf-8", errors="replace") as said:
             print("Slurm doesn't come up:", said.read(), file=sys.stderr)
     return 1

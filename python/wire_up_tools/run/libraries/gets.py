@@ -1,7 +1,7 @@
 """What a get gives, by the rules of a library."""
 from wire_up_tools.run.libraries.rules import Rule
-from wire_up_tools.run.libraries.traits import OUTSIDE, Kept, MapRule
-from wire_up_tools.run.libraries.world import NOT_FOUND, Question, Reply, succeed
+from wire_up_tools.run.libraries.traits import NOT_FOUND, OUTSIDE, Kept, MapRule
+from wire_up_tools.run.libraries.world import Question, Reply, succeed
 from wire_up_tools.words import is_reserved
 
 RANK, JOB_SIZE, HOST = "PMIX_RANK", "PMIX_JOB_SIZE", "PMIX_HOSTNAME"
@@ -139,16 +139,17 @@ def answer_asked(asked: Question) -> Reply:
     is_at_once = asks_at_once and asked.has(Rule.OWNER_ANSWERS)
     if not put.commits or (asked.key not in put.committed and not is_at_once):
         return None
+    if asked.has(Rule.GET_BRINGS_ALL):
+        asked.on_node.update(put.elsewhere)
     if asked.key not in put.elsewhere:
         has_others = bool(put.elsewhere)
         if is_at_once and has_others:
-            return NOT_FOUND
+            return NOT_FOUND if asked.knows_job else asked.traits.missing_elsewhere
         if not asked.has(Rule.LOCAL_ELSEWHERE):
             return OUTSIDE
         if not asks_at_once and has_others:
             return NOT_FOUND
         return asked.traits.local_elsewhere if is_at_once else OUTSIDE
     if asked.has(Rule.GET_BRINGS_ALL):
-        asked.on_node.update(put.elsewhere)
         asked.in_caller.update(put.elsewhere)
     return succeed(put.elsewhere[asked.key])

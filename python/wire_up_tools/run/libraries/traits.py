@@ -11,7 +11,7 @@ from wire_up_tools.run.launchers import Kind
 from wire_up_tools.run.libraries.rules import Rule
 
 TABLES = os.path.join(os.path.dirname(os.path.dirname(os.path.abspath(__file__))), "tables")
-OUTSIDE = "PMIX_ERR_EXISTS_OUTSIDE_SCOPE"
+OUTSIDE, NOT_FOUND = "PMIX_ERR_EXISTS_OUTSIDE_SCOPE", "PMIX_ERR_NOT_FOUND"
 
 
 class Mixed(enum.Enum):
@@ -63,13 +63,15 @@ class MapRule(enum.Enum):
 class Traits:
     """How a library answers.
 
-    `local_elsewhere` is the reply for a key of scope local on another node, `invalid` that for a
-    fence whose callers differ. With `asks_owner_at_once` a get of a rank on another node that has
-    committed anything is answered at once. `drops_repeats`: a list is taken as a set.
+    `local_elsewhere` is the reply for a key of scope local on another node, `missing_elsewhere`
+    that for one that isn't there, of a job that the caller's node doesn't have, and `invalid` that
+    for a fence whose callers differ. With `asks_owner_at_once` a get of a rank on another node that
+    has committed anything is answered at once. `drops_repeats`: a list is taken as a set.
     """
 
     rules: frozenset[Rule]
     local_elsewhere: str = OUTSIDE
+    missing_elsewhere: str = NOT_FOUND
     invalid: str = ""
     asks_owner_at_once: bool = False
     drops_repeats: bool = False
@@ -126,6 +128,7 @@ OPENPMIX_4 = Traits(
         Rule.OWN_FROM_STORE,
     },
     local_elsewhere="PMIX_STATUS(-13,HANDSHAKE-FAILED)",
+    missing_elsewhere="PMIX_STATUS(-17,PROC-ENTRY-NOT-FOUND)",
     invalid="PMIX_STATUS(-33,INVALID-ARG)",
     asks_owner_at_once=True,
     brought=Brought.WITH_RANKS,

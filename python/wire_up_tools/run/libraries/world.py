@@ -139,6 +139,12 @@ class Question:
         return self.caller.job == self.owner.job
 
     @property
+    def knows_job(self) -> bool:
+        """Whether a rank of the owner's job is on the caller's node."""
+        there = [it.job for it in self.world.plan.ranks if it.node == self.caller.node]
+        return self.owner.job in there
+
+    @property
     def put(self) -> Owner:
         """What the owner has put and committed."""
         return self.world.owners[self.owner.name]
@@ -180,7 +186,7 @@ class Question:
 
 # A reply as a report writes it; None: the call waits.
 Reply = Optional[str]
-SUCCESS, NOT_FOUND = "PMIX_SUCCESS", "PMIX_ERR_NOT_FOUND"
+SUCCESS = "PMIX_SUCCESS"
 
 
 def succeed(value: str) -> str:
