@@ -24,9 +24,8 @@ from wire_up_tools.run.tables import Recorded, read_table
 # Plans that differ, and that the rules of a library don't explain, by the library's name.
 UNEXPLAINED: dict[str, list[str]] = {}
 # Plans whose runs differ in a way that `--predict` doesn't tell. In the first two a get that waits
-# for a rank of its node isn't found in one of ten runs, though its key comes; in the next two a
-# fence of two jobs sometimes never ends; in the last, callers of a fence on one node differ in
-# collecting, and that of another node gets one of two errors. No rule is known that says when.
+# for a rank of its node isn't found in one of ten runs, though its key comes; in the others a fence
+# of two jobs sometimes never ends. No rule is known that says when.
 UNTOLD = {
     "openpmix-4.2": {
         "get-then-now-samenode",
@@ -34,7 +33,6 @@ UNTOLD = {
         "jobs-fence",
         "jobs-fence-get",
     },
-    "openpmix-7.0": {"collect-mixed-one-node"},
 }
 # The tables of a forerunner, and plans with which a library did something else then, since one of
 # their replies depends on which rank is fast.

@@ -173,12 +173,17 @@ class End:
         traits, here = self.world.traits, self.here
         is_mixed_here = len(self.find_flags(here)) > 1
         if traits.mixed is Mixed.FAILS:
-            return traits.invalid
+            is_spared = self.world.spares_others and not is_mixed_here and self.is_mixed_elsewhere()
+            return None if is_spared else traits.invalid
         if traits.mixed is Mixed.FAILS_FOR_FIRST:
             first = next(it for it in self.arrived if self.node_of(it) == here)
             return traits.invalid if is_mixed_here and first == self.call.rank.name else None
         self.bring_between_nodes()
         return traits.invalid if is_mixed_here else None
+
+    def is_mixed_elsewhere(self) -> bool:
+        """Whether callers on one of the nodes differ in collecting."""
+        return any(len(self.find_flags(it)) > 1 for it in self.nodes)
 
     def bring_between_nodes(self) -> None:
         """Brings keys from each node whose callers collect to each other such node."""

@@ -86,6 +86,7 @@ class Prediction:
         for name in way.order:
             self.step(self.world.ranks[name])
         in_turn = way.sort(self.world.plan.ranks)
+        self.world.spares_others = way.spares_others
         self.world.holds_answers, is_over = way.is_slow, False
         while not is_over:
             is_over = not any(self.step(it) for it in in_turn)
@@ -111,12 +112,13 @@ class Prediction:
 class Way:
     """Which steps come first: those of an order, then those of a rank that is named, and then those
     of the lowest rank that can go on, or of the highest. In a slow one requests are answered once
-    nobody can do anything else."""
+    nobody can do anything else; one that spares others lets some fences succeed."""
 
     order: Sequence[str] = ()
     is_backwards: bool = False
     first: str = ""
     is_slow: bool = False
+    spares_others: bool = False
 
     def sort(self, ranks: Sequence[Rank]) -> list[Rank]:
         """The ranks, those first whose steps come first."""
@@ -139,11 +141,13 @@ def predict(
 
 def list_ways(plan: Plan, traits: Traits) -> list[Way]:
     """The ways that are taken of a plan without races: with the lowest rank first, and with the
-    highest; where ranks share requests, slowly too; and where a fence fails for the caller that
-    arrives first, with each of these."""
+    highest; where ranks share requests, slowly too; and where a fence fails for some of its
+    callers, with each that may be the first, or sparing others."""
     ways = [LOWEST_FIRST, Way(is_backwards=True)]
     if Rule.SHARED_REQUEST in traits.rules:
         ways += [Way(is_slow=True), Way(is_backwards=True, is_slow=True)]
+    if traits.mixed is Mixed.FAILS:
+        ways.append(Way(spares_others=True))
     if traits.mixed is Mixed.FAILS_FOR_FIRST:
         prediction = Prediction(World(plan, traits, traits.rules))
         prediction.run(LOWEST_FIRST)

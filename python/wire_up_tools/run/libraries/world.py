@@ -77,7 +77,8 @@ class World:
     brought where that is kept apart, and `in_caller` what a rank has been given of another.
     `asked` is the key for which a rank waits, of a rank that had made so many commits before.
     `requests` are the last ones of a node of a rank, and `joined` that for which a rank waits; none
-    is answered while it `holds_answers`."""
+    is answered while it `holds_answers`. If it `spares_others`, a fence doesn't fail on a node
+    whose callers don't differ, where those of another do."""
 
     plan: Plan
     traits: Traits
@@ -90,6 +91,7 @@ class World:
     requests: dict[tuple[str, str], Request] = field(default_factory=dict)
     joined: dict[str, Request] = field(default_factory=dict)
     holds_answers: bool = False
+    spares_others: bool = False
     names: dict[str, list[Published]] = field(init=False)
     sets: Mapping[tuple[str, str], frozenset[str]] = field(init=False)
     ranks: Mapping[str, Rank] = field(init=False)
