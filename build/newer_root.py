@@ -1,10 +1,10 @@
-"""Makes a folder with a newer Debian, whose MPI and PMIx the recorder's live tests then run with.
+"""Makes a folder with a newer Debian, whose MPI, PMIx and Slurm the live tests then run with too.
 
 Usage: make newer-root [ROOT=FOLDER]
        python3 -m build.newer_root [FOLDER]
 It takes debootstrap, root and some minutes. FOLDER is /var/tmp/wire-up-trixie, unless it is told or
-WIRE_UP_NEWER_ROOT names another. Where the folder is, the gate runs tests/test_recording_live.py in
-it too, by tests/test_recording_newer.py.
+WIRE_UP_NEWER_ROOT names another. Where the folder is, the gate runs live tests in it too, by
+tests/test_recording_newer.py and tests/test_run_newer.py.
 """
 import os
 import subprocess
@@ -15,7 +15,7 @@ RELEASE = "trixie"
 MIRROR = os.environ.get("DEBIAN_MIRROR", "http://deb.debian.org/debian")
 PACKAGES = (
     "openmpi-bin libopenmpi-dev libpmix-dev pkg-config gcc gfortran libc6-dev make python3"
-    " python3-mpi4py binutils procps"
+    " python3-mpi4py binutils procps hostname iproute2 slurm-wlm"
 ).split()
 # What a command in the folder has in its environment. Open MPI as root must be told that this is
 # meant, and finds no way from this machine to itself by TCP where there is one address alone.
@@ -30,11 +30,12 @@ SETTINGS = (
     "PRTE_ALLOW_RUN_AS_ROOT=1",
     "PRTE_ALLOW_RUN_AS_ROOT_CONFIRM=1",
 )
-# Puts the system's folders into the root, for this process and what it starts alone.
+# Puts the system's folders into the root, for this process and what it starts alone. The root is
+# mounted too: without that, a command inside can't make a table of mounts of its own.
 ENTER = (
-    'root=$0; mount --make-rprivate /; mount -t proc proc "$root/proc"; '
-    'mount --rbind /sys "$root/sys"; mount --rbind /dev "$root/dev"; '
-    'exec chroot "$root" /usr/bin/env -i "$@"'
+    'root=$0; mount --make-rprivate /; mount --bind "$root" "$root"; '
+    'mount -t proc proc "$root/proc"; mount --rbind /sys "$root/sys"; '
+    'mount --rbind /dev "$root/dev"; exec chroot "$root" /usr/bin/env -i "$@"'
 )
 
 

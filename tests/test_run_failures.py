@@ -23,6 +23,8 @@ ENDS = os.path.join(TOP, "examples", "ordered-get.plan")
 OF_TWO_NODES = WAITS.replace(b"node n0\n", b"node n0\nnode n1\n") + b"rank n1\nget app:1 k\n"
 OF_TWO_JOBS = b"rehearsal 1\nnode n0\njob a\nrank n0\nget b:0 k\njob b\nrank n0\nget a:0 k\n"
 RANK, STARTER = "wire_up-rank", "start"
+# The processes of Open MPI 4, and of later ones.
+LAUNCHERS, DAEMONS = ("mpirun", "prterun"), ("orted", "prted")
 # A launcher that says that it is one of Open MPI and refuses every plan; and one that runs one.
 REFUSES = b"""\
 #!/bin/sh
@@ -32,7 +34,7 @@ exit 3
 """
 RUNS_ONE = b"""\
 #!/bin/sh
-[ "$1" = --version ] && exec echo "mpirun (Open MPI) 4.1.4"
+[ "$1" = --version ] && exec mpirun --version
 mkdir "$0.ran" && exec mpirun "$@"
 """
 
@@ -61,15 +63,16 @@ class Killed(LiveRuns):
             stdout, stderr = process.communicate(timeout=SECONDS)
         return Ran(process.args, process.returncode, stdout, stderr)
 
-    def find_victim(self, name: str, last: str = "") -> int:
-        """A process whose program has this name, and whose command line ends so."""
-        found = self.find_processes(name)
-        return next(it for it in found if read_words(it)[-2].endswith(last))
+    def find_victim(self, *names: str, last: str = "") -> int:
+        """The last process whose program has one of these names, and whose command line ends
+        so."""
+        found = [it for name in names for it in self.find_processes(name)]
+        return [it for it in found if read_words(it)[-2].endswith(last)][-1]
 
-    def kill(self, text: bytes, name: str, last: str = "") -> Ran:
+    def kill(self, text: bytes, *names: str, last: str = "") -> Ran:
         """Runs a plan, and kills such a process. Nothing stays."""
         process = self.start(text)
-        os.kill(self.find_victim(name, last), signal.SIGKILL)
+        os.kill(self.find_victim(*names, last=last), signal.SIGKILL)
         ran = self.end(process)
         self.hold_nothing_left()
         return ran
@@ -80,20 +83,20 @@ class Killed(LiveRuns):
 
     def test_a_rank_of_two_jobs(self) -> None:
         said = "b:0 ended at its call 1 get before the run did: "
-        self.hold_refused(self.kill(OF_TWO_JOBS, RANK, "1"), said)
+        self.hold_refused(self.kill(OF_TWO_JOBS, RANK, last="1"), said)
 
     def test_what_starts_the_jobs(self) -> None:
         said = "the process that starts the jobs ended before the ranks did: "
-        self.hold_refused(self.kill(OF_TWO_JOBS, RANK, STARTER), said)
+        self.hold_refused(self.kill(OF_TWO_JOBS, RANK, last=STARTER), said)
 
     def test_the_launcher(self) -> None:
         """The line says that it has ended, although its ranks end with it."""
-        self.hold_refused(self.kill(OF_TWO_NODES, "mpirun"), "mpirun ended with status 137")
+        self.hold_refused(self.kill(OF_TWO_NODES, *LAUNCHERS), "mpirun ended with status 137")
 
     def test_a_daemon(self) -> None:
         """What ranks reply that have no server any more isn't taken for the library's."""
         for _ in range(2):
-            self.hold_refused(self.kill(OF_TWO_NODES, "orted"), " before the run ")
+            self.hold_refused(self.kill(OF_TWO_NODES, *DAEMONS), " before the run ")
 
     def test_the_nodes(self) -> None:
         """The first of the processes that run among fake nodes."""
@@ -102,7 +105,7 @@ class Killed(LiveRuns):
     def test_the_launcher_of_a_host(self) -> None:
         hosts = self.write("hosts", os.uname().nodename.encode())
         process = self.start(WAITS, "--hosts", hosts)
-        os.kill(self.find_victim("mpirun"), signal.SIGKILL)
+        os.kill(self.find_victim(*LAUNCHERS), signal.SIGKILL)
         self.hold_refused(self.end(process), "mpirun ended by signal 9")
         self.wait_for(lambda: not self.find_processes())
 
@@ -164,6 +167,10 @@ class NotStarted(LiveRuns):
     def test_plans(self) -> None:
         """One with a fault, one that isn't there, and what a launcher or a host file can't take."""
         bad = self.write("bad.plan", b"rehearsal\n")
+        blank = os.path.join(self.room, "a b")
+        os.mkdir(blank)
+        said = "a launcher takes no path with a blank: set TMPDIR"
+        self.hold_refused(self.run_it(ENDS, temporary=blank), said)
         two_nodes = self.write("nodes.plan", OF_TWO_NODES)
         two_jobs = self.write("jobs.plan", OF_TWO_JOBS)
         hosts = self.write("hosts", b"localhost\n")
@@ -214,11 +221,18 @@ class FullDisk(LiveRuns):
             self.assertIn(f"wire_up-run: {folder}/wire_up-run-", ran.stderr)
 
     def test_no_room_for_the_library(self) -> None:
-        """It says so to the rank, or its server writes it, and no rank comes up."""
-        with self.small_disk(1024) as folder:
-            ran = self.run_it("--start", "15", ENDS, temporary=folder)
-        self.hold_refused(ran, "wire_up-run: ")
-        self.assertRegex(ran.stderr, "has the disk room|ranks came up in 15 seconds: .*RESOURCE")
+        """It says so to the rank, or its server writes it, and no rank comes up. Some can do with
+        less room, or do without what they have no room for."""
+        refused = 0
+        for size in (64, 1024):
+            with self.small_disk(size) as folder:
+                ran = self.run_it("--start", "15", ENDS, temporary=folder)
+            if ran.returncode:
+                refused += 1
+                self.hold_refused(ran, "wire_up-run: ")
+                lost = "lost communication|ranks came up in 15 seconds: .*RESOURCE"
+                self.assertRegex(ran.stderr, f"has the disk room|{lost}")
+        self.assertTrue(refused)
 
     def test_no_file_may_be_as_large(self) -> None:
         """A limit of files is told as a full disk is."""

@@ -23,16 +23,16 @@ from wire_up_tools.run.tables import Recorded, read_table
 
 # Plans that differ, and that the rules of a library don't explain, by the library's name.
 UNEXPLAINED: dict[str, list[str]] = {}
-# Plans of which `--predict` says a call more than was seen, and that it is unsteady.
-UNSEEN = {
-    "slurm-24.11": [
-        "collect-after-get",
-        "get-new-key",
-        "get-stale-caller",
-        "get-stale-mate",
-        "later-key-asked-again",
-        "other-rewrite-unread-get",
-    ],
+# Plans whose runs differ in a way that `--predict` doesn't tell. In the first two a get that waits
+# for a rank of its node isn't found in one of ten runs, though its key comes; in the others a fence
+# of two jobs sometimes never ends. No rule is known that says when.
+UNTOLD = {
+    "openpmix-4.2": {
+        "get-then-now-samenode",
+        "jobs-get-same-node",
+        "jobs-fence",
+        "jobs-fence-get",
+    },
 }
 # The tables of a forerunner, and plans with which a library did something else then, since one of
 # their replies depends on which rank is fast.
@@ -40,7 +40,8 @@ EARLIER = os.path.join(TOP, "tests", "earlier_tables")
 UNLIKE = {
     "openpmix-4.2": {"get-then-now-samenode", "jobs-fence"},
     "openpmix-5.0": {"collect-mixed-one-node"},
-    "slurm-24.11": {"collect-mixed-one-node", "later-key-asked-again"},
+    "openpmix-7.0": {"collect-mixed-one-node"},
+    "slurm-24.11": {"collect-mixed-one-node"},
 }
 PLANS = {it.name: it for it in read_suite()}
 
@@ -101,20 +102,22 @@ class Predictions(unittest.TestCase):
                 self.assertEqual(UNEXPLAINED.get(name, []), wrong)
 
     def test_what_is_told(self) -> None:
-        """`--predict` tells each difference. It takes two orders: what wasn't seen it calls
-        unsteady, and the plans are listed."""
+        """`--predict` tells exactly what was seen of a plan whose runs are alike: nothing of one
+        that is equal. Where runs differ it tells each call that did, and that it is unsteady, but
+        for the plans that are listed."""
         for library in LIBRARIES.values():
-            unseen = []
+            untold = set()
             for name, it in read_table(library.table).plans.items():
-                if it.kind is Kind.UNSTEADY:
-                    continue
                 plan = read_plan(PLANS[name].text.encode())
-                of, seen = judge(plan, library, Expected(REPORTS[name])), list_seen(it)
-                sure = {str(p.difference) for p in of.found if p.difference.place not in of.timed}
-                told = {str(p.difference) for p in of.found}
-                self.assertTrue(sure <= seen <= told, f"{library.name} {name}")
-                unseen += [name] if told != seen else []
-            self.assertEqual(UNSEEN.get(library.name, []), sorted(unseen))
+                of = judge(plan, library, Expected(REPORTS[name]))
+                places = {p.difference.place for p in of.found}
+                if it.kind is Kind.UNSTEADY:
+                    if not {d.place for d in it.differences} <= places or not of.timed:
+                        untold.add(name)
+                elif name not in UNEXPLAINED.get(library.name, []):
+                    told = {str(p.difference) for p in of.found}
+                    self.assertEqual(list_seen(it), told, f"{library.name} {name}")
+            self.assertEqual(UNTOLD.get(library.name, set()), untold)
 
     def test_unsteady_plans(self) -> None:
         """Where runs differed, each reply that is predicted is the rules' or one that was seen."""

@@ -64,19 +64,19 @@ class Live(LiveRuns):
         ran = self.run_it(*words, "scope-local-direct", *names)
         self.assertEqual(1, ran.returncode, ran.stderr)
         self.assertIn("\nkept fence-barrier 0 of 1 plans: ", ran.stdout)
-        self.assertIn("\nnot-kept scope-local 1 of 1 plans: ", ran.stdout)
         if "library OpenPMIx 4" in ran.stdout:
+            self.assertIn("\nnot-kept scope-local 1 of 1 plans: ", ran.stdout)
             self.assertIn("\nknown openpmix-4.2 explains ", ran.stdout)
             self.assertNotIn("\nunexplained", ran.stdout)
         self.assertEqual({"fence-single", "scope-local-direct", *names}, {*read_table(table).plans})
 
     def test_a_host_file(self) -> None:
         """The node of a plan is this machine."""
-        host = socket.gethostname().encode()
-        hosts = self.write("hosts", b"# this machine\n" + host + b"\n")
         plan = WAITS.replace(b"get app:1 k", b"get app:1 PMIX_HOSTNAME")
-        ran = self.run_it("--hosts", hosts, self.write("it.plan", plan))
-        self.assertIn("app:0 1 get PMIX_SUCCESS n0\n", ran.stdout, ran.stderr)
+        for host in (socket.gethostname(), "localhost"):
+            hosts = self.write("hosts", f"# this machine\n{host}\n".encode())
+            ran = self.run_it("--hosts", hosts, self.write("it.plan", plan))
+            self.assertIn("app:0 1 get PMIX_SUCCESS n0\n", ran.stdout, ran.stderr)
 
 
 if __name__ == "__main__":

@@ -31,13 +31,25 @@ def write_whole(path: str, text: str) -> None:
     data = text.encode()
     with naming("standard output" if path == STANDARD_OUTPUT else path):
         if path == STANDARD_OUTPUT:
-            sys.stdout.buffer.write(data)
-            sys.stdout.flush()
+            write_out(data)
         elif os.path.exists(path) and not os.path.isfile(path):
             with open(path, "wb") as to:
                 to.write(data)
         else:
             replace_file(path, data)
+
+
+def write_out(data: bytes) -> None:
+    """Writes to standard output. Raises OSError."""
+    try:
+        sys.stdout.buffer.write(data)
+        sys.stdout.flush()
+    except OSError:
+        # At its end Python writes again what it holds, and newer ones end with a status of their
+        # own if they can't.
+        with open(os.devnull, "wb") as nothing:
+            os.dup2(nothing.fileno(), sys.stdout.fileno())
+        raise
 
 
 def write_each(texts: Sequence[tuple[str, str]]) -> None:

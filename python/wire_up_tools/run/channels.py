@@ -174,6 +174,8 @@ def find_addresses(hosts: Iterable[str]) -> list[str]:
 def find_own_address(host: str) -> Optional[str]:
     """The address from which this machine reaches a host; the loopback where the host is this
     machine. None where the way to it isn't known."""
+    if host == socket.gethostname():
+        return LOOPBACK
     with contextlib.suppress(OSError, UnicodeError):
         for family, kind, _, _, to in socket.getaddrinfo(host, ANY_PORT, type=socket.SOCK_DGRAM):
             with contextlib.suppress(OSError), socket.socket(family, kind) as way:

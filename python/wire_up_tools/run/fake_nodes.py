@@ -42,8 +42,10 @@ def hold_possible() -> None:
 
 
 def write_agent(folder: str) -> str:
-    """Writes the remote shell into a folder, and answers its path. Raises OSError."""
+    """Writes the remote shell into a folder, and answers its path. Raises Refused, OSError."""
     path = os.path.join(folder, "agent")
+    if len(path.split()) > 1:
+        raise Refused(f"{folder}: a launcher takes no path with a blank: set TMPDIR")
     write_file(path, AGENT)
     os.chmod(path, 0o700)
     return path

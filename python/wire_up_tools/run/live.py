@@ -1,5 +1,6 @@
 """Runs a plan on a real library: each rank is a process that makes its calls."""
 import contextlib
+import itertools
 import os
 import shutil
 import signal
@@ -120,12 +121,15 @@ class Run:
         return f"{self.setting.launcher.name} ended {how}"
 
     def quote(self) -> str:
-        """The first line that the launcher said, as the end of a message; nothing if it said
+        """The first sentence that the launcher said, as the end of a message; nothing if it said
         none."""
         list(self.hall.hear(TICK))
         lines = self.hall.said.decode("utf-8", "replace").split("\n")
         said = [it.strip() for it in lines if it.strip(" -=*\t\r")]
-        return f": {said[0][:LINE_LENGTH]}" if said else ""
+        # A line that goes on with the sentence begins with a small letter.
+        more = itertools.takewhile(lambda it: it[0].islower(), said[1:])
+        first = " ".join([*said[:1], *more])
+        return f": {first[:LINE_LENGTH]}" if first else ""
 
     def refuse_loss(self, lost: str) -> Refused:
         """What is raised where a process or its server is lost: its launcher took it along, or

@@ -2,6 +2,7 @@
 import datetime
 import os
 import shutil
+import socket
 import sys
 from collections.abc import Sequence
 from dataclasses import dataclass
@@ -30,6 +31,7 @@ from wire_up_tools.run.suite_answers import (
 from wire_up_tools.run.tables import write_table
 
 NAME = "wire_up-run"
+LOCAL = ("localhost", "127.0.0.1")
 SAME, DIFFERENT = 0, 1
 # The process that makes the calls, and where it is, seen from the folder of the command: in the
 # repository, and where `make install` puts it.
@@ -131,12 +133,14 @@ def find_rank(folder: str) -> str:
 
 
 def read_hosts(path: str) -> list[str]:
-    """The hosts of a file: the first word of each line but comments. Raises Refused, OSError."""
+    """The hosts of a file: the first word of each line but comments. A launcher may not know this
+    machine as `localhost`. Raises Refused, OSError."""
     lines = (it.split() for it in read_file(path).decode("utf-8", "replace").splitlines())
     hosts = [it[0] for it in lines if it and not it[0].startswith("#")]
     if not hosts:
         raise Refused(f"{path}: has no host")
-    return list(dict.fromkeys(hosts))
+    here = socket.gethostname()
+    return list(dict.fromkeys(here if it in LOCAL else it for it in hosts))
 
 
 def make_setting(choices: Choices, folder: str) -> Setting:

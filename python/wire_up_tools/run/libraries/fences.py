@@ -6,7 +6,7 @@ from typing import Optional
 
 from wire_up_tools.plan import Call
 from wire_up_tools.run.libraries.rules import Rule
-from wire_up_tools.run.libraries.traits import Kept, Mixed
+from wire_up_tools.run.libraries.traits import Brought, Kept, Mixed
 from wire_up_tools.run.libraries.world import SUCCESS, Arrival, Reply, World
 
 # What identifies a fence to the library: the job of a fence of all its ranks, or a list.
@@ -42,6 +42,22 @@ class Fences:
         items: Sequence[str] = call.target.split(",")
         return (LIST, *sorted(set(items) if self.world.traits.drops_repeats else items))
 
+    def node_of(self, name: str) -> str:
+        """The node of a rank."""
+        return self.world.ranks[name].node
+
+    def list_mixed(self) -> list[str]:
+        """The ranks that arrived at a fence of whose callers on their node some collect and others
+        don't."""
+        found: dict[str, None] = {}
+        for it in self.meetings.values():
+            flags: dict[str, set[bool]] = {}
+            for name, arrival in it.arrived.items():
+                flags.setdefault(self.node_of(name), set()).add(arrival.collects)
+            mixed = {node for node, them in flags.items() if len(them) > 1}
+            found.update((name, None) for name in it.arrived if self.node_of(name) in mixed)
+        return list(found)
+
     def arrive(self, call: Call) -> None:
         """Lets a rank arrive."""
         name, sign = call.rank.name, self.find_sign(call)
@@ -55,7 +71,9 @@ class Fences:
 
     def leave(self, call: Call) -> Reply:
         """How the fence ends for a rank that has arrived; None while it doesn't."""
-        end = End(self.world, call, self.standing[call.rank.name])
+        meeting = self.standing[call.rank.name]
+        alike = [it for it in self.meetings.values() if it.sign == meeting.sign]
+        end = End(self.world, call, meeting, alike)
         if end.is_barred() or not end.is_complete():
             return None
         del self.standing[call.rank.name]
@@ -71,6 +89,8 @@ class End:
     world: World
     call: Call
     meeting: Meeting
+    # All fences that the library knows by the same sign, in their order.
+    alike: Sequence[Meeting]
 
     @property
     def members(self) -> frozenset[str]:
@@ -79,8 +99,35 @@ class End:
 
     @property
     def arrived(self) -> Mapping[str, Arrival]:
-        """Those that have arrived at what the library takes for the same fence."""
-        return self.meeting.arrived
+        """Those that have arrived at what the library takes for the same fence. Where others wait
+        for their node alone, those that collect meet each other across nodes: the first of a node
+        the first of another."""
+        if not self.meets_collecting:
+            return self.meeting.arrived
+        at = self.list_collecting(self.here).index(self.meeting)
+        met = {node: self.list_collecting(node)[at:] for node in self.nodes}
+        there = [it for it in self.members if met[self.node_of(it)]]
+        return {it: met[self.node_of(it)][0].arrived[it] for it in there}
+
+    @property
+    def meets_collecting(self) -> bool:
+        """Whether it meets those that collect, and no others."""
+        of_node = self.world.has(Rule.FENCE_OF_NODE)
+        return of_node and self.is_collecting(self.meeting, self.here)
+
+    @property
+    def here(self) -> str:
+        """The node of the caller."""
+        return self.call.rank.node
+
+    def is_collecting(self, meeting: Meeting, node: str) -> bool:
+        """Whether all members on a node have arrived at a fence, and all collect."""
+        members = [it for it in self.members if self.node_of(it) == node]
+        return all(it in meeting.arrived and meeting.arrived[it].collects for it in members)
+
+    def list_collecting(self, node: str) -> list[Meeting]:
+        """The fences like this one at which a node collects, in their order."""
+        return [it for it in self.alike if self.is_collecting(it, node)]
 
     def node_of(self, name: str) -> str:
         """The node of a rank."""
@@ -105,19 +152,14 @@ class End:
         words = self.call.target.split(",")
         if not self.world.has(Rule.FENCE_OF_NODE) or self.call.collects:
             return words
-        here = self.call.rank.node
-        return [it for it in words if it not in self.world.ranks or self.node_of(it) == here]
+        return [it for it in words if it not in self.world.ranks or self.node_of(it) == self.here]
 
     def is_complete(self) -> bool:
         """Whether all have arrived that it waits for."""
-        of_node = self.world.has(Rule.FENCE_OF_NODE)
-        here = self.call.rank.node
-        far = [it for it in self.members if self.node_of(it) != here]
-        if of_node and not self.call.collects:
-            return self.members.difference(far) <= self.arrived.keys()
-        if not self.members <= self.arrived.keys():
-            return False
-        return not of_node or all(self.arrived[it].collects for it in far)
+        if not self.world.has(Rule.FENCE_OF_NODE) or self.meets_collecting:
+            return self.members <= self.arrived.keys()
+        near = {it for it in self.members if self.node_of(it) == self.here}
+        return near <= self.meeting.arrived.keys()
 
     def find_flags(self, node: Optional[str] = None) -> set[bool]:
         """Whether those that have arrived collect, on a node or on all."""
@@ -128,11 +170,20 @@ class End:
         """The reply of a fence whose callers differ in collecting, if it is another one."""
         if len(self.find_flags()) < 2 or not self.world.has(Rule.MIXED_COLLECT):
             return None
-        traits = self.world.traits
+        traits, here = self.world.traits, self.here
+        is_mixed_here = len(self.find_flags(here)) > 1
         if traits.mixed is Mixed.FAILS:
-            return traits.invalid
+            is_spared = self.world.spares_others and not is_mixed_here and self.is_mixed_elsewhere()
+            return None if is_spared else traits.invalid
+        if traits.mixed is Mixed.FAILS_FOR_FIRST:
+            first = next(it for it in self.arrived if self.node_of(it) == here)
+            return traits.invalid if is_mixed_here and first == self.call.rank.name else None
         self.bring_between_nodes()
-        return traits.invalid if len(self.find_flags(self.call.rank.node)) > 1 else None
+        return traits.invalid if is_mixed_here else None
+
+    def is_mixed_elsewhere(self) -> bool:
+        """Whether callers on one of the nodes differ in collecting."""
+        return any(len(self.find_flags(it)) > 1 for it in self.nodes)
 
     def bring_between_nodes(self) -> None:
         """Brings keys from each node whose callers collect to each other such node."""
@@ -149,15 +200,23 @@ class End:
         if self.world.has(Rule.COLLECT_BRINGS_NOTHING):
             return
         self.meeting.has_brought = True
-        jobs = {self.world.ranks[it].job for it in self.members}
-        if len(jobs) == 1 or self.world.traits.is_across_jobs:
-            for member in self.members & self.arrived.keys():
-                self.bring_from(member)
+        for member in self.members & self.arrived.keys():
+            self.bring_from(member)
+
+    def find_nodes(self, member: str) -> set[str]:
+        """The nodes to which it brings the keys of a member."""
+        ranks = self.world.ranks
+        if not self.world.has(Rule.FENCE_OF_JOBS):
+            return set(self.nodes)
+        only_members = self.world.traits.brought is Brought.WITH_MEMBERS
+        among = self.members if only_members else ranks
+        of_job = {self.node_of(it) for it in among if ranks[it].job == ranks[member].job}
+        return of_job.intersection(self.nodes)
 
     def bring_from(self, member: str) -> None:
-        """Brings what a member committed to the nodes of all members."""
+        """Brings what a member committed to nodes of the others."""
         values, is_apart = self.arrived[member].values, self.world.traits.kept is Kept.APART
-        for node in self.nodes:
+        for node in self.find_nodes(member):
             if is_apart:
                 self.world.by_fences[node, member].update(values)
             elif node != self.node_of(member):

@@ -1,7 +1,7 @@
 """What a get gives, by the rules of a library."""
 from wire_up_tools.run.libraries.rules import Rule
-from wire_up_tools.run.libraries.traits import OUTSIDE, Kept, MapRule
-from wire_up_tools.run.libraries.world import NOT_FOUND, Question, Reply, succeed
+from wire_up_tools.run.libraries.traits import NOT_FOUND, OUTSIDE, Kept, MapRule
+from wire_up_tools.run.libraries.world import Question, Reply, succeed
 from wire_up_tools.words import is_reserved
 
 RANK, JOB_SIZE, HOST = "PMIX_RANK", "PMIX_JOB_SIZE", "PMIX_HOSTNAME"
@@ -46,6 +46,8 @@ def answer_map(asked: Question) -> Reply:
         return None if is_asked and asked.is_of_job else NOT_FOUND
     rule = asked.traits.map_rule
     is_told = rule is MapRule.EVERY_RANK or asked.is_of_job
+    if rule is MapRule.HOST_OF_OWN_JOB and asked.key != HOST:
+        is_told = True
     if rule is MapRule.OWN_JOB_AND_NODE and asked.key != HOST and not asked.is_near:
         is_told = False
     return read_map(asked) if is_told else NOT_FOUND
@@ -76,7 +78,7 @@ def answer_own(asked: Question) -> Reply:
 
 def answer_other(asked: Question) -> Reply:
     """What a get of a key of another rank gives."""
-    if asked.traits.kept is Kept.APART and asked.is_of_job and asked.key in asked.by_fences:
+    if asked.traits.kept is Kept.APART and asked.key in asked.by_fences:
         return succeed(asked.by_fences[asked.key])
     if asked.has(Rule.KEPT_BY_CALLER) and asked.key in asked.in_caller:
         return succeed(asked.in_caller[asked.key])
@@ -120,20 +122,34 @@ def answer_far_now(asked: Question) -> Reply:
 
 def answer_far(asked: Question) -> Reply:
     """What a get that waits gives of a rank on another node."""
+    if not asked.has(Rule.SHARED_REQUEST):
+        return answer_asked(asked)
+    request = asked.join()
+    if not asked.world.holds_answers and request.key in asked.put.committed:
+        request.is_answered = True
+    if not request.is_answered:
+        return None
+    del asked.world.joined[asked.caller.name]
+    return answer_asked(asked) or NOT_FOUND
+
+
+def answer_asked(asked: Question) -> Reply:
+    """What a get gives of a rank on another node by a request of its own."""
     put, asks_at_once = asked.put, asked.traits.asks_owner_at_once
     is_at_once = asks_at_once and asked.has(Rule.OWNER_ANSWERS)
     if not put.commits or (asked.key not in put.committed and not is_at_once):
         return None
+    if asked.has(Rule.GET_BRINGS_ALL):
+        asked.on_node.update(put.elsewhere)
     if asked.key not in put.elsewhere:
         has_others = bool(put.elsewhere)
         if is_at_once and has_others:
-            return NOT_FOUND
+            return NOT_FOUND if asked.knows_job else asked.traits.missing_elsewhere
         if not asked.has(Rule.LOCAL_ELSEWHERE):
             return OUTSIDE
         if not asks_at_once and has_others:
             return NOT_FOUND
         return asked.traits.local_elsewhere if is_at_once else OUTSIDE
     if asked.has(Rule.GET_BRINGS_ALL):
-        asked.on_node.update(put.elsewhere)
         asked.in_caller.update(put.elsewhere)
     return succeed(put.elsewhere[asked.key])

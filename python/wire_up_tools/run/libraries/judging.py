@@ -7,10 +7,10 @@ from wire_up_tools.failures import Refused
 from wire_up_tools.plan import Plan
 from wire_up_tools.run.expected import Expected
 from wire_up_tools.run.libraries.predicting import (
-    LOWEST_FIRST,
     Predicted,
     Way,
     explain_differences,
+    list_ways,
 )
 from wire_up_tools.run.libraries.rules import TIMED, Rule
 from wire_up_tools.run.libraries.traits import Library
@@ -44,11 +44,8 @@ def hold_small(plan: Plan) -> None:
 
 
 def judge(plan: Plan, library: Library, expected: Expected) -> Judged:
-    """What a library makes of a plan. One without races is taken in two orders: with the lowest
-    rank first, and with the highest."""
-    ways = [LOWEST_FIRST, Way(is_backwards=True)]
-    if expected.order is not None:
-        ways = [Way(expected.order)]
+    """What a library makes of a plan. One without races is taken in several orders."""
+    ways = [Way(expected.order)] if expected.order is not None else list_ways(plan, library.traits)
     found: dict[Place, Predicted] = {}
     replies: list[dict[Place, str]] = []
     for way in ways:

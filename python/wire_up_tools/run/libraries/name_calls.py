@@ -1,9 +1,8 @@
 """What a call on a name gives, by the rules of a library."""
 from wire_up_tools.plan import Call
 from wire_up_tools.run.libraries.rules import Rule
-from wire_up_tools.run.libraries.traits import Publish, Several
+from wire_up_tools.run.libraries.traits import NOT_FOUND, Publish, Several
 from wire_up_tools.run.libraries.world import (
-    NOT_FOUND,
     SUCCESS,
     Published,
     Reply,

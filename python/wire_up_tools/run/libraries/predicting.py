@@ -8,7 +8,7 @@ from wire_up_tools.run.libraries.fences import Fences
 from wire_up_tools.run.libraries.gets import answer_get
 from wire_up_tools.run.libraries.name_calls import BAD, answer_name_call
 from wire_up_tools.run.libraries.rules import Rule
-from wire_up_tools.run.libraries.traits import Traits
+from wire_up_tools.run.libraries.traits import Mixed, Traits
 from wire_up_tools.run.libraries.world import SUCCESS, Held, Question, Reply, World
 from wire_up_tools.run.reports import (
     UNREACHED,
@@ -20,6 +20,9 @@ from wire_up_tools.run.reports import (
     compare,
 )
 from wire_up_tools.words import is_reserved
+
+# A way more takes as long as each of the others.
+MOST_FIRST = 16
 
 
 @dataclass(eq=False)
@@ -82,10 +85,15 @@ class Prediction:
         rank that can go on."""
         for name in way.order:
             self.step(self.world.ranks[name])
-        ranks = self.world.plan.ranks
-        in_turn = ranks[::-1] if way.is_backwards else ranks
-        while any(self.step(it) for it in in_turn):
-            pass
+        in_turn = way.sort(self.world.plan.ranks)
+        self.world.spares_others = way.spares_others
+        self.world.holds_answers, is_over = way.is_slow, False
+        while not is_over:
+            is_over = not any(self.step(it) for it in in_turn)
+            if is_over and self.world.holds_answers:
+                self.world.holds_answers = is_over = False
+            elif not is_over:
+                self.world.holds_answers = way.is_slow
 
     def report(self) -> Report:
         """What became of all calls."""
@@ -102,11 +110,20 @@ class Prediction:
 
 @dataclass(frozen=True)
 class Way:
-    """Which steps come first: those of an order, and then those of the lowest rank that can go on,
-    or of the highest."""
+    """Which steps come first: those of an order, then those of a rank that is named, and then those
+    of the lowest rank that can go on, or of the highest. In a slow one requests are answered once
+    nobody can do anything else; one that spares others lets some fences succeed."""
 
     order: Sequence[str] = ()
     is_backwards: bool = False
+    first: str = ""
+    is_slow: bool = False
+    spares_others: bool = False
+
+    def sort(self, ranks: Sequence[Rank]) -> list[Rank]:
+        """The ranks, those first whose steps come first."""
+        in_turn = ranks[::-1] if self.is_backwards else ranks
+        return sorted(in_turn, key=lambda it: it.name != self.first)
 
 
 LOWEST_FIRST = Way()
@@ -120,6 +137,22 @@ def predict(
     prediction = Prediction(World(plan, traits, rules))
     prediction.run(way)
     return prediction.report()
+
+
+def list_ways(plan: Plan, traits: Traits) -> list[Way]:
+    """The ways that are taken of a plan without races: with the lowest rank first, and with the
+    highest; where ranks share requests, slowly too; and where a fence fails for some of its
+    callers, with each that may be the first, or sparing others."""
+    ways = [LOWEST_FIRST, Way(is_backwards=True)]
+    if Rule.SHARED_REQUEST in traits.rules:
+        ways += [Way(is_slow=True), Way(is_backwards=True, is_slow=True)]
+    if traits.mixed is Mixed.FAILS:
+        ways.append(Way(spares_others=True))
+    if traits.mixed is Mixed.FAILS_FOR_FIRST:
+        prediction = Prediction(World(plan, traits, traits.rules))
+        prediction.run(LOWEST_FIRST)
+        ways += [Way(first=it) for it in prediction.fences.list_mixed()[:MOST_FIRST]]
+    return ways
 
 
 @dataclass(frozen=True)

@@ -11,7 +11,7 @@ from wire_up_tools.run.launchers import Kind
 from wire_up_tools.run.libraries.rules import Rule
 
 TABLES = os.path.join(os.path.dirname(os.path.dirname(os.path.abspath(__file__))), "tables")
-OUTSIDE = "PMIX_ERR_EXISTS_OUTSIDE_SCOPE"
+OUTSIDE, NOT_FOUND = "PMIX_ERR_EXISTS_OUTSIDE_SCOPE", "PMIX_ERR_NOT_FOUND"
 
 
 class Mixed(enum.Enum):
@@ -19,6 +19,7 @@ class Mixed(enum.Enum):
 
     COLLECTS_NOT = "it doesn't collect"
     FAILS_ON_NODE = "it fails on a node with both; from the other nodes it may bring"
+    FAILS_FOR_FIRST = "on a node with both it fails for the caller that arrives there first"
     FAILS = "it fails"
 
 
@@ -43,11 +44,18 @@ class Kept(enum.Enum):
     APART = "apart, where it is seen before all else"
 
 
+class Brought(enum.Enum):
+    """To which nodes of its members a fence of several jobs brings the keys of one of them."""
+
+    WITH_RANKS = "to those that have a rank of its job"
+    WITH_MEMBERS = "to those that have a member of its job"
+
+
 class MapRule(enum.Enum):
     """Of which ranks the map can be asked."""
 
     EVERY_RANK = "of every rank"
-    OWN_JOB = "of ranks of the caller's job"
+    HOST_OF_OWN_JOB = "of every rank, for the host name of ranks of the caller's job alone"
     OWN_JOB_AND_NODE = "of ranks of the caller's job, on other nodes for the host name alone"
 
 
@@ -55,18 +63,19 @@ class MapRule(enum.Enum):
 class Traits:
     """How a library answers.
 
-    `local_elsewhere` is the reply for a key of scope local on another node, `invalid` that for a
-    fence whose callers differ. With `asks_owner_at_once` a get of a rank on another node that has
-    committed anything is answered at once. `drops_repeats`: a list is taken as a set.
-    `is_across_jobs`: a fence that collects brings keys to other jobs too.
+    `local_elsewhere` is the reply for a key of scope local on another node, `missing_elsewhere`
+    that for one that isn't there, of a job that the caller's node doesn't have, and `invalid` that
+    for a fence whose callers differ. With `asks_owner_at_once` a get of a rank on another node that
+    has committed anything is answered at once. `drops_repeats`: a list is taken as a set.
     """
 
     rules: frozenset[Rule]
     local_elsewhere: str = OUTSIDE
+    missing_elsewhere: str = NOT_FOUND
     invalid: str = ""
     asks_owner_at_once: bool = False
     drops_repeats: bool = False
-    is_across_jobs: bool = True
+    brought: Brought = Brought.WITH_MEMBERS
     has_names: bool = True
     unpublishes_of_others: bool = False
     takes_reserved: bool = True
@@ -76,7 +85,7 @@ class Traits:
     publish: Publish = Publish.ADDED
     several: Several = Several.PARTIAL
     kept: Kept = Kept.WITH_GETS
-    map_rule: MapRule = MapRule.OWN_JOB
+    map_rule: MapRule = MapRule.HOST_OF_OWN_JOB
 
 
 COMMON = frozenset(
@@ -111,24 +120,46 @@ class Library:
 
 OPENPMIX_4 = Traits(
     rules=COMMON
-    | {Rule.OWNER_ANSWERS, Rule.ANSWERED_AT_COMMIT, Rule.MIXED_COLLECT, Rule.OWN_FROM_STORE},
+    | {
+        Rule.OWNER_ANSWERS,
+        Rule.ANSWERED_AT_COMMIT,
+        Rule.MIXED_COLLECT,
+        Rule.FENCE_OF_JOBS,
+        Rule.OWN_FROM_STORE,
+    },
     local_elsewhere="PMIX_STATUS(-13,HANDSHAKE-FAILED)",
+    missing_elsewhere="PMIX_STATUS(-17,PROC-ENTRY-NOT-FOUND)",
     invalid="PMIX_STATUS(-33,INVALID-ARG)",
     asks_owner_at_once=True,
-    is_across_jobs=False,
+    brought=Brought.WITH_RANKS,
     has_own_reserved=False,
     mixed=Mixed.FAILS_ON_NODE,
     several=Several.LAST,
     map_rule=MapRule.EVERY_RANK,
 )
 OPENPMIX_5 = Traits(
-    rules=COMMON | {Rule.KEPT_BY_CALLER, Rule.COLLECT_BRINGS_NOTHING, Rule.ANSWERED_AT_COMMIT}
+    rules=COMMON
+    | {
+        Rule.KEPT_BY_CALLER,
+        Rule.COLLECT_BRINGS_NOTHING,
+        Rule.ANSWERED_AT_COMMIT,
+        Rule.SHARED_REQUEST,
+        Rule.MIXED_COLLECT,
+    },
+    invalid="PMIX_STATUS(-33,PMIX_ERR_INVALID_ARG)",
+    mixed=Mixed.FAILS_FOR_FIRST,
 )
 OPENPMIX_7 = Traits(
-    rules=COMMON | {Rule.KEPT_BY_CALLER, Rule.MIXED_COLLECT},
+    rules=COMMON
+    | {
+        Rule.KEPT_BY_CALLER,
+        Rule.ANSWERED_AT_COMMIT,
+        Rule.SHARED_REQUEST,
+        Rule.MIXED_COLLECT,
+        Rule.FENCE_OF_JOBS,
+    },
     invalid="PMIX_STATUS(-33,PMIX_ERR_INVALID_ARG)",
     drops_repeats=True,
-    is_across_jobs=False,
     unpublishes_of_others=True,
     takes_reserved=False,
     asks_owner_of_reserved=True,
@@ -142,9 +173,12 @@ SLURM = Traits(
         Rule.KEPT_BY_CALLER,
         Rule.OWNER_ANSWERS,
         Rule.ANSWERED_AT_COMMIT,
+        Rule.MIXED_COLLECT,
         Rule.FENCE_OF_NODE,
     },
     local_elsewhere="PMIX_ERROR",
+    invalid="PMIX_STATUS(-33,PMIX_ERR_INVALID_ARG)",
+    mixed=Mixed.FAILS_FOR_FIRST,
     asks_owner_at_once=True,
     has_names=False,
     map_rule=MapRule.OWN_JOB_AND_NODE,

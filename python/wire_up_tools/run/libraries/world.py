@@ -64,10 +64,21 @@ class Owner:
 
 
 @dataclass(eq=False)
+class Request:
+    """What a node asks of a rank elsewhere: the key of the get that came first."""
+
+    key: str
+    is_answered: bool = False
+
+
+@dataclass(eq=False)
 class World:
     """All that is known. `on_node` is what a node has of a rank elsewhere, `by_fences` what fences
     brought where that is kept apart, and `in_caller` what a rank has been given of another.
-    `asked` is the key for which a rank waits, of a rank that had made so many commits before."""
+    `asked` is the key for which a rank waits, of a rank that had made so many commits before.
+    `requests` are the last ones of a node of a rank, and `joined` that for which a rank waits; none
+    is answered while it `holds_answers`. If it `spares_others`, a fence doesn't fail on a node
+    whose callers don't differ, where those of another do."""
 
     plan: Plan
     traits: Traits
@@ -77,6 +88,10 @@ class World:
     by_fences: dict[tuple[str, str], Values] = field(init=False)
     in_caller: dict[tuple[str, str], Values] = field(init=False)
     asked: dict[str, tuple[str, str, int]] = field(default_factory=dict)
+    requests: dict[tuple[str, str], Request] = field(default_factory=dict)
+    joined: dict[str, Request] = field(default_factory=dict)
+    holds_answers: bool = False
+    spares_others: bool = False
     names: dict[str, list[Published]] = field(init=False)
     sets: Mapping[tuple[str, str], frozenset[str]] = field(init=False)
     ranks: Mapping[str, Rank] = field(init=False)
@@ -126,9 +141,25 @@ class Question:
         return self.caller.job == self.owner.job
 
     @property
+    def knows_job(self) -> bool:
+        """Whether a rank of the owner's job is on the caller's node."""
+        there = [it.job for it in self.world.plan.ranks if it.node == self.caller.node]
+        return self.owner.job in there
+
+    @property
     def put(self) -> Owner:
         """What the owner has put and committed."""
         return self.world.owners[self.owner.name]
+
+    def join(self) -> Request:
+        """The request of the caller's node of the owner: one that isn't answered yet, or a new
+        one."""
+        at, world, waiter = (self.caller.node, self.owner.name), self.world, self.caller.name
+        if waiter not in world.joined:
+            if at not in world.requests or world.requests[at].is_answered:
+                world.requests[at] = Request(self.key)
+            world.joined[waiter] = world.requests[at]
+        return world.joined[waiter]
 
     def has(self, rule: Rule) -> bool:
         """Whether the library has a rule."""
@@ -157,7 +188,7 @@ class Question:
 
 # A reply as a report writes it; None: the call waits.
 Reply = Optional[str]
-SUCCESS, NOT_FOUND = "PMIX_SUCCESS", "PMIX_ERR_NOT_FOUND"
+SUCCESS = "PMIX_SUCCESS"
 
 
 def succeed(value: str) -> str:
