@@ -11,17 +11,11 @@ use Rattle.wire_plan.specs.Index.{IsDelivering, AreArrivals}
 use Rattle.wire_runs.proofs.FenceChains.{one_member_tells, member_arrives}
 use Rattle.wire_runs.proofs.Histories.{before_live, joined, same_process}
 use Rattle.wire_fates.proofs.Gets.{first_before}
+use Rattle.wire_fates.proofs.OwnFences.{member_there}
 use Rattle.wire_fates.proofs.Surely.{delivering_within}
 use Rattle.wire_anywhere.specs.Gets.{AreCarrying}
 use Rattle.wire_types.specs.declared.Event.{Event as CodeEvent}
 use Rattle.wire_anywhere.specs.Carriers.{IsSureAt, IsSureByFence, IsSureByGet, Lacks, IsEarliest, IsFirstOf}
-
-pub member_there : (plan : Plan) (members : List ℕ) (p : ℕ) → is_member members p ≡ true → has_node plan members (node_of plan p) ≡ true
-member_there plan [] p i = absurd (true≢false (sym i))
-member_there plan (x ∷ xs) p i = elim (or_cases (x == p) _ i) [
-  | inl e ↦ or_left _ _ (eq-eqb _ _ (ap (node_of plan) (eqb-true x p e)))
-  | inr r ↦ or_right (node_of plan x == node_of plan p) _ (member_there plan xs p r)
-]
 
 -- a fence that brings a key away is one that brings it to its owner's node
 abbrev pub delivering : (plan : Plan) (p key : ℕ) (members : List ℕ) (j : ℕ) → (b : FenceBringsAway plan p key members j) → IsDelivering plan p key (node_of plan p) b.at

@@ -11,15 +11,9 @@ use Rattle.wire_plan.specs.Index.{IsDelivering, AreArrivals, AreGetDeliveries}
 use Rattle.wire_runs.proofs.FenceChains.{one_member_tells, member_arrives}
 use Rattle.wire_runs.proofs.Histories.{before_live, joined, same_process}
 use Rattle.wire_fates.proofs.Gets.{first_before}
+use Rattle.wire_fates.proofs.OwnFences.{member_there}
 use Rattle.wire_fates.proofs.Surely.{delivering_within}
 use Rattle.wire_differing.specs.Surely.{IsAsked, IsSureAt, IsSureByFence, IsSureByGet, IsEarliest, IsAmong}
-
-member_there : (plan : Plan) (members : List ℕ) (m : ℕ) → is_member members m ≡ true → has_node plan members (node_of plan m) ≡ true
-member_there plan [] m i = absurd (true≢false (sym i))
-member_there plan (x ∷ xs) m i = elim (or_cases (x == m) _ i) [
-  | inl e ↦ or_left _ _ (eq-eqb _ _ (ap (node_of plan) (eqb-true x m e)))
-  | inr r ↦ or_right (node_of plan x == node_of plan m) _ (member_there plan xs m r)
-]
 
 module _ (plan : Plan) (p key : ℕ) (get : Event) where
   -- a fence that is sure of the owner's arrival brings the key surely

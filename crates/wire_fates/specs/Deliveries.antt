@@ -12,6 +12,12 @@ pub record Arrives (plan : Plan) (z : Event) : Type 0 where
   pub j : ℕ
   pub arrival : IsArrival plan members j z
 
+-- the event is one of these, of the process p
+pub record IsAmong (p : ℕ) (event : Event) (places : List Event) : Type 0 where
+  pub k : ℕ
+  pub is : slice_get places k ≡ Some event
+  pub proc : event.proc ≡ p
+
 -- one of these events is earlier in the event's own process
 pub record IsBehindOwn (event : Event) (places : List Event) : Type 0 where
   pub k : ℕ

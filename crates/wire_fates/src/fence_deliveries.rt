@@ -1,13 +1,13 @@
 //! Deliveries of a key to a node by fences, and what comes before a get that is answered at once.
 
-ghost use Rattle.std.specs.Prelude.{◌≡◌, ℕ, List, suc, Some, IsTrue, MatchOption, ◌↔◌, map};
+ghost use Rattle.std.specs.Prelude.{◌≡◌, ℕ, List, suc, Some, IsTrue, MatchOption, ◌↔◌, map, IfSome};
 ghost use Rattle.wire_runs.specs.Plan.{Leave, event_of, kind};
 ghost use Rattle.wire_runs.specs.Plan as runs;
 ghost use Rattle.wire_content.specs.Planned.{plan_of};
 ghost use Rattle.wire_runs.specs.Order.{IsArrival, Live};
 ghost use Rattle.wire_runs.specs.Races.{IsPutOnce, ComesSurely};
 ghost use Rattle.wire_plan.specs.Index.{AreArrivals};
-ghost use Rattle.wire_fates.specs.Deliveries.{Arrives, IsBehindOwn, IsSure, IsSureByFence, MayBeLate, IsLate, AllLive};
+ghost use Rattle.wire_fates.specs.Deliveries.{Arrives, IsAmong, IsBehindOwn, IsSure, IsSureByFence, MayBeLate, IsLate, AllLive};
 ghost use Rattle.wire_fates.specs.Deliveries.{NoneAfter, IsFirstLate, IsNextArrival};
 
 use crate::get_deliveries::get_comes_surely;
@@ -84,26 +84,47 @@ fn first_not_before(marked: &MarkedPlan<'_>, events: &[Event], get_now: Event) -
     None
 }
 
-/// Whether an event stands behind an arrival of its own process among these, which are in process
-/// order. It is looked for by bisection.
-fn is_behind_own(arrivals: &[Event], event: Event) -> bool
-    ensures { IsTrue result → IsBehindOwn (event_of event) (map event_of arrivals.now) }
+/// The arrival of a process among these, which are in process order, if it is found by bisection.
+fn bisect_arrival(arrivals: &[Event], proc: Proc) -> Option<Event>
+    ensures { IfSome result (λ e. IsAmong proc.number (event_of e) (map event_of arrivals.now)) }
 {
     let mut low = 0;
     let mut high = arrivals.len();
     'bisection: while low < high {
         let middle = low + (high - low) / 2;
         let arrival = arrivals[middle];
-        if arrival.proc.number == event.proc.number {
-            return arrival.at < event.at;
+        if arrival.proc.number == proc.number {
+            return Some(arrival);
         }
-        if arrival.proc.number < event.proc.number {
+        if arrival.proc.number < proc.number {
             low = middle + 1;
         } else {
             high = middle;
         }
     }
-    false
+    None
+}
+
+/// The arrival of a process among these, which are in process order, if it is found. At a fence of all
+/// processes it stands at the number of the process.
+fn find_arrival(arrivals: &[Event], proc: Proc) -> Option<Event>
+    ensures { IfSome result (λ e. IsAmong proc.number (event_of e) (map event_of arrivals.now)) }
+{
+    match arrivals.get(proc.index()) {
+        Some(arrival) if arrival.proc.number == proc.number => Some(*arrival),
+        _ => bisect_arrival(arrivals, proc),
+    }
+}
+
+/// Whether an event stands behind an arrival of its own process among these, which are in process
+/// order.
+fn is_behind_own(arrivals: &[Event], event: Event) -> bool
+    ensures { IsTrue result → IsBehindOwn (event_of event) (map event_of arrivals.now) }
+{
+    match find_arrival(arrivals, event.proc) {
+        Some(own) => own.at < event.at,
+        None => false,
+    }
 }
 
 /// Whether all arrivals at the fence of an arrival are live and before a live get. A get that stands
@@ -148,9 +169,28 @@ pub fn next_arrival(plan: &Plan, owner: Proc, key: u32, node: u32, from: u32) ->
     plan.next_delivery(owner, key, node, from)
 }
 
-/// Whether a delivery of a key to a node by a fence comes before a get in every run. If any does, the
-/// first one does: all arrivals at its fence are before each later arrival of the owner.
-fn fence_comes_surely(marked: &MarkedPlan<'_>, asked: KeyRead, node: u32) -> bool
+/// Whether the last fence that brings data at which a live get's process has arrived before the get brings a
+/// key to its node, which is this one.
+fn own_fence_brings(marked: &MarkedPlan<'_>, asked: KeyRead, node: u32) -> bool
+    requires live { Live (plan_of marked.now) (event_of asked.get_now) }
+    requires once { IsPutOnce (plan_of marked.now) asked.owner.number asked.key }
+    ensures { IsTrue result → IsSureByFence (plan_of marked.now) asked.owner.number asked.key node (event_of asked.get_now) }
+{
+    let plan = marked.plan();
+    if plan.node_of(asked.get_now.proc) != node {
+        return false;
+    }
+    let Some(own) = plan.last_bringing(asked.get_now) else {
+        return false;
+    };
+    match find_arrival(all_arrivals(plan, own), asked.owner) {
+        Some(arrival) => plan.is_sent(asked.owner, asked.key, arrival.at),
+        None => false,
+    }
+}
+
+/// Whether the first delivery of a key to a node by a fence comes before a get in every run.
+fn first_fence_is_sure(marked: &MarkedPlan<'_>, asked: KeyRead, node: u32) -> bool
     requires live { Live (plan_of marked.now) (event_of asked.get_now) }
     requires once { IsPutOnce (plan_of marked.now) asked.owner.number asked.key }
     ensures { IsTrue result ↔ IsSureByFence (plan_of marked.now) asked.owner.number asked.key node (event_of asked.get_now) }
@@ -159,6 +199,17 @@ fn fence_comes_surely(marked: &MarkedPlan<'_>, asked: KeyRead, node: u32) -> boo
         Some(first) => is_sure(marked, asked.get_now, first),
         None => false,
     }
+}
+
+/// Whether a delivery of a key to a node by a fence comes before a get in every run. If any does, the
+/// first one does: all arrivals at its fence are before each later arrival of the owner. Mostly the fence that
+/// the get's own process left last is one that does, and that takes fewer lookups.
+fn fence_comes_surely(marked: &MarkedPlan<'_>, asked: KeyRead, node: u32) -> bool
+    requires live { Live (plan_of marked.now) (event_of asked.get_now) }
+    requires once { IsPutOnce (plan_of marked.now) asked.owner.number asked.key }
+    ensures { IsTrue result ↔ IsSureByFence (plan_of marked.now) asked.owner.number asked.key node (event_of asked.get_now) }
+{
+    own_fence_brings(marked, asked, node) || first_fence_is_sure(marked, asked, node)
 }
 
 /// Whether a delivery of a key to a node, by a fence or by a get, comes before a get in every run.

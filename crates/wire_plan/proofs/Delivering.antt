@@ -9,9 +9,8 @@ use Rattle.wire_content.specs.Scripts.{Scripts, set_at}
 use Rattle.wire_content.specs.Planned.{plan_of}
 use Rattle.wire_fence.specs.FenceTable.{FenceTable, AreFencesOf, fence_at, fence_over, full_in, collects_in, reaches_in}
 use Rattle.wire_runs.specs.Order.{IsArrival}
-use Rattle.wire_plan.specs.Index.{IsDelivering, IsNextDelivery}
-use Rattle.wire_plan.specs.Keys.{IsSent}
-use Rattle.wire_plan.specs.Bringing.{Brings, BringsTo, IsArrivalFrom, IsFirstFrom}
+use Rattle.wire_plan.specs.Index.{BringsData, IsDelivering, IsNextDelivery, IsSent}
+use Rattle.wire_plan.specs.Bringing.{BringsTo, IsArrivalFrom, IsFirstFrom}
 use Rattle.wire_plan.specs.Meetings.{IsMet, fence_members}
 use Rattle.wire_runs.proofs.Basics.{arrivals_step, arrivals_rise}
 
@@ -134,7 +133,7 @@ module _ (s : Scripts) (table : FenceTable) (fences : AreFencesOf s table) (p at
   }
 
   -- whether it brings data is what the table tells of its fence
-  pub where_bringing : (full_in (fence_at table number) && collects_in (fence_at table number)) ≡ true → Brings (plan_of s) (here p at)
+  pub where_bringing : (full_in (fence_at table number) && collects_in (fence_at table number)) ≡ true → BringsData (plan_of s) (here p at)
   where_bringing told =
       let both = and_parts (full_in (fence_at table number)) _ told in
       record {
@@ -148,7 +147,7 @@ module _ (s : Scripts) (table : FenceTable) (fences : AreFencesOf s table) (p at
   same_members : (others : List ℕ) (c : Bool) → kind_at (plan_of s) p at ≡ Some (Arrive others c) → others ≡ m.fence.members
   same_members others c other = ap fence_members (sym other ∙ is) ∙ sym its_members
 
-  pub bringing_where : Brings (plan_of s) (here p at) → (full_in (fence_at table number) && collects_in (fence_at table number)) ≡ true
+  pub bringing_where : BringsData (plan_of s) (here p at) → (full_in (fence_at table number) && collects_in (fence_at table number)) ≡ true
   bringing_where d =
       let ms = same_members d.members d.arrival.collect d.arrival.is in
       let j : d.j ≡ m.fence.nth = sym d.arrival.nth ∙ ap (λ x. arrivals (plan_of s) p x (suc at)) ms ∙ m.nth in

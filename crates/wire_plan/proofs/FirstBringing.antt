@@ -12,30 +12,31 @@ use Rattle.wire_runs.specs.Plan.{Plan, Event, event_of, event_count, process_cou
 use Rattle.wire_runs.specs.Fences.{has_node}
 use Rattle.wire_runs.specs.EventLists.{IsLower, AreAll}
 use Rattle.wire_types.specs.declared.Event.{Event as CodeEvent}
-use Rattle.wire_plan.specs.Bringing.{Brings, BringsTo, NoneInFront, IsFirstFrom, IsRising, is_below}
+use Rattle.wire_plan.specs.Index.{BringsData}
+use Rattle.wire_plan.specs.Bringing.{BringsTo, NoneInFront, IsFirstFrom, IsRising, is_below}
 use Rattle.wire_runs.proofs.Basics.{event_within, process_within}
 use Rattle.wire_plan.proofs.Grown.{place, Earlier, one_more, whole_process, whole_plan}
 
 -- what brings data to a node brings data
-pub its_fence : (plan : Plan) (node : ℕ) (x : Event) → BringsTo plan node x → Brings plan x
+pub its_fence : (plan : Plan) (node : ℕ) (x : Event) → BringsTo plan node x → BringsData plan x
 its_fence plan node x b = record { members = b.members; j = b.j; arrival = b.arrival; full = b.full; collecting = b.collecting }
 
 -- and what brings data brings it to the nodes that its fence reaches
-pub to_node : (plan : Plan) (node : ℕ) (x : Event) → (b : Brings plan x) → has_node plan b.members node ≡ true → BringsTo plan node x
+pub to_node : (plan : Plan) (node : ℕ) (x : Event) → (b : BringsData plan x) → has_node plan b.members node ≡ true → BringsTo plan node x
 to_node plan node x b reached = record { members = b.members; j = b.j; arrival = b.arrival; full = b.full; collecting = b.collecting; reaches = reached }
 
 -- an event that brings data
-pub arrival_added : (plan : Plan) (e : CodeEvent) (xs ys : List CodeEvent) → ys ≡ xs ++ e ∷ [] → Brings plan (event_of e)
-    → AreAll (Earlier (Brings plan) e.proc.number e.at) (map event_of xs) → AreAll (Earlier (Brings plan) e.proc.number (suc e.at)) (map event_of ys)
-arrival_added plan e xs ys is brings are = subst (AreAll (Earlier (Brings plan) e.proc.number (suc e.at))) (sym (ap (map event_of) is ∙ map-append event_of xs (e ∷ [])))
-    (one_more (Brings plan) e.proc.number e.at (map event_of xs) brings are)
+pub arrival_added : (plan : Plan) (e : CodeEvent) (xs ys : List CodeEvent) → ys ≡ xs ++ e ∷ [] → BringsData plan (event_of e)
+    → AreAll (Earlier (BringsData plan) e.proc.number e.at) (map event_of xs) → AreAll (Earlier (BringsData plan) e.proc.number (suc e.at)) (map event_of ys)
+arrival_added plan e xs ys is brings are = subst (AreAll (Earlier (BringsData plan) e.proc.number (suc e.at))) (sym (ap (map event_of) is ∙ map-append event_of xs (e ∷ [])))
+    (one_more (BringsData plan) e.proc.number e.at (map event_of xs) brings are)
 
 -- after all events of a process, and of the plan
-pub process_looked_at : (plan : Plan) (p n : ℕ) (xs : List Event) → event_count plan p ≤ n → AreAll (Earlier (Brings plan) p n) xs → AreAll (Earlier (Brings plan) (suc p) 0) xs
-process_looked_at plan p n xs le are = whole_process (Brings plan) p n xs (λ i b. let lt = event_within plan p i _ b.arrival.is in omega (arith, lt, le)) are
+pub process_looked_at : (plan : Plan) (p n : ℕ) (xs : List Event) → event_count plan p ≤ n → AreAll (Earlier (BringsData plan) p n) xs → AreAll (Earlier (BringsData plan) (suc p) 0) xs
+process_looked_at plan p n xs le are = whole_process (BringsData plan) p n xs (λ i b. let lt = event_within plan p i _ b.arrival.is in omega (arith, lt, le)) are
 
-pub plan_looked_at : (plan : Plan) (n : ℕ) (xs : List Event) → process_count plan ≤ n → AreAll (Earlier (Brings plan) n 0) xs → AreAll (Brings plan) xs
-plan_looked_at plan n xs le are = whole_plan (Brings plan) n xs (λ x b. let lt = process_within plan x.proc x.at _ b.arrival.is in omega (arith, lt, le)) are
+pub plan_looked_at : (plan : Plan) (n : ℕ) (xs : List Event) → process_count plan ≤ n → AreAll (Earlier (BringsData plan) n 0) xs → AreAll (BringsData plan) xs
+plan_looked_at plan n xs le are = whole_plan (BringsData plan) n xs (λ x b. let lt = process_within plan x.proc x.at _ b.arrival.is in omega (arith, lt, le)) are
 
 -- events are compared by process, then by place
 less_first : (p q r s : Bool) → is_some_and is_lt (partial_ordering_then (Some (cond p Less (cond q Equal Greater))) (Some (cond r Less (cond s Equal Greater)))) ≡ (p || (q && r))
@@ -50,13 +51,13 @@ pub less_below : (x y : CodeEvent) →
 less_below x y = less_first (nat_lt x.proc.number y.proc.number) (x.proc.number == y.proc.number) (nat_lt x.at y.at) (x.at == y.at)
 
 -- what the test tells
-below_lower : (x y : Event) → is_below x y ≡ true → IsLower x y
+pub below_lower : (x y : Event) → is_below x y ≡ true → IsLower x y
 below_lower x y h = elim (or_cases (nat_lt x.proc y.proc) _ h) [
   | inl lt ↦ inl (ltb-true x.proc y.proc lt)
   | inr both ↦ let parts = and_parts (x.proc == y.proc) (nat_lt x.at y.at) both in inr (eqb-true x.proc y.proc parts.0, ltb-true x.at y.at parts.1)
 ]
 
-lower_below : (x y : Event) → IsLower x y → is_below x y ≡ true
+pub lower_below : (x y : Event) → IsLower x y → is_below x y ≡ true
 lower_below x y (inl lt) = or_left _ _ (lt-ltb x.proc y.proc lt)
 lower_below x y (inr (e, lt)) = or_right (nat_lt x.proc y.proc) _ (and_from (x.proc == y.proc) (nat_lt x.at y.at) (eq-eqb x.proc y.proc e) (lt-ltb x.at y.at lt))
 
@@ -90,7 +91,7 @@ stands_at (e ∷ xs) (suc k) x d is = let more = stands_at xs k x d is in let lt
 pub there_at : (xs : List CodeEvent) (k : ℕ) (e : CodeEvent) → k < length xs → e ≡ get_or xs k e → slice_get (map event_of xs) k ≡ Some (event_of e)
 there_at xs k e lt is = shown xs k e lt ∙ ap (λ x. Some (event_of x)) (sym is)
 
-module _ (plan : Plan) (p node from : ℕ) (xs : List Event) (are : AreAll (Brings plan) xs) (n : ℕ)
+module _ (plan : Plan) (p node from : ℕ) (xs : List Event) (are : AreAll (BringsData plan) xs) (n : ℕ)
     (exactly : (k : ℕ) (x : Event) → slice_get xs k ≡ Some x → is_below x (place p from) ≡ nat_lt k n) where
   not_lower : (k : ℕ) (x : Event) → slice_get xs k ≡ Some x → n ≤ k → IsLower x (place p from) → ⊥
   not_lower k x is le low = true≢false (sym (lower_below x (place p from) low) ∙ exactly k x is ∙ le-ltb k n le)

@@ -11,8 +11,7 @@ use Rattle.wire_plan.specs.declared.kind.Kind.TheVariants as code
 use Rattle.wire_types.specs.declared.Proc.{Proc}
 use Rattle.wire_plan.specs.Kinds.{kind_of}
 use Rattle.wire_runs.specs.Races.{GetDelivers}
-use Rattle.wire_plan.specs.Index.{AreGetDeliveries}
-use Rattle.wire_plan.specs.Keys.{IsSent}
+use Rattle.wire_plan.specs.Index.{AreGetDeliveries, IsSent}
 use Rattle.wire_plan.specs.Gets.{IsKeptGet, AreKeptGets, is_same, events_in, gets_under, AreGetLists, AreGetsTo}
 use Rattle.wire_runs.proofs.Basics.{event_within, process_within}
 use Rattle.wire_runs.proofs.EventLists.{all_same, all_of_none}

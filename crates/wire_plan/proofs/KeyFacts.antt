@@ -10,10 +10,10 @@ use Rattle.wire_runs.specs.Plan.{Plan, Event, event_of, Kind, Put, Commit, kind_
 use Rattle.wire_runs.specs.Puts.{own_with, own, stored_with, stored, put_count, scope_of}
 use Rattle.wire_runs.specs.Order.{Stores}
 use Rattle.wire_runs.specs.Races.{IsPutOnce}
-use Rattle.wire_plan.specs.Index.{IsFirstPut}
-use Rattle.wire_plan.specs.Keys.{IsStore, IsRowOf, IsSent}
+use Rattle.wire_plan.specs.Index.{IsFirstPut, IsSent}
+use Rattle.wire_plan.specs.Keys.{IsStore, IsRowOf}
 use Rattle.wire_plan.specs.Bringing.{IsSentAfter}
-use Rattle.wire_plan.specs.declared.keys.KeyRow.{KeyRow}
+use Rattle.wire_plan.specs.declared.key_rows.KeyRow.{KeyRow}
 use Rattle.wire_runs.proofs.Basics.{stored_own, stored_stays, event_within, event_past}
 use Rattle.wire_runs.proofs.Due.{place_path}
 use Rattle.wire_plan.proofs.KeyRows.{own_none, own_stays, own_here, counts_rise, count_same, none_or_some}

@@ -1,8 +1,6 @@
 -- What a row says of a key, from the last event of a process to its first.
 use Rattle.std.proofs.Common.{◌≡◌, ℕ, zero, suc, ◌+◌, ◌<◌, ◌≤◌, true, Option, Some, None, is_some, inl, inr, refl, sym, ap, ◌∙◌, subst, arith, eq-eqb, ne_eqb}
 use Rattle.std.specs.Prelude.{◌==◌, MatchOption, List, [], ◌∷◌, ◌++◌, length, slice_get}
-use Rattle.std.specs.BTreeMap.{BTreeMap, get}
-use Rattle.std.specs.Ordering.{nat_cmp}
 use Rattle.std.proofs.lemmas.Option.{slice_get_past}
 use Rattle.std.proofs.lemmas.Bool.{cond-true, cond-false, cond_both, cases_eq, cases_lt, true≢false}
 use Rattle.wire_types.specs.declared.Scope.{Scope}
@@ -10,7 +8,7 @@ use Rattle.wire_runs.specs.Plan.{Plan, Kind, Put, Commit, kind_at, event_count, 
 use Rattle.wire_runs.specs.Puts.{own_with, own_put, stored_with, stored_put, put_count_with, count_puts, put_count, scope_in}
 use Rattle.wire_plan.specs.Kinds.{kind_of}
 use Rattle.wire_plan.specs.Keys.{puts_in, row_in, IsStore, IsKeyRow, IsNextCommit, IsRowFrom, AreRowsFrom}
-use Rattle.wire_plan.specs.declared.keys.KeyRow.{KeyRow}
+use Rattle.wire_plan.specs.declared.key_rows.KeyRow.{KeyRow}
 use Rattle.wire_plan.specs.declared.kind.Kind.{Kind as CodeKind}
 use Rattle.wire_plan.specs.declared.kind.Kind.TheVariants as code
 use Rattle.wire_runs.proofs.Basics.{kept_on, rises, own_with_kept}
@@ -214,8 +212,8 @@ rows_done plan p rows commit h key = go (rows key) (h.each key)
         }
 
 -- the table after the rows of one more process
-pub table_push : (plan : Plan) (rows : List (BTreeMap ℕ KeyRow)) (row : BTreeMap ℕ KeyRow) (n : ℕ) → length rows ≡ n → ((p key : ℕ) → p < n → IsKeyRow plan p key (row_in (slice_get rows p) key)) →
-    ((key : ℕ) → IsKeyRow plan n key (get nat_cmp row key)) → (p key : ℕ) → p < n + 1 → IsKeyRow plan p key (row_in (slice_get (rows ++ row ∷ []) p) key)
+pub table_push : (plan : Plan) (rows : List (List (ℕ × KeyRow))) (row : List (ℕ × KeyRow)) (n : ℕ) → length rows ≡ n → ((p key : ℕ) → p < n → IsKeyRow plan p key (row_in (slice_get rows p) key)) →
+    ((key : ℕ) → IsKeyRow plan n key (row_in (Some row) key)) → (p key : ℕ) → p < n + 1 → IsKeyRow plan p key (row_in (slice_get (rows ++ row ∷ []) p) key)
 table_push plan rows row n len each last p key lt = elim (cases_eq p n) [
   | inl e ↦
       subst (λ q. IsKeyRow plan q key (row_in (slice_get (rows ++ row ∷ []) q) key)) (sym e)
@@ -228,7 +226,7 @@ no_process : (plan : Plan) (p key : ℕ) → process_count plan ≤ p → put_co
 unfolding event_count kinds
 no_process plan p key le = ap (λ n. put_count plan p key n) (ap (λ o. length (process_kinds o)) (slice_get_past plan.processes p le))
 
-pub table_done : (plan : Plan) (rows : List (BTreeMap ℕ KeyRow)) → length rows ≡ process_count plan → ((p key : ℕ) → p < process_count plan → IsKeyRow plan p key (row_in (slice_get rows p) key)) →
+pub table_done : (plan : Plan) (rows : List (List (ℕ × KeyRow))) → length rows ≡ process_count plan → ((p key : ℕ) → p < process_count plan → IsKeyRow plan p key (row_in (slice_get rows p) key)) →
     (p key : ℕ) → IsKeyRow plan p key (row_in (slice_get rows p) key)
 table_done plan rows len each p key = elim (cases_lt p (process_count plan)) [
   | inl lt ↦ each p key lt

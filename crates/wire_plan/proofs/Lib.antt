@@ -3,6 +3,7 @@ pub mod Behind
 pub mod Gathering
 pub mod FenceOf
 pub mod KeyRows
+pub mod RowSearch
 pub mod KeyFacts
 pub mod Grown
 pub mod Tables
@@ -11,5 +12,6 @@ pub mod Wired
 pub mod Awaited
 pub mod Delivering
 pub mod FirstBringing
+pub mod LastBringing
 pub mod Building
 pub mod KeptGets

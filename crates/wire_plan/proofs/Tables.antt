@@ -15,10 +15,11 @@ use Rattle.wire_runs.specs.Names.{publishes as publishes_of}
 use Rattle.wire_plan.specs.Index.{AreSweeps}
 use Rattle.wire_plan.proofs.Published.{publisher, nothing_takes}
 use Rattle.wire_runs.specs.EventLists.{AreAll}
-use Rattle.wire_plan.specs.Tables.{is_listed, is_number, events_listed, only_of, IsUnswept, AreListed, AreListedTo}
+use Rattle.wire_plan.specs.Tables.{is_listed, is_number, events_listed, only_of, IsUnswept, AreListed, AreListedTo, AreNamesTo, AreNamesOf}
+use Rattle.wire_plan.specs.declared.names.NameTable.{NameTable}
 use Rattle.wire_runs.proofs.Basics.{event_within, process_within}
 use Rattle.wire_runs.proofs.EventLists.{all_same, lower_not_same}
-use Rattle.wire_plan.proofs.Grown.{place, Earlier, one_more, one_other, whole_process, whole_plan}
+use Rattle.wire_plan.proofs.Grown.{none_yet, place, Earlier, one_more, one_other, whole_process, whole_plan}
 
 abbrev pub places_in : Vec CodeEvent Global → List Event
 places_in list = map event_of list.items
@@ -87,6 +88,9 @@ module _ (plan : Plan) (listing : Listing) where
       (λ x h. let e = is_event number x (kind plan x) h in let lt = process_within plan x.proc x.at e.0 e.1 in omega (arith, lt, le))
       (are number)
 
+none_listed : (plan : Plan) (listing : Listing) → AreListedTo plan listing 0 0 []
+none_listed plan listing = λ number. none_yet (IsListed plan listing number)
+
 publish_is : (plan : Plan) (name : ℕ) (x : Event) (o : Option TheEvent) → kind plan x ≡ o → is_listed plan Publishes name x o ≡ true → kind plan x ≡ Some (Publish name)
 publish_is plan name x (Some (Publish n)) is h = is ∙ ap (λ m. Some (Publish m)) (eqb-true n name h)
 publish_is plan name x _ is h = absurd (true≢false (sym h))
@@ -118,6 +122,32 @@ sweeps_listed plan p places are = all_same _ _ places
     (λ x h. sweep_is plan p x (kind plan x) refl h)
     (λ x h. ap (is_listed plan Sweeps p x) h.1 ∙ eq-eqb x.proc p h.0)
     are
+
+-- the calls on each name, after all events of a process, and of the plan
+pub names_process : (plan : Plan) (p n : ℕ) (table : NameTable) → event_count plan p ≤ n → AreNamesTo plan p n table → AreNamesTo plan (suc p) 0 table
+names_process plan p n table le are = record {
+  calls = listed_process plan NameCalls p n table.calls le are.calls;
+  publishes = listed_process plan Publishes p n table.publishes le are.publishes;
+  takes = listed_process plan Takes p n table.takes le are.takes;
+  sweeps = listed_process plan Sweeps p n table.sweeps le are.sweeps;
+}
+
+pub names_plan : (plan : Plan) (n : ℕ) (table : NameTable) → process_count plan ≤ n → AreNamesTo plan n 0 table → AreNamesOf plan table
+names_plan plan n table le are = record {
+  calls = listed_plan plan NameCalls n table.calls le are.calls;
+  publishes = λ name. publishes_listed plan name (events_listed table.publishes name) (listed_plan plan Publishes n table.publishes le are.publishes name);
+  takes = λ name. takes_listed plan name (events_listed table.takes name) (listed_plan plan Takes n table.takes le are.takes name);
+  sweeps = λ p. sweeps_listed plan p (events_listed table.sweeps p) (listed_plan plan Sweeps n table.sweeps le are.sweeps p);
+}
+
+-- no event stands before the first
+pub no_names : (plan : Plan) (table : NameTable) → table.calls ≡ [] → table.publishes ≡ [] → table.takes ≡ [] → table.sweeps ≡ [] → AreNamesTo plan 0 0 table
+no_names plan table calls publishes takes sweeps = record {
+  calls = subst (AreListedTo plan NameCalls 0 0) (sym calls) (none_listed plan NameCalls);
+  publishes = subst (AreListedTo plan Publishes 0 0) (sym publishes) (none_listed plan Publishes);
+  takes = subst (AreListedTo plan Takes 0 0) (sym takes) (none_listed plan Takes);
+  sweeps = subst (AreListedTo plan Sweeps 0 0) (sym sweeps) (none_listed plan Sweeps);
+}
 
 -- where none of a process is listed there is none, and where one is listed it is there
 pub none_swept : (sweeps : List CodeEvent) → length sweeps ≡ 0 → (k : ℕ) (z : Event) → slice_get (map event_of sweeps) k ≡ Some z → ⊥

@@ -6,18 +6,10 @@ use Rattle.wire_runs.specs.Fences.{is_full, is_collecting, has_node}
 use Rattle.wire_runs.specs.Order.{IsArrival}
 use Rattle.wire_runs.specs.EventLists.{IsLower, AreAll}
 use Rattle.wire_types.specs.declared.Event.{Event as CodeEvent}
-use Rattle.wire_plan.specs.Keys.{IsSent}
+use Rattle.wire_plan.specs.Index.{BringsData, IsSent}
 use Rattle.wire_plan.specs.declared.bringing.BringingArrivals.{BringingArrivals}
 
--- x is an arrival at a fence that each member calls, each with data collection
-pub record Brings (plan : Plan) (x : Event) : Type 0 where
-  pub members : List ℕ
-  pub j : ℕ
-  pub arrival : IsArrival plan members j x
-  pub full : is_full plan members j ≡ true
-  pub collecting : is_collecting plan members j ≡ true
-
--- and with a member on the node
+-- x is an arrival at a fence that brings data, with a member on the node
 pub record BringsTo (plan : Plan) (node : ℕ) (x : Event) : Type 0 where
   pub members : List ℕ
   pub j : ℕ
@@ -28,11 +20,11 @@ pub record BringsTo (plan : Plan) (node : ℕ) (x : Event) : Type 0 where
 
 -- the table has the arrivals at fences that bring data
 abbrev pub AreBringing : Plan → BringingArrivals → Type 0
-AreBringing plan table = AreAll (Brings plan) (map event_of table.arrivals.items)
+AreBringing plan table = AreAll (BringsData plan) (map event_of table.arrivals.items)
 
 -- the same of those that stand before the i-th event of the p-th process
 abbrev pub AreBringingTo : Plan → ℕ → ℕ → BringingArrivals → Type 0
-AreBringingTo plan p i table = AreAll (λ x. Brings plan x × IsLower x (record { proc = p; at = i })) (map event_of table.arrivals.items)
+AreBringingTo plan p i table = AreAll (λ x. BringsData plan x × IsLower x (record { proc = p; at = i })) (map event_of table.arrivals.items)
 
 -- x is an arrival of p, from its event number `from` on, that brings data to the node
 pub record IsArrivalFrom (plan : Plan) (p node from : ℕ) (x : Event) : Type 0 where

@@ -3,10 +3,11 @@
 use Rattle.std.specs.Prelude.{◌≡◌, ◌≢◌, ◌==◌, ℕ, zero, suc, ◌<◌, ◌≤◌, List, ◌++◌, Bool, true, false, Option}
 use Rattle.std.specs.Prelude.{Some, None, map, option_map, option_to_list, slice_get, MatchOption}
 use Rattle.wire_runs.specs.Plan.{Plan, Event, Kind, Put, Get, Publish, Lookup, LookupWait, Unpublish, UnpublishAll}
-use Rattle.wire_runs.specs.Plan.{kind, event_of}
+use Rattle.wire_runs.specs.Plan.{kind, event_of, admits}
 use Rattle.wire_types.specs.declared.Event.{Event as CodeEvent}
 use Rattle.wire_types.specs.declared.Scope.{Scope}
-use Rattle.wire_runs.specs.Puts.{own}
+use Rattle.wire_runs.specs.Puts.{own, stored, scope_of}
+use Rattle.wire_runs.specs.Fences.{is_full, is_collecting}
 use Rattle.wire_runs.specs.Order.{Edge, Stores, IsArrival, PublishesOnce}
 use Rattle.wire_runs.specs.Races.{ByFence, Brings, GetDelivers, IsPutOnce}
 use Rattle.wire_runs.specs.EventLists.{AreAll}
@@ -86,3 +87,30 @@ IsNextDelivery plan p key node from found =
     MatchOption found
     ((at : ℕ) → from ≤ at → IsDelivering plan p key node at → ⊥)
     (λ at. (from ≤ at) × IsDelivering plan p key node at × ((other : ℕ) → from ≤ other → other < at → IsDelivering plan p key node other → ⊥))
+
+-- what p had stored under the key before its event number `at` is for processes of other nodes
+pub record IsSent (plan : Plan) (p key at : ℕ) : Type 0 where
+  pub put : ℕ
+  pub committed : stored plan p key at ≡ Some put
+  pub admitted : admits (scope_of plan p put) false ≡ true
+
+-- x is an arrival at a fence that brings data: each member calls it, each with data collection
+pub record BringsData (plan : Plan) (x : Event) : Type 0 where
+  pub members : List ℕ
+  pub j : ℕ
+  pub arrival : IsArrival plan members j x
+  pub full : is_full plan members j ≡ true
+  pub collecting : is_collecting plan members j ≡ true
+
+-- x is such an arrival of y's process, before y
+pub record BringsDataBefore (plan : Plan) (y x : Event) : Type 0 where
+  pub brings : BringsData plan x
+  pub same : x.proc ≡ y.proc
+  pub earlier : x.at < y.at
+
+-- what is found, if anything, is the last of them
+abbrev pub IsLastBringing : Plan → Event → Option Event → Type 0
+IsLastBringing plan y found =
+    MatchOption found
+    ((x : Event) → BringsDataBefore plan y x → ⊥)
+    (λ x. BringsDataBefore plan y x × ((z : Event) → BringsDataBefore plan y z → z.at ≤ x.at))

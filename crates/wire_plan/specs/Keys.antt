@@ -1,12 +1,13 @@
 -- What a process's script says of the keys that it puts: for the contracts of private functions.
-use Rattle.std.specs.Prelude.{◌≡◌, ℕ, ◌+◌, ◌<◌, ◌≤◌, Option, Some, None, MatchOption, false, true, slice_get}
-use Rattle.std.specs.BTreeMap.{BTreeMap, get}
+use Rattle.std.specs.Prelude.{◌≡◌, ℕ, ◌+◌, ◌<◌, ◌≤◌, List, Option, Some, None, MatchOption, slice_get}
+use Rattle.std.specs.BTreeMap.{is_at}
+use Rattle.std.specs.Map.{lookup}
 use Rattle.std.specs.Ordering.{nat_cmp}
-use Rattle.wire_runs.specs.Plan.{Plan, Kind, Put, Commit, event_count, admits}
+use Rattle.wire_runs.specs.Plan.{Plan, Kind, Put, Commit, event_count}
 use Rattle.wire_runs.specs.Puts.{count_puts, stored, put_count, scope_of}
 use Rattle.wire_runs.specs.Order.{Stores}
 use Rattle.wire_plan.specs.Index.{IsFirstPut}
-use Rattle.wire_plan.specs.declared.keys.KeyRow.{KeyRow}
+use Rattle.wire_plan.specs.declared.key_rows.KeyRow.{KeyRow}
 use Rattle.wire_plan.specs.declared.keys.KeyTable.{KeyTable}
 
 -- the number of p's event that stores the key first, if one does
@@ -26,9 +27,9 @@ pub record IsRowOf (plan : Plan) (p key : ℕ) (row : KeyRow) : Type 0 where
 abbrev pub IsKeyRow : Plan → ℕ → ℕ → Option KeyRow → Type 0
 IsKeyRow plan p key row = MatchOption row (put_count plan p key (event_count plan p) ≡ 0) (λ r. IsRowOf plan p key r)
 
-abbrev pub row_in : Option (BTreeMap ℕ KeyRow) → ℕ → Option KeyRow
+abbrev pub row_in : Option (List (ℕ × KeyRow)) → ℕ → Option KeyRow
 row_in None key = None
-row_in (Some rows) key = get nat_cmp rows key
+row_in (Some rows) key = lookup (is_at (nat_cmp key)) rows
 
 -- the row of a process's key
 abbrev pub row_at : KeyTable → ℕ → ℕ → Option KeyRow
@@ -37,12 +38,6 @@ row_at table p key = row_in (slice_get table.rows.items p) key
 -- each row of the table says what the plan says
 abbrev pub AreKeysOf : Plan → KeyTable → Type 0
 AreKeysOf plan table = (p key : ℕ) → IsKeyRow plan p key (row_at table p key)
-
--- what p had stored under the key before its event number `at` is for processes of other nodes
-pub record IsSent (plan : Plan) (p key at : ℕ) : Type 0 where
-  pub put : ℕ
-  pub committed : stored plan p key at ≡ Some put
-  pub admitted : admits (scope_of plan p put) false ≡ true
 
 -- how many puts a row tells of
 abbrev pub puts_in : Option KeyRow → ℕ

@@ -55,3 +55,10 @@ pub record AreNamesOf (plan : Plan) (table : NameTable) : Type 0 where
   pub publishes : (name : ℕ) → ArePublishes plan name (events_listed table.publishes name)
   pub takes : (name : ℕ) → AreAll (λ x. kind plan x ≡ Some (Unpublish name)) (events_listed table.takes name)
   pub sweeps : (p : ℕ) → AreSweeps plan p (events_listed table.sweeps p)
+
+-- the same of the events that stand before the i-th of the p-th process
+pub record AreNamesTo (plan : Plan) (p i : ℕ) (table : NameTable) : Type 0 where
+  pub calls : AreListedTo plan NameCalls p i table.calls
+  pub publishes : AreListedTo plan Publishes p i table.publishes
+  pub takes : AreListedTo plan Takes p i table.takes
+  pub sweeps : AreListedTo plan Sweeps p i table.sweeps

@@ -1,10 +1,11 @@
 //! The arrivals at fences that bring data.
 
-ghost use Rattle.std.specs.Prelude.{◌≡◌, ◌<◌, ◌&&◌, ℕ, suc, Some, slice_get, map, nat_lt, IfOk, IfSome, OnOk};
+ghost use Rattle.std.specs.Prelude.{◌≡◌, ◌<◌, ◌≤◌, ◌&&◌, ℕ, length, suc, Some, slice_get, map, option_map, nat_lt, IfOk, IfSome, OnOk};
 ghost use Rattle.wire_runs.specs.Plan.{event_of, event_count};
 ghost use Rattle.wire_runs.specs.Plan as runs;
 ghost use Rattle.wire_content.specs.Planned.{plan_of};
 ghost use Rattle.wire_fence.specs.FenceTable.{AreFencesOf, fence_at as the_fence_at, full_in, collects_in};
+ghost use Rattle.wire_plan.specs.Index.{IsLastBringing};
 ghost use Rattle.wire_plan.specs.Bringing.{AreBringing, AreBringingTo, IsFirstFrom, IsRising, is_below};
 
 use crate::events::Events;
@@ -23,7 +24,8 @@ fn brings(fences: &Fences, fence: FenceId) -> bool
 
 /// How many events of a list in process order are lower than an event, by bisection.
 fn count_lower(list: &[Event], event: Event) -> usize
-    ensures { IsRising (map event_of list.now) → (k : ℕ) (x : runs.Event) → slice_get (map event_of list.now) k ≡ Some x →
+    ensures within { result ≤ length list.now }
+    ensures exactly { IsRising (map event_of list.now) → (k : ℕ) (x : runs.Event) → slice_get (map event_of list.now) k ≡ Some x →
         is_below x (event_of event) ≡ nat_lt k result }
 {
     list.partition_point(|x| *x < event)
@@ -121,5 +123,22 @@ impl BringingArrivals {
             }
         }
         None
+    }
+
+    /// The last arrival of an event's process before it at a fence that brings data, by bisection.
+    pub(crate) fn last_before(&self, event: Event) -> Option<Event>
+        ensures { (plan : runs.Plan) → AreBringing plan self.now → IsLastBringing plan (event_of event) (option_map event_of result) }
+    {
+        let list = self.arrivals.as_slice();
+        let lower = count_lower(list, event);
+        if lower == 0 {
+            return None;
+        }
+        let arrival = list[lower - 1];
+        if arrival.proc.number == event.proc.number {
+            Some(arrival)
+        } else {
+            None
+        }
     }
 }

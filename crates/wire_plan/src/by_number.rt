@@ -1,13 +1,11 @@
 //! Events listed by a number: that of a name or of a process.
 
-ghost use Rattle.std.specs.Prelude.{◌≡◌, ◌≢◌, ◌<◌, ◌++◌, ◌∷◌, [], ℕ, suc, List, Some, length, map, OnOk, IfOk};
+ghost use Rattle.std.specs.Prelude.{◌≡◌, ◌≢◌, ◌<◌, ◌++◌, ◌∷◌, [], ℕ, suc, List, Some, length, map, OnOk};
 ghost use Rattle.wire_runs.specs.Plan.{event_of, kind_at};
 ghost use Rattle.wire_runs.specs.Plan as runs;
-ghost use Rattle.wire_content.specs.Planned.{plan_of};
 ghost use Rattle.wire_plan.specs.Kinds.{kind_of};
-ghost use Rattle.wire_plan.specs.Tables.{is_listed, is_number, events_listed, AreListed, AreListedTo};
+ghost use Rattle.wire_plan.specs.Tables.{is_listed, is_number, events_listed, AreListedTo};
 
-use crate::events::Events;
 use crate::kind::Kind;
 use std::alloc::{AllocError, Global};
 use std::marker::Model;
@@ -144,8 +142,8 @@ impl ByNumber {
         self.append(number, event)
     }
 
-    /// Adds an event, where it is listed.
-    fn read(
+    /// Adds an event of this kind, where it is listed.
+    pub(crate) fn read(
         &mut self,
         alloc: Global,
         listing: Listing,
@@ -159,39 +157,6 @@ impl ByNumber {
             self.add(alloc, number, event)?;
         }
         Ok(())
-    }
-
-    /// Adds the events of a process that are listed.
-    fn read_all(
-        &mut self,
-        alloc: Global,
-        listing: Listing,
-        events: &Events,
-        proc: Proc,
-    ) -> Result<(), AllocError>
-        ensures { OnOk result (AreListedTo (plan_of events.now) listing proc.number 0 self.old →
-            AreListedTo (plan_of events.now) listing (suc proc.number) 0 self.new) }
-    {
-        for at in 0..events.event_count(proc) {
-            let event = Event { proc, at };
-            self.read(alloc, listing, event, events.kind(event))?;
-        }
-        Ok(())
-    }
-
-    /// The events that are listed, by number. The only error is that memory ran out.
-    pub(crate) fn of(
-        alloc: Global,
-        events: &Events,
-        listing: Listing,
-    ) -> Result<ByNumber, AllocError>
-        ensures { IfOk result (λ table. AreListed (plan_of events.now) listing table) }
-    {
-        let mut table = ByNumber::empty(alloc);
-        for number in 0..events.process_count() {
-            table.read_all(alloc, listing, events, Proc::new(number))?;
-        }
-        Ok(table)
     }
 
     /// The events that are listed under a number, in process order; none where there are none.

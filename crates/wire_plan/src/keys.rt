@@ -11,28 +11,16 @@ ghost use Rattle.wire_content.specs.Planned.{plan_of};
 ghost use Rattle.wire_plan.specs.Kinds.{kind_of};
 ghost use Rattle.wire_runs.specs.Order.{Stores};
 ghost use Rattle.wire_runs.specs.Races.{IsPutOnce};
-ghost use Rattle.wire_plan.specs.Index.{IsFirstPut};
-ghost use Rattle.wire_plan.specs.Keys.{puts_in, row_at, AreRowsFrom, IsKeyRow, IsStore, AreKeysOf};
+ghost use Rattle.wire_plan.specs.Index.{IsFirstPut, IsSent};
+ghost use Rattle.wire_plan.specs.Keys.{puts_in, row_in, row_at, AreRowsFrom, IsKeyRow, IsStore, AreKeysOf};
 ghost use Rattle.wire_plan.specs.Bringing.{IsSentAfter};
 
 use crate::events::Events;
+use crate::key_rows::{KeyRow, KeyRows};
 use crate::kind::Kind;
 use std::alloc::{AllocError, Global};
 use std::collections::BTreeMap;
 use wire_types::{Event, Proc, Scope};
-
-/// What a process's script says of a key that it puts. Events go by their numbers in the process.
-#[derive(Clone, Copy)]
-pub(crate) struct KeyRow {
-    /// How often it puts the key.
-    pub puts: u32,
-    /// The event that puts it first.
-    pub first: u32,
-    /// Whom that put is for.
-    pub scope: Scope,
-    /// The commit that stores that put: the first one after it.
-    pub store: Option<u32>,
-}
 
 /// What the events of a process from some number on say of each key, and the first commit among
 /// them.
@@ -80,8 +68,8 @@ impl Scan {
 }
 
 /// What the events of a process say of each key that it puts.
-fn rows_of(alloc: Global, events: &Events, proc: Proc) -> Result<BTreeMap<u32, KeyRow>, AllocError>
-    ensures { IfOk result (λ rows. (key : ℕ) → IsKeyRow (plan_of events.now) proc.number key (get nat_cmp rows key)) }
+fn rows_of(alloc: Global, events: &Events, proc: Proc) -> Result<KeyRows, AllocError>
+    ensures { IfOk result (λ rows. (key : ℕ) → IsKeyRow (plan_of events.now) proc.number key (row_in (Some rows) key)) }
 {
     let mut scan = Scan {
         rows: BTreeMap::new(alloc),
@@ -90,12 +78,12 @@ fn rows_of(alloc: Global, events: &Events, proc: Proc) -> Result<BTreeMap<u32, K
     for at in (0..events.event_count(proc)).rev() {
         scan.take(events.kind(Event { proc, at }), at)?;
     }
-    Ok(scan.rows)
+    KeyRows::of(alloc, &scan.rows)
 }
 
 /// What each process's script says of the keys that it puts.
 pub(crate) struct KeyTable {
-    rows: Vec<BTreeMap<u32, KeyRow>>,
+    rows: Vec<KeyRows>,
 }
 
 // By hand and not derived: so dropping one is a call, and the proof of a function that drops one doesn't take it apart.
@@ -135,7 +123,7 @@ impl KeyTable {
         ensures is { (plan : Plan) → AreKeysOf plan self.now → IsKeyRow plan owner.number key result }
     {
         match self.rows.get(owner.index()) {
-            Some(rows) => rows.get(&key).copied(),
+            Some(rows) => rows.row(key),
             None => None,
         }
     }
@@ -235,6 +223,17 @@ impl KeyTable {
                 }
             }
             None => None,
+        }
+    }
+
+    /// Whether what a process has stored under a key before its event of this number is for processes of
+    /// other nodes, where the key is put once.
+    pub(crate) fn is_sent(&self, owner: Proc, key: u32, at: u32) -> bool
+        ensures { (plan : Plan) → AreKeysOf plan self.now → IsPutOnce plan owner.number key → (IsTrue result ↔ IsSent plan owner.number key at) }
+    {
+        match self.sending_commit(owner, key) {
+            Some(commit) => commit < at,
+            None => false,
         }
     }
 }

@@ -8,6 +8,7 @@ mod deliveries;
 mod events;
 mod gets;
 mod index;
+mod key_rows;
 mod keys;
 mod kind;
 mod meetings;

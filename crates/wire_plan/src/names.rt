@@ -1,15 +1,17 @@
 //! The calls on each name.
 
-ghost use Rattle.std.specs.Prelude.{◌≡◌, map, IfOk, MatchOption};
-ghost use Rattle.wire_runs.specs.Plan.{event_of};
+ghost use Rattle.std.specs.Prelude.{◌≡◌, ℕ, suc, List, Some, map, OnOk, IfOk, MatchOption};
+ghost use Rattle.wire_runs.specs.Plan.{event_of, kind_at};
 ghost use Rattle.wire_runs.specs.Plan as runs;
 ghost use Rattle.wire_content.specs.Planned.{plan_of};
 ghost use Rattle.wire_runs.specs.Order.{PublishesOnce};
 ghost use Rattle.wire_plan.specs.Index.{AreNameCalls, ArePublishes, AreSweeps};
-ghost use Rattle.wire_plan.specs.Tables.{only_of, IsUnswept, AreNamesOf};
+ghost use Rattle.wire_plan.specs.Kinds.{kind_of};
+ghost use Rattle.wire_plan.specs.Tables.{only_of, IsUnswept, AreNamesTo, AreNamesOf};
 
 use crate::by_number::{ByNumber, Listing};
 use crate::events::Events;
+use crate::kind::Kind;
 use std::alloc::{AllocError, Global};
 use wire_types::{Event, Proc};
 
@@ -48,16 +50,49 @@ fn only_publish(publishes: &[Event], takes: &[Event]) -> Option<Event>
 }
 
 impl NameTable {
+    /// No call.
+    fn empty(alloc: Global) -> NameTable
+        ensures { (plan : runs.Plan) → AreNamesTo plan 0 0 result }
+    {
+        NameTable {
+            calls: ByNumber::empty(alloc),
+            publishes: ByNumber::empty(alloc),
+            takes: ByNumber::empty(alloc),
+            sweeps: ByNumber::empty(alloc),
+        }
+    }
+
+    /// Adds an event of this kind to the lists that it is for.
+    fn read(&mut self, alloc: Global, event: Event, kind: Kind) -> Result<(), AllocError>
+        ensures { OnOk result ((plan : runs.Plan) (sets : List (List ℕ)) → kind_at plan event.proc.number event.at ≡ Some (kind_of sets kind)
+            → AreNamesTo plan event.proc.number event.at self.old → AreNamesTo plan event.proc.number (suc event.at) self.new) }
+    {
+        self.calls.read(alloc, Listing::NameCalls, event, kind)?;
+        self.publishes.read(alloc, Listing::Publishes, event, kind)?;
+        self.takes.read(alloc, Listing::Takes, event, kind)?;
+        self.sweeps.read(alloc, Listing::Sweeps, event, kind)
+    }
+
+    /// Adds the events of a process.
+    fn read_all(&mut self, alloc: Global, events: &Events, proc: Proc) -> Result<(), AllocError>
+        ensures { OnOk result (AreNamesTo (plan_of events.now) proc.number 0 self.old → AreNamesTo (plan_of events.now) (suc proc.number) 0 self.new) }
+    {
+        for at in 0..events.event_count(proc) {
+            let event = Event { proc, at };
+            self.read(alloc, event, events.kind(event))?;
+        }
+        Ok(())
+    }
+
     /// The calls on each name. The only error is that memory ran out.
     pub(crate) fn of(alloc: Global, events: &Events) -> Result<NameTable, AllocError>
         ensures { IfOk result (λ table. AreNamesOf (plan_of events.now) table) }
     {
-        Ok(NameTable {
-            calls: ByNumber::of(alloc, events, Listing::NameCalls)?,
-            publishes: ByNumber::of(alloc, events, Listing::Publishes)?,
-            takes: ByNumber::of(alloc, events, Listing::Takes)?,
-            sweeps: ByNumber::of(alloc, events, Listing::Sweeps)?,
-        })
+        let mut table = NameTable::empty(alloc);
+        for number in 0..events.process_count() {
+            table.read_all(alloc, events, Proc::new(number))?;
+        }
+        Ok(table)
     }
 
     /// The calls on a name alone, in process order: publishes, lookups and unpublishes (PMIx Standard 5.0,

@@ -1,7 +1,7 @@
 //! A plan: scripts with the events of each process, and what is looked up of them.
 
 ghost use Rattle.std.specs.Prelude.{◌≡◌, ◌<◌, ◌^◌, ℕ, List, [], true, Some, length, map, option_map, IfOk, IfErr};
-ghost use Rattle.std.specs.Prelude.{IfSome, MatchOption};
+ghost use Rattle.std.specs.Prelude.{◌↔◌, IsTrue, IfSome, MatchOption};
 ghost use Rattle.wire_runs.specs.Plan.{Get, Leave, event_of, process_count, kinds, kind_at, event_count, kind, node_of};
 ghost use Rattle.wire_runs.specs.Plan as runs;
 ghost use Rattle.wire_runs.specs.Puts.{put_count};
@@ -16,7 +16,7 @@ ghost use Rattle.wire_runs.specs.Plan.{event_total};
 ghost use Rattle.wire_runs.specs.Order.{may_come, Stores, PublishesOnce};
 ghost use Rattle.wire_runs.specs.Races.{IsPutOnce};
 ghost use Rattle.wire_plan.specs.Index.{AreSources, AreArrivals, AreNameCalls, ArePublishes, AreSweeps};
-ghost use Rattle.wire_plan.specs.Index.{AreGetDeliveries};
+ghost use Rattle.wire_plan.specs.Index.{AreGetDeliveries, IsLastBringing, IsSent};
 ghost use Rattle.wire_plan.specs.Index.{IsAwaited, IsFirstPut, IsNextDelivery, source_list, previous_of};
 ghost use Rattle.wire_plan.specs.Indexed.{IsIndexed};
 ghost use Rattle.wire_plan.specs.Meetings.{is_of_fence, IsMet};
@@ -321,6 +321,22 @@ impl Plan {
             Delivery { owner, key, node },
             from,
         )
+    }
+
+    /// The last arrival of an event's process before it at a fence that brings data: one that each member
+    /// calls, each with data collection (PMIx Standard 5.0, PMIx_Fence with PMIX_COLLECT_DATA).
+    pub fn last_bringing(&self, event: Event) -> Option<Event>
+        ensures { IsLastBringing (plan_of self.now) (event_of event) (option_map event_of result) }
+    {
+        self.tables.index.bringing.last_before(event)
+    }
+
+    /// Whether what a process has stored under a key before its event of this number is for processes of
+    /// other nodes. For a key that the process puts once (PMIx Standard 5.0, the scope of put data).
+    pub fn is_sent(&self, owner: Proc, key: u32, at: u32) -> bool
+        ensures { IsPutOnce (plan_of self.now) owner.number key → (IsTrue result ↔ IsSent (plan_of self.now) owner.number key at) }
+    {
+        self.tables.index.keys.is_sent(owner, key, at)
     }
 
     /// The gets that bring a key of a process to a node, in process order: those of processes of the node,

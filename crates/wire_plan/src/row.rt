@@ -1,6 +1,6 @@
 //! The events of one process.
 
-ghost use Rattle.std.specs.Prelude.{◌≡◌, ◌+◌, ◌<◌, ◌^◌, ◌∷◌, ◌++◌, [], ℕ, List, length, map, replicate, OnOk, IfOk};
+ghost use Rattle.std.specs.Prelude.{◌≡◌, ◌+◌, ◌<◌, ◌≤◌, ◌^◌, ◌∷◌, ◌++◌, [], ℕ, List, length, map, replicate, OnOk, IfOk};
 ghost use Rattle.wire_runs.specs.Plan.{kinds_of};
 ghost use Rattle.wire_content.specs.Planned.{planned_call};
 ghost use Rattle.wire_procmap.specs.Map.{map_of};
@@ -31,17 +31,27 @@ impl Drop for ProcessEvents {
     }
 }
 
+/// How many of these calls are fences.
+fn count_fences(calls: &[Call]) -> usize
+    ensures { result ≤ length calls.now }
+{
+    let is_fence = |call: &&Call| matches!(call, Call::Fence { .. });
+    calls.iter().filter(is_fence).count()
+}
+
 impl ProcessEvents {
-    /// No event, with room for one event of each of so many calls.
-    fn with_room(alloc: Global, count: usize) -> Result<ProcessEvents, AllocError>
+    /// No event, with room for those of these calls: two of a fence, and one of each other call.
+    fn with_room(alloc: Global, calls: &[Call]) -> Result<ProcessEvents, AllocError>
+        requires few { length calls.now < 2 ^ 31 }
         ensures kinds { IfOk result (λ row. row.kinds.items ≡ []) }
         ensures calls { IfOk result (λ row. row.calls.items ≡ []) }
         ensures starts { IfOk result (λ row. row.starts.items ≡ []) }
     {
+        let count = calls.len() + count_fences(calls);
         Ok(ProcessEvents {
             kinds: Vec::with_capacity(alloc, count)?,
             calls: Vec::with_capacity(alloc, count)?,
-            starts: Vec::with_capacity(alloc, count)?,
+            starts: Vec::with_capacity(alloc, calls.len())?,
         })
     }
 
@@ -104,7 +114,7 @@ pub(crate) fn events_of(
     ensures calls { IfOk result (λ row. row.calls.items ≡ calls_from 0 (map (planned_call scripts.now) calls.now)) }
     ensures starts { IfOk result (λ row. row.starts.items ≡ starts_from 0 (map (planned_call scripts.now) calls.now)) }
 {
-    let mut row = ProcessEvents::with_room(alloc, calls.len())?;
+    let mut row = ProcessEvents::with_room(alloc, calls)?;
     let mut number = 0;
     for call in calls {
         add_call(&mut row, scripts, places, *call, number)?;

@@ -7,8 +7,8 @@ use Rattle.wire_plan.specs.Bringing.{is_below}
 use Rattle.wire_plan.proofs.FirstBringing.{less_below, lower_first, stands_at}
 use Rattle.wire_plan.proofs.bringing.count_lower.Goals as goal
 
-pub returns : goal.returns
-returns c = λ rising k x is.
+pub returns-clause-exactly : goal.returns-clause-exactly
+returns-clause-exactly c = λ rising k x is.
     let xs = c.args.list.now in
     let point = IsPartitionPoint-from_clause (λ (y : CodeEvent). is_below (event_of y) (event_of c.args.event)) xs _ c.partition_point.ensures.partitioned
     (lower_first xs (event_of c.args.event) rising) (λ a r q h. search (rules, less_below)) in

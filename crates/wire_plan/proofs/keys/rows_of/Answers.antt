@@ -1,9 +1,10 @@
-use Rattle.std.proofs.Common.{◌≡◌, ◌≤◌, ◌<◌, ◌-◌, suc, subst, arith}
+use Rattle.std.proofs.Common.{◌≡◌, ◌≤◌, ◌<◌, ◌-◌, ℕ, suc, sym, subst, Some, arith}
+use Rattle.std.proofs.lemmas.Result.{IfOk-weaker}
 use Rattle.std.specs.BTreeMap.{get}
 use Rattle.std.specs.Ordering.{nat_cmp}
 use Rattle.wire_runs.specs.Plan.{kind_at, event_count}
 use Rattle.wire_content.specs.Planned.{plan_of}
-use Rattle.wire_plan.specs.Keys.{AreRowsFrom}
+use Rattle.wire_plan.specs.Keys.{AreRowsFrom, IsKeyRow, row_in}
 use Rattle.wire_plan.proofs.KeyRows.{puts_few, rows_done}
 use Rattle.wire_plan.proofs.keys.rows_of.Goals as goal
 
@@ -30,10 +31,12 @@ loop-at-preserved c =
     c.in_ok-take.ensures (kind_at plan p) c.args.events.now.sets end c.kind.ensures within before
 
 pub returns : goal.returns
-returns c = λ key.
+returns c =
     let plan = plan_of c.args.events.now in
     let p = c.args.proc.number in
     let start = c.loop-at-test.false in
     let zero_at : c.loop-at.at ≡ 0 = omega arith in
-    rows_done plan p (get nat_cmp c.loop-at.scan.rows) c.loop-at.scan.commit
-    (subst (λ n. AreRowsFrom (kind_at plan p) n (event_count plan p) (get nat_cmp c.loop-at.scan.rows) c.loop-at.scan.commit) zero_at c.loop-at.invariant) key
+    IfOk-weaker c.of.result _ (λ rows. (key : ℕ) → IsKeyRow plan p key (row_in (Some rows) key)) (λ rows same key.
+    subst (λ entries. IsKeyRow plan p key (row_in (Some entries) key)) (sym same)
+    (rows_done plan p (get nat_cmp c.loop-at.scan.rows) c.loop-at.scan.commit
+    (subst (λ n. AreRowsFrom (kind_at plan p) n (event_count plan p) (get nat_cmp c.loop-at.scan.rows) c.loop-at.scan.commit) zero_at c.loop-at.invariant) key)) c.of.ensures

@@ -8,7 +8,7 @@ returns-in-Some-clause-at c =
     let rows = c.args.self.now.rows.items in
     let lookup = rw (c.deref.ensures.value, c.index.ensures) at c.in-Some.ensures.lookup in
     let found = slice_get_read rows (length rows) c.args.owner.number c.in-Some.rows.now refl lookup.3.0 lookup.1 in
-    c.copied.ensures ∙ c.get-in-Some.ensures.value ∙ ap (λ o. row_in o c.args.key) (sym found)
+    c.row.ensures ∙ ap (λ o. row_in o c.args.key) (sym found)
 
 pub returns-in-Some-clause-is : goal.returns-in-Some-clause-is
 returns-in-Some-clause-is c = λ plan are.

@@ -5,7 +5,7 @@ use Rattle.std.specs.declared.cmp.Ordering.TheVariants.{Less, Equal, Greater}
 use Rattle.std.proofs.lemmas.Bool.{cond_both}
 use Rattle.wire_plan.specs.Kinds.{kind_of}
 use Rattle.wire_plan.specs.Keys.{puts_in}
-use Rattle.wire_plan.specs.declared.keys.KeyRow.{KeyRow}
+use Rattle.wire_plan.specs.declared.key_rows.KeyRow.{KeyRow}
 use Rattle.wire_plan.proofs.KeyRows.{take_put, take_commit, take_other}
 use Rattle.wire_plan.proofs.keys.Scan.take.Goals as goal
 

@@ -1,12 +1,22 @@
+use Rattle.std.proofs.Common.{◌≡◌, ◌≤◌, ◌+◌, suc, subst, arith}
+use Rattle.wire_runs.specs.Plan.{process_count}
 use Rattle.wire_content.specs.Planned.{plan_of}
-use Rattle.wire_plan.specs.Tables.{events_listed}
-use Rattle.wire_plan.proofs.Tables.{publishes_listed, takes_listed, sweeps_listed}
+use Rattle.wire_plan.specs.Tables.{AreNamesTo}
+use Rattle.wire_plan.proofs.Tables.{names_plan}
 use Rattle.wire_plan.proofs.names.NameTable.of.Goals as goal
 
+pub loop-number-preserved : goal.loop-number-preserved
+loop-number-preserved c =
+    let next : suc c.loop-number.number ≡ c.loop-number.number + 1 = omega arith in
+    let told = rw (c.new.ensures) at c.in_ok-read_all.ensures in
+    subst (λ p. AreNamesTo (plan_of c.args.events.now) p 0 c.read_all.new.self) next (told c.loop-number.invariant)
+
 pub returns : goal.returns
-returns c = record {
-  calls = c.in_ok-of.ensures;
-  publishes = λ name. publishes_listed (plan_of c.args.events.now) name (events_listed c.in_ok-of-2.field-0 name) (c.in_ok-of-2.ensures name);
-  takes = λ name. takes_listed (plan_of c.args.events.now) name (events_listed c.in_ok-of-3.field-0 name) (c.in_ok-of-3.ensures name);
-  sweeps = λ p. sweeps_listed (plan_of c.args.events.now) p (events_listed c.in_ok-of-4.field-0 p) (c.in_ok-of-4.ensures p);
-}
+returns c =
+    let over = c.loop-number-test.false in
+    let count = c.process_count-number-end.ensures in
+    let last : process_count (plan_of c.args.events.now) ≤ c.loop-number.number = omega (arith, over, count) in
+    names_plan (plan_of c.args.events.now) c.loop-number.number c.loop-number.table last c.loop-number.invariant
+
+pub loop-number-init : goal.loop-number-init
+loop-number-init c = c.empty-table.ensures (plan_of c.args.events.now)

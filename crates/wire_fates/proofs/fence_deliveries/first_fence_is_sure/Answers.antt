@@ -4,7 +4,7 @@ use Rattle.wire_runs.specs.Plan.{event_of}
 use Rattle.wire_content.specs.Planned.{plan_of}
 use Rattle.wire_fates.specs.Deliveries.{IsSure}
 use Rattle.wire_fates.proofs.Surely.{first_sure, never_sure}
-use Rattle.wire_fates.proofs.fence_deliveries.fence_comes_surely.Goals as goal
+use Rattle.wire_fates.proofs.fence_deliveries.first_fence_is_sure.Goals as goal
 
 pub returns-in-Some : goal.returns-in-Some
 returns-in-Some c =
