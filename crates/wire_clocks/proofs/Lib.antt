@@ -1,6 +1,7 @@
 pub mod Growing
 pub mod Putting
 pub mod Joining
+pub mod Noting
 pub mod Standing
 pub mod Staying
 pub mod Blocks

@@ -1,4 +1,5 @@
 pub mod Rows
+pub mod Notes
 pub mod ClockTrees
 pub mod Trees
 pub mod Rising

@@ -1,6 +1,7 @@
 -- What a tree of rows stands for: a number for each process.
 use Rattle.std.specs.Prelude.{◌≡◌, ◌<◌, ◌≤◌, ◌/◌, ◌%◌, ◌^◌, ℕ, zero, suc, List, [], Option, Some, None, length}
-use Rattle.std.specs.Prelude.{slice_get, slice_index}
+use Rattle.std.specs.Prelude.{slice_get, slice_index, Bool, true, nat_lt, ◌&&◌}
+use Rattle.std.specs.List.{list_all}
 
 -- the numbers of a row, and none past the last row
 abbrev pub numbers_in : Option (List ℕ) → List ℕ
@@ -21,6 +22,11 @@ tree_says rows (suc k) tree p = tree_says rows k (entry rows tree (p / 16 ^ k)) 
 unfoldable pub IsTree : List (List ℕ) → ℕ → ℕ → Type 0
 IsTree rows zero tree = Unit {0}
 IsTree rows (suc k) tree = (tree < length rows) × ((i : ℕ) → IsTree rows k (entry rows tree i))
+
+-- whether all rows of the tree are there
+unfoldable pub is_tree : List (List ℕ) → ℕ → ℕ → Bool
+is_tree rows zero tree = true
+is_tree rows (suc k) tree = nat_lt tree (length rows) && list_all (is_tree rows k) (numbers_in (slice_get rows tree))
 
 -- row 0 is there, and is all zeros
 pub record IsZero (rows : List (List ℕ)) : Type 0 where

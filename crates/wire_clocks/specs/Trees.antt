@@ -1,21 +1,18 @@
--- Which clocks trees of rows stand for.
-use Rattle.std.specs.Prelude.{◌<◌, ◌≤◌, ◌^◌, ◌&&◌, ℕ, zero, suc, Bool, true, List, nat_lt, length, map, slice_get}
-use Rattle.std.specs.List.{list_all, range_with_len}
-use Rattle.wire_clocks.specs.Rows.{numbers_in, tree_says, IsZero}
+-- Which clocks trees of rows and notes stand for.
+use Rattle.std.specs.Prelude.{◌<◌, ◌≤◌, ◌*◌, ◌^◌, ℕ, List, length, map, max}
+use Rattle.std.specs.List.{range_with_len}
+use Rattle.wire_clocks.specs.declared.notes.Note.{Note}
+use Rattle.wire_clocks.specs.Rows.{IsZero}
+use Rattle.wire_clocks.specs.Notes.{clock_number, clock_stands}
 use Rattle.wire_clocks.specs.ClockTrees.{Clock, Clocks}
 
--- whether all rows of the tree are there
-unfoldable pub is_tree : List (List ℕ) → ℕ → ℕ → Bool
-is_tree rows zero tree = true
-is_tree rows (suc k) tree = nat_lt tree (length rows) && list_all (is_tree rows k) (numbers_in (slice_get rows tree))
+-- what stands at a root: at most 15 notes above a tree are a clock
+abbrev pub clock_at : List (List ℕ) → List Note → ℕ → ℕ → Clock
+clock_at rows notes height root = record { numbers = map (clock_number rows notes height 15 root) (range_with_len 0 (16 ^ height)); stays = clock_stands rows notes height 15 root }
 
--- what the tree with this top row stands for
-abbrev pub clock_of_tree : List (List ℕ) → ℕ → ℕ → Clock
-clock_of_tree rows height tree = record { numbers = map (tree_says rows height tree) (range_with_len 0 (16 ^ height)); stays = is_tree rows height tree }
-
--- what the trees of this height stand for
-abbrev pub clocks_of_trees : List (List ℕ) → ℕ → Clocks
-clocks_of_trees rows height = record { width = 16 ^ height; clocks = map (clock_of_tree rows height) (range_with_len 0 (length rows)) }
+-- what the trees of this height and the notes stand for
+abbrev pub clocks_of : List (List ℕ) → List Note → ℕ → Clocks
+clocks_of rows notes height = record { width = 16 ^ height; clocks = map (clock_at rows notes height) (range_with_len 0 (2 * max (length rows) (length notes))) }
 
 -- the trees are not too high for numbers of 32 bits, and row 0 is the tree of zeros
 pub record AreTrees (rows : List (List ℕ)) (height : ℕ) : Type 0 where

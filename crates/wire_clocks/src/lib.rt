@@ -2,6 +2,7 @@
 //! kept once.
 #![tactic(auto)]
 
+mod notes;
 mod rising;
 mod rows;
 mod trees;

@@ -2,31 +2,37 @@
 
 ghost use Rattle.std.specs.Prelude.{◌≡◌, ◌<◌, ◌≤◌, ◌^◌, ◌↔◌, ◌==◌, ℕ, IsTrue, IfOk, max, if◌then◌else◌};
 
-use crate::rows::{join, number, place, put, raise_block};
+use crate::notes::{Note, add_note, flatten, number_at, root_of, shorten};
+use crate::rows::{join, place, put, raise_block};
 use std::alloc::{AllocError, Global};
 use std::marker::Model;
 
-/// Clocks of some processes, each kept as the number of the top row of its tree, which is its root. A clock
-/// never changes: what raises or joins clocks makes another one.
+/// Clocks of some processes, each kept as a root: the number of a tree, or that of a note above another clock. A
+/// clock never changes: what raises or joins clocks makes another one.
 pub struct ClockTrees {
     rows: Vec<[u32; 16]>,
+    notes: Vec<Note>,
     levels: u32,
 }
 
 // By hand and not derived: so dropping one is a call, and the proof of a function that drops one doesn't take it apart.
 impl Drop for ClockTrees {
     fn drop(self) {
-        let ClockTrees { rows: _, levels: _ } = self;
+        let ClockTrees {
+            rows: _,
+            notes: _,
+            levels: _,
+        } = self;
     }
 }
 
 impl Model for ClockTrees {
     ghost use Rattle.wire_clocks.specs.ClockTrees.{Clocks};
-    ghost use Rattle.wire_clocks.specs.Trees.{clocks_of_trees, AreTrees};
+    ghost use Rattle.wire_clocks.specs.Trees.{clocks_of, AreTrees};
 
     ghost Value = { Clocks };
 
-    ghost view = { λ t. clocks_of_trees t.rows.items t.levels };
+    ghost view = { λ t. clocks_of t.rows.items t.notes.items t.levels };
 
     ghost invariant = { λ t. AreTrees t.rows.items t.levels };
 }
@@ -68,6 +74,7 @@ impl ClockTrees {
         rows.push([0; 16])?;
         Ok(ClockTrees {
             rows,
+            notes: Vec::new(alloc),
             levels: levels_for(processes),
         })
     }
@@ -88,10 +95,48 @@ impl ClockTrees {
         ensures { result ≡ says self.now root process }
     {
         if is_within(self.levels, process) {
-            number(&self.rows, self.levels, root, process)
+            number_at(&self.rows, &self.notes, self.levels, root, process)
         } else {
             0
         }
+    }
+
+    /// The tree with this number at a process, and as the given one elsewhere.
+    fn raise_tree(&mut self, root: u32, process: u32, number: u32) -> Result<u32, AllocError>
+        requires process { Holds self.old process }
+        requires root { IsRoot self.old root }
+        requires tree { root % 2 ≡ 0 }
+        requires lower { says self.old root process < number }
+        ensures keeps { Keeps self.old self.new }
+        ensures root { IfOk result (λ r. IsRoot self.new r) }
+        ensures says { IfOk result (λ r. (q : ℕ) → says self.new r q ≡ (if q == process then max (says self.old root q) number else says self.old root q)) }
+    {
+        let tree = put(&mut self.rows, self.levels, root / 2, process, number)?;
+        root_of(tree)
+    }
+
+    /// The clock of a note above the given one.
+    fn raise_by_note(&mut self, root: u32, process: u32, number: u32) -> Result<u32, AllocError>
+        requires process { Holds self.old process }
+        requires root { IsRoot self.old root }
+        ensures keeps { Keeps self.old self.new }
+        ensures root { IfOk result (λ r. IsRoot self.new r) }
+        ensures says { IfOk result (λ r. (q : ℕ) → says self.new r q ≡ (if q == process then max (says self.old root q) number else says self.old root q)) }
+    {
+        let before = shorten(&mut self.rows, &self.notes, self.levels, root)?;
+        let note = Note {
+            before,
+            process,
+            number,
+        };
+        add_note(&mut self.notes, note)
+    }
+
+    /// Whether the root is that of the tree whose top row was added last.
+    fn is_newest(&self, root: u32) -> bool
+        ensures { IsTrue result → root % 2 ≡ 0 }
+    {
+        root % 2 == 0 && (root / 2) as usize + 1 == self.rows.len()
     }
 
     /// The clock with at least this number at a process, and as the given one elsewhere.
@@ -105,7 +150,36 @@ impl ClockTrees {
         if self.get(root, process) >= number {
             return Ok(root);
         }
-        put(&mut self.rows, self.levels, root, process, number)
+        if self.is_newest(root) {
+            return self.raise_tree(root, process, number);
+        }
+        self.raise_by_note(root, process, number)
+    }
+
+    /// The root of the tree that says what a clock says.
+    fn flatten(&mut self, root: u32) -> Result<u32, AllocError>
+        requires { IsRoot self.old root }
+        ensures keeps { Keeps self.old self.new }
+        ensures root { IfOk result (λ r. IsRoot self.new r) }
+        ensures tree { IfOk result (λ r. r % 2 ≡ 0) }
+        ensures says { IfOk result (λ r. (q : ℕ) → says self.new r q ≡ says self.old root q) }
+    {
+        let tree = flatten(&mut self.rows, &self.notes, self.levels, root)?;
+        root_of(tree)
+    }
+
+    /// The tree with the greater number of two at each process.
+    fn join_trees(&mut self, left: u32, right: u32) -> Result<u32, AllocError>
+        requires left { IsRoot self.old left }
+        requires right { IsRoot self.old right }
+        requires left_tree { left % 2 ≡ 0 }
+        requires right_tree { right % 2 ≡ 0 }
+        ensures keeps { Keeps self.old self.new }
+        ensures root { IfOk result (λ r. IsRoot self.new r) }
+        ensures says { IfOk result (λ r. (q : ℕ) → says self.new r q ≡ max (says self.old left q) (says self.old right q)) }
+    {
+        let tree = join(&mut self.rows, self.levels, left / 2, right / 2)?;
+        root_of(tree)
     }
 
     /// The clock with the greater number of two at each process.
@@ -116,7 +190,35 @@ impl ClockTrees {
         ensures root { IfOk result (λ r. IsRoot self.new r) }
         ensures says { IfOk result (λ r. (q : ℕ) → says self.new r q ≡ max (says self.old left q) (says self.old right q)) }
     {
-        join(&mut self.rows, self.levels, left, right)
+        let zero = self.zero();
+        if left == right || right == zero {
+            return Ok(left);
+        }
+        if left == zero {
+            return Ok(right);
+        }
+        let left_tree = self.flatten(left)?;
+        let right_tree = self.flatten(right)?;
+        self.join_trees(left_tree, right_tree)
+    }
+
+    /// The tree with at least these numbers at a block of 16 processes.
+    fn raise_tree_block(
+        &mut self,
+        root: u32,
+        block: u32,
+        least: &[u32; 16],
+    ) -> Result<u32, AllocError>
+        requires block { Holds self.old (16 * block) }
+        requires root { IsRoot self.old root }
+        requires tree { root % 2 ≡ 0 }
+        ensures keeps { Keeps self.old self.new }
+        ensures root { IfOk result (λ r. IsRoot self.new r) }
+        ensures says { IfOk result (λ r. (q : ℕ) → says self.new r q ≡
+            (if q / 16 == block then max (says self.old root q) (slice_index least.now (q % 16)) else says self.old root q)) }
+    {
+        let tree = raise_block(&mut self.rows, self.levels, root / 2, block, least)?;
+        root_of(tree)
     }
 
     /// The clock with at least these numbers at a block of 16 processes, the first of which is 16 times the block's
@@ -134,6 +236,7 @@ impl ClockTrees {
         ensures says { IfOk result (λ r. (q : ℕ) → says self.new r q ≡
             (if q / 16 == block then max (says self.old root q) (slice_index least.now (q % 16)) else says self.old root q)) }
     {
-        raise_block(&mut self.rows, self.levels, root, block, least)
+        let tree = self.flatten(root)?;
+        self.raise_tree_block(tree, block, least)
     }
 }

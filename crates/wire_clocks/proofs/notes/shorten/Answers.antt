@@ -1,0 +1,29 @@
+use Rattle.std.proofs.Common.{◌≡◌, ◌∙◌, ◌<◌, ◌^◌, ℕ, sym, ap, subst}
+use Rattle.std.specs.Prelude.{true}
+use Rattle.std.proofs.lemmas.Result.{IfOk-weaker}
+use Rattle.wire_clocks.specs.Rows.{tree_says, IsTree}
+use Rattle.wire_clocks.specs.Notes.{clock_number, clock_stands, IsTopOf}
+use Rattle.wire_clocks.proofs.Noting.{none_at, tree_stands, tree_number, tree_top, low_number}
+use Rattle.wire_clocks.proofs.notes.shorten.Goals as goal
+
+pub returns-then-is_low-clause-says : goal.returns-then-is_low-clause-says
+returns-then-is_low-clause-says c = λ q low.
+    let rows = c.args.rows.now.items in
+    sym (low_number rows c.args.notes.now c.args.levels q 14 c.args.root (c.is_low.ensures c.if-is_low.true rows c.args.levels c.requires.root))
+
+pub returns-clause-stands : goal.returns-clause-stands
+returns-clause-stands c =
+    let new = c.flatten.new.rows.items in
+    let notes = c.args.notes.now in
+    let height = c.args.levels in
+    IfOk-weaker c.root_of.result (IsTopOf c.in_ok-tree.tree) (λ r. clock_stands new notes height 14 r ≡ true)
+    (λ r top. tree_stands new notes height 14 r (none_at notes r top.even) ∙ tree_top new height r top.even (subst (IsTree new height) (sym top.half) c.in_ok-tree.ensures.tree)) c.root_of.ensures
+
+pub returns-clause-says : goal.returns-clause-says
+returns-clause-says c =
+    let old = c.args.rows.now.items in
+    let new = c.flatten.new.rows.items in
+    let notes = c.args.notes.now in
+    let height = c.args.levels in
+    IfOk-weaker c.root_of.result (IsTopOf c.in_ok-tree.tree) (λ r. (q : ℕ) → q < 16 ^ height → clock_number new notes height 14 r q ≡ clock_number old notes height 15 c.args.root q)
+    (λ r top. λ q low. tree_number new notes height 14 r q (none_at notes r top.even) ∙ ap (λ t. tree_says new height t q) top.half ∙ c.in_ok-tree.ensures.says q low) c.root_of.ensures

@@ -1,0 +1,250 @@
+//! Notes beside the trees. A note is a clock that says at least a number of one process, and of each other process
+//! what the clock before it says. Notes are added, and never changed. The root of a note is an odd number and that
+//! of a tree an even one: half of it is the place in the list of notes, or of rows.
+
+ghost use Rattle.std.specs.Prelude.{◌≡◌, ◌<◌, ◌≤◌, ◌+◌, ◌-◌, ◌*◌, ◌/◌, ◌%◌, ◌^◌, ◌==◌, ◌++◌, ◌∷◌, [], ℕ, suc, true};
+ghost use Rattle.std.specs.Prelude.{List, IsTrue, IfOk, length, slice_index, max, if◌then◌else◌};
+ghost use Rattle.wire_clocks.specs.Rows.{tree_says, IsTree, IsZero, Keeps};
+ghost use Rattle.wire_clocks.specs.Notes.{note_at, next_note, raised_at, clock_number, clock_stands, IsTopOf, IsNoted, KeepsNotes};
+ghost use Rattle.wire_clocks.specs.Notes.{IsRaised, raised_says};
+
+use crate::rows::{number, raise_block};
+use std::alloc::AllocError;
+
+/// A clock that says at least `number` of `process`, and else what the clock with the root `before` says.
+#[derive(Clone, Copy)]
+pub(crate) struct Note {
+    pub before: u32,
+    pub process: u32,
+    pub number: u32,
+}
+
+/// A tree that is to be raised at one block of 16 processes.
+#[derive(Clone, Copy)]
+pub(crate) struct Raised {
+    pub tree: u32,
+    pub block: u32,
+    pub least: [u32; 16],
+}
+
+/// The root of a tree.
+pub(crate) fn root_of(tree: u32) -> Result<u32, AllocError>
+    ensures { IfOk result (IsTopOf tree) }
+{
+    if tree > u32::MAX / 2 {
+        return Err(AllocError);
+    }
+    Ok(2 * tree)
+}
+
+/// The note with this root, if it is a note's.
+fn note_at(notes: &[Note], root: u32) -> Option<Note>
+    ensures { result ≡ note_at notes.now root }
+{
+    if root % 2 == 0 {
+        return None;
+    }
+    notes.get((root / 2) as usize).copied()
+}
+
+/// The note with this root, if it is a note's and notes are left.
+fn next_note(notes: &[Note], left: u32, root: u32) -> Option<Note>
+    ensures { result ≡ next_note notes.now left root }
+{
+    if left == 0 {
+        return None;
+    }
+    note_at(notes, root)
+}
+
+/// A number of a process, raised to what a note says of it.
+fn raise_number(note: Note, process: u32, number: u32) -> u32
+    ensures { result ≡ raised_at note.process note.number process number }
+{
+    if process == note.process {
+        number.max(note.number)
+    } else {
+        number
+    }
+}
+
+/// What a clock says of a process: the greatest number of its notes and its tree.
+pub(crate) fn number_at(
+    rows: &[[u32; 16]],
+    notes: &[Note],
+    levels: u32,
+    root: u32,
+    process: u32,
+) -> u32
+    requires levels { levels ≤ 8 }
+    requires zero { IsZero rows.now }
+    ensures { result ≡ clock_number rows.now notes.now levels 15 root process }
+{
+    let mut at = root;
+    let mut least: u32 = 0;
+    let mut left: u32 = 15;
+    'down: while let Some(note) = next_note(notes, left, at) {
+        least = raise_number(note, process, least);
+        at = note.before;
+        left -= 1;
+    }
+    number(rows, levels, at / 2, process).max(least)
+}
+
+/// Whether no more notes than this stand above the tree of a clock.
+fn is_low(notes: &[Note], left: u32, root: u32) -> bool
+    ensures { IsTrue result → (rows : List (List ℕ)) → (height : ℕ) → clock_stands rows notes.now height (suc left) root ≡ true →
+        clock_stands rows notes.now height left root ≡ true }
+{
+    match note_at(notes, root) {
+        None => true,
+        Some(note) => left > 0 && is_low(notes, left - 1, note.before),
+    }
+}
+
+/// A tree as it is, with nothing to be raised.
+fn unraised(tree: u32) -> Raised
+    ensures raised { (rows : List (List ℕ)) → (height : ℕ) → IsTree rows height tree → IsRaised rows height result }
+    ensures says { (rows : List (List ℕ)) → (height : ℕ) → (q : ℕ) → raised_says rows height result q ≡ tree_says rows height tree q }
+{
+    Raised {
+        tree,
+        block: 0,
+        least: [0; 16],
+    }
+}
+
+/// Goes on to another block.
+fn turn_to(
+    rows: &mut Vec<[u32; 16]>,
+    levels: u32,
+    raised: Raised,
+    block: u32,
+) -> Result<Raised, AllocError>
+    requires levels { levels ≤ 8 }
+    requires high { 0 < levels }
+    requires zero { IsZero rows.old.items }
+    requires raised { IsRaised rows.old.items levels raised }
+    requires block { block < 16 ^ (levels - 1) }
+    ensures keeps { Keeps rows.old.items rows.new.items }
+    ensures raised { IfOk result (IsRaised rows.new.items levels) }
+    ensures block { IfOk result (λ r. r.block ≡ block) }
+    ensures same { IfOk result (λ r. (q : ℕ) → q < 16 ^ levels → raised_says rows.new.items levels r q ≡ raised_says rows.old.items levels raised q) }
+{
+    if block == raised.block {
+        return Ok(raised);
+    }
+    let tree = raise_block(rows, levels, raised.tree, raised.block, &raised.least)?;
+    Ok(Raised {
+        tree,
+        block,
+        least: [0; 16],
+    })
+}
+
+/// Raises it at a process.
+fn raise_at(
+    rows: &mut Vec<[u32; 16]>,
+    levels: u32,
+    raised: Raised,
+    process: u32,
+    number: u32,
+) -> Result<Raised, AllocError>
+    requires levels { levels ≤ 8 }
+    requires high { 0 < levels }
+    requires zero { IsZero rows.old.items }
+    requires raised { IsRaised rows.old.items levels raised }
+    requires process { process < 16 ^ levels }
+    ensures keeps { Keeps rows.old.items rows.new.items }
+    ensures raised { IfOk result (IsRaised rows.new.items levels) }
+    ensures says { IfOk result (λ r. (q : ℕ) → q < 16 ^ levels → raised_says rows.new.items levels r q ≡
+        raised_at process number q (raised_says rows.old.items levels raised q)) }
+{
+    let mut raised = turn_to(rows, levels, raised, process / 16)?;
+    let place = (process % 16) as usize;
+    raised.least[place] = raised.least[place].max(number);
+    Ok(raised)
+}
+
+/// The tree of a clock, to be raised to what its notes say, of which there are no more than `left`.
+fn rise(
+    rows: &mut Vec<[u32; 16]>,
+    notes: &[Note],
+    levels: u32,
+    left: u32,
+    root: u32,
+) -> Result<Raised, AllocError>
+    requires levels { levels ≤ 8 }
+    requires high { 0 < levels }
+    requires zero { IsZero rows.old.items }
+    requires root { clock_stands rows.old.items notes.now levels left root ≡ true }
+    ensures keeps { Keeps rows.old.items rows.new.items }
+    ensures raised { IfOk result (IsRaised rows.new.items levels) }
+    ensures says { IfOk result (λ r. (q : ℕ) → q < 16 ^ levels → raised_says rows.new.items levels r q ≡
+        clock_number rows.old.items notes.now levels left root q) }
+{
+    let Some(note) = next_note(notes, left, root) else {
+        return Ok(unraised(root / 2));
+    };
+    let raised = rise(rows, notes, levels, left - 1, note.before)?;
+    raise_at(rows, levels, raised, note.process, note.number)
+}
+
+/// The tree that says what a clock says.
+pub(crate) fn flatten(
+    rows: &mut Vec<[u32; 16]>,
+    notes: &[Note],
+    levels: u32,
+    root: u32,
+) -> Result<u32, AllocError>
+    requires levels { levels ≤ 8 }
+    requires high { 0 < levels }
+    requires zero { IsZero rows.old.items }
+    requires root { clock_stands rows.old.items notes.now levels 15 root ≡ true }
+    ensures keeps { Keeps rows.old.items rows.new.items }
+    ensures tree { IfOk result (λ t. IsTree rows.new.items levels t) }
+    ensures says { IfOk result (λ t. (q : ℕ) → q < 16 ^ levels → tree_says rows.new.items levels t q ≡
+        clock_number rows.old.items notes.now levels 15 root q) }
+{
+    if root % 2 == 0 {
+        return Ok(root / 2);
+    }
+    let raised = rise(rows, notes, levels, 15, root)?;
+    raise_block(rows, levels, raised.tree, raised.block, &raised.least)
+}
+
+/// A clock that says what the given one says, and above which a note may stand.
+pub(crate) fn shorten(
+    rows: &mut Vec<[u32; 16]>,
+    notes: &[Note],
+    levels: u32,
+    root: u32,
+) -> Result<u32, AllocError>
+    requires levels { levels ≤ 8 }
+    requires high { 0 < levels }
+    requires zero { IsZero rows.old.items }
+    requires root { clock_stands rows.old.items notes.now levels 15 root ≡ true }
+    ensures keeps { Keeps rows.old.items rows.new.items }
+    ensures stands { IfOk result (λ r. clock_stands rows.new.items notes.now levels 14 r ≡ true) }
+    ensures says { IfOk result (λ r. (q : ℕ) → q < 16 ^ levels → clock_number rows.new.items notes.now levels 14 r q ≡
+        clock_number rows.old.items notes.now levels 15 root q) }
+{
+    if is_low(notes, 14, root) {
+        return Ok(root);
+    }
+    let tree = flatten(rows, notes, levels, root)?;
+    root_of(tree)
+}
+
+/// Adds a note. Its root.
+pub(crate) fn add_note(notes: &mut Vec<Note>, note: Note) -> Result<u32, AllocError>
+    ensures keeps { KeepsNotes notes.old.items notes.new.items }
+    ensures noted { IfOk result (IsNoted notes.old.items notes.new.items note) }
+{
+    if notes.len() > (u32::MAX / 2) as usize {
+        return Err(AllocError);
+    }
+    let root = 2 * notes.len() as u32 + 1;
+    notes.push(note)?;
+    Ok(root)
+}
