@@ -1,6 +1,5 @@
 -- What lines declare that were parsed by themselves.
-use Rattle.std.proofs.Common.{◌≡◌, ◌∙◌, sym, ap, subst, refl, ℕ, List, [], ◌∷◌, ◌++◌, Vec, Result, Ok, Err, take-append-drop, take, drop, ◌+◌, ◌-◌, ◌≤◌, arith}
-use Rattle.std.proofs.Math.Seq.{drop-drop}
+use Rattle.std.proofs.Common.{◌≡◌, ◌∙◌, sym, ap, subst, refl, ℕ, List, [], ◌∷◌, ◌++◌, Vec, Result, Ok, Err}
 use Rattle.std.specs.declared.alloc.Global.{Global}
 use Rattle.wire_types.specs.declared.Fault.{Fault}
 use Rattle.wire_script.specs.Statements.{Statement}
@@ -9,7 +8,6 @@ use Rattle.wire_script.specs.FirstPass.{Declared, Judges, JudgesAll}
 use Rattle.wire_script.specs.Pieces.{IsSaid, AreParsed, ArePieces, all_left}
 use Rattle.wire_script.specs.declared.lines.Cursor.{Cursor}
 use Rattle.wire_script.specs.declared.pieces.Parsed.{Parsed}
-use Rattle.wire_script.proofs.Cutting.{all_both}
 
 same_declared : (d e : Declared) → ◌≡◌ {A = Result Declared Fault} (Ok e) (Ok d) → d ≡ e
 same_declared d e h = cc
@@ -78,17 +76,10 @@ module _ (start now : Declared) (pieces : List Cursor) where
   rows_declared ([], parsed, so_far) = so_far (Ok now) refl
   rows_declared (c ∷ later, parsed, so_far) = absurd parsed
 
--- what is left from one place on is a group up to another place, and what is left from there on
-pub parted : {X : Type 0} (at end : ℕ) (xs : List X) → at ≤ end → drop at xs ≡ take (end - at) (drop at xs) ++ drop end xs
-parted at end xs le =
-    let e : at + (end - at) ≡ end = omega (arith, le) in
-    sym (take-append-drop (end - at) (drop at xs)) ∙ ap (λ l. take (end - at) (drop at xs) ++ l) (drop-drop (end - at) at xs ∙ ap (λ k. drop k xs) e)
+-- the statements of a group, and those behind it
+module _ (d : Declared) (group others all : List Statement) (split : group ++ others ≡ all) where
+  pub group_declared : (next : Declared) → JudgesAll d group (Ok next) → (r : Result Declared Fault) → JudgesAll next others r → JudgesAll d all r
+  group_declared next done r more = subst (λ l. JudgesAll d l r) split (judged_on d next group others r done more)
 
--- a group of pieces, and those behind it
-module _ (start now : Declared) (all left group others : List Cursor) (split : left ≡ group ++ others)
-    (so_far : (r : Result Declared Fault) → JudgesAll now (all_left left) r → JudgesAll start (all_left all) r) where
-  pub group_declared : (next : Declared) → JudgesAll now (all_left group) (Ok next) → (r : Result Declared Fault) → JudgesAll next (all_left others) r → JudgesAll start (all_left all) r
-  group_declared next done r more = so_far r (rw (split, all_both group others) (judged_on now next (all_left group) (all_left others) r done more))
-
-  pub group_refused : (f : Fault) → JudgesAll now (all_left group) (Err f) → JudgesAll start (all_left all) (Err f)
-  group_refused f done = so_far (Err f) (rw (split, all_both group others) (judged_off now f (all_left group) (all_left others) done))
+  pub group_refused : (f : Fault) → JudgesAll d group (Err f) → JudgesAll d all (Err f)
+  group_refused f done = subst (λ l. JudgesAll d l (Err f)) split (judged_off d f group others done)
