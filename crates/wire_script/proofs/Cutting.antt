@@ -26,10 +26,6 @@ pub all_more : (cs : List Cursor) (c : Cursor) → all_left (cs ++ c ∷ []) ≡
 all_more [] c = append-nil (statements_left c)
 all_more (b ∷ cs) c = ap (λ l. statements_left b ++ l) (all_more cs c) ∙ sym (append_assoc (statements_left b) (all_left cs) (statements_left c))
 
-pub all_both : (cs ds : List Cursor) → all_left (cs ++ ds) ≡ all_left cs ++ all_left ds
-all_both [] ds = refl
-all_both (c ∷ cs) ds = ap (λ l. statements_left c ++ l) (all_both cs ds) ∙ sym (append_assoc (statements_left c) (all_left cs) (all_left ds))
-
 -- a piece is cut off what was left
 pub one_cut : (all : List Statement) (cs new : List Cursor) (old c left : Cursor) → all_left cs ++ statements_left old ≡ all → new ≡ cs ++ c ∷ []
     → statements_left old ≡ statements_left c ++ statements_left left → all_left new ++ statements_left left ≡ all

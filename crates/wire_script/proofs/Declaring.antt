@@ -1,15 +1,14 @@
 -- What lines declare that were parsed by themselves.
-use Rattle.std.proofs.Common.{◌≡◌, ◌∙◌, sym, ap, subst, refl, ℕ, List, [], ◌∷◌, ◌++◌, Vec, Result, Ok, Err, take-append-drop, take, drop, ◌+◌, ◌-◌, ◌≤◌, arith}
-use Rattle.std.proofs.Math.Seq.{drop-drop}
+use Rattle.std.proofs.Common.{◌≡◌, ◌∙◌, sym, ap, subst, refl, ℕ, List, [], ◌∷◌, ◌++◌, Vec, Result, Ok, Err, Option, Some, None, inl, inr}
 use Rattle.std.specs.declared.alloc.Global.{Global}
 use Rattle.wire_types.specs.declared.Fault.{Fault}
+use Rattle.wire_lines.specs.declared.line.Line.{Line}
 use Rattle.wire_script.specs.Statements.{Statement}
 use Rattle.wire_script.specs.Left.{statements_left}
 use Rattle.wire_script.specs.FirstPass.{Declared, Judges, JudgesAll}
 use Rattle.wire_script.specs.Pieces.{IsSaid, AreParsed, ArePieces, all_left}
 use Rattle.wire_script.specs.declared.lines.Cursor.{Cursor}
 use Rattle.wire_script.specs.declared.pieces.Parsed.{Parsed}
-use Rattle.wire_script.proofs.Cutting.{all_both}
 
 same_declared : (d e : Declared) → ◌≡◌ {A = Result Declared Fault} (Ok e) (Ok d) → d ≡ e
 same_declared d e h = cc
@@ -43,11 +42,21 @@ JudgesSaid d p r = (words : List (List ℕ)) → IsSaid words p.said → Judges 
 at_number : (d : Declared) (p : Parsed) (s : Statement) (r : Result Declared Fault) → JudgesSaid d p r → p.number ≡ s.0 → IsSaid s.1 p.said → Judges d s r
 at_number d p s r judged same said = subst (λ n. Judges d (n, s.1) r) same (judged s.1 said)
 
+-- a line that says nothing is never declared
+no_more : (d next : Declared) (s : Statement) (read : Option Line) → read ≡ None → IsSaid s.1 read → Judges d s (Ok next) → ⊥
+no_more d next s (Some line) silent is judged = absurd (cc)
+no_more d next s None silent is (inl (unsaid, refused)) = no_value next _ refused
+no_more d next s None silent is (inr (said, says, after)) = is said says
+
 module _ (start now : Declared) (lines : List Statement) where
   pub one_declared : (next : Declared) (p : Parsed) (left : List Parsed) → JudgesSaid now p (Ok next) → Goes start now lines (p ∷ left) → Goes start next lines left
   one_declared next p left judged ([], parsed, so_far) = absurd parsed
   one_declared next p left judged (s ∷ later, parsed, so_far) =
-      (later, parsed.1, λ r all. so_far r (Ok next, at_number now p s (Ok next) judged parsed.0.0 parsed.0.1, all))
+      let one = at_number now p s (Ok next) judged parsed.0.0 parsed.0.1 in
+      elim parsed.1 [
+        | inl last ↦ absurd (no_more now next s p.said last.0 parsed.0.1 one)
+        | inr more ↦ (later, more, λ r all. so_far r (Ok next, one, all))
+      ]
 
   pub one_refused : (f : Fault) (p : Parsed) (left : List Parsed) → JudgesSaid now p (Err f) → Goes start now lines (p ∷ left) → JudgesAll start lines (Err f)
   one_refused f p left judged ([], parsed, so_far) = absurd parsed
@@ -78,17 +87,10 @@ module _ (start now : Declared) (pieces : List Cursor) where
   rows_declared ([], parsed, so_far) = so_far (Ok now) refl
   rows_declared (c ∷ later, parsed, so_far) = absurd parsed
 
--- what is left from one place on is a group up to another place, and what is left from there on
-pub parted : {X : Type 0} (at end : ℕ) (xs : List X) → at ≤ end → drop at xs ≡ take (end - at) (drop at xs) ++ drop end xs
-parted at end xs le =
-    let e : at + (end - at) ≡ end = omega (arith, le) in
-    sym (take-append-drop (end - at) (drop at xs)) ∙ ap (λ l. take (end - at) (drop at xs) ++ l) (drop-drop (end - at) at xs ∙ ap (λ k. drop k xs) e)
+-- the statements of a group, and those behind it
+module _ (d : Declared) (group others all : List Statement) (split : group ++ others ≡ all) where
+  pub group_declared : (next : Declared) → JudgesAll d group (Ok next) → (r : Result Declared Fault) → JudgesAll next others r → JudgesAll d all r
+  group_declared next done r more = subst (λ l. JudgesAll d l r) split (judged_on d next group others r done more)
 
--- a group of pieces, and those behind it
-module _ (start now : Declared) (all left group others : List Cursor) (split : left ≡ group ++ others)
-    (so_far : (r : Result Declared Fault) → JudgesAll now (all_left left) r → JudgesAll start (all_left all) r) where
-  pub group_declared : (next : Declared) → JudgesAll now (all_left group) (Ok next) → (r : Result Declared Fault) → JudgesAll next (all_left others) r → JudgesAll start (all_left all) r
-  group_declared next done r more = so_far r (rw (split, all_both group others) (judged_on now next (all_left group) (all_left others) r done more))
-
-  pub group_refused : (f : Fault) → JudgesAll now (all_left group) (Err f) → JudgesAll start (all_left all) (Err f)
-  group_refused f done = so_far (Err f) (rw (split, all_both group others) (judged_off now f (all_left group) (all_left others) done))
+  pub group_refused : (f : Fault) → JudgesAll d group (Err f) → JudgesAll d all (Err f)
+  group_refused f done = subst (λ l. JudgesAll d l (Err f)) split (judged_off d f group others done)

@@ -31,13 +31,16 @@ fn is_proc(job: u32, rank: u32, process: &Started) -> bool
     process.job == job && process.rank == rank
 }
 
-/// How many processes stand before those of a job.
+/// How many processes stand before those of a job: none before those of the first, the only job of most plans.
 fn count_before(draft: &Draft, job: u32) -> usize
     requires declared { IsDeclared (declared_of draft.now) }
     ensures within { result ≤ length draft.now.processes.items }
     ensures place { (k : ℕ) (p : pass.Started) → slice_get (map started_of draft.now.processes.items) k ≡ Some p
         → p.job ≡ job → result + p.rank ≡ k }
 {
+    if job == 0 {
+        return 0;
+    }
     draft.processes.partition_point(|process| process.job < job)
 }
 

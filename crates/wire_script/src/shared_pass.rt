@@ -1,13 +1,12 @@
 //! The first pass over a large file: several threads read the lines of some pieces, which are then judged and
 //! declared in their order.
 
-ghost use Rattle.std.specs.Prelude.{◌≡◌, ◌≤◌, ◌⊎◌, List, Ok, Err, length, OnOk, IfOk, IfErr};
-ghost use Rattle.std.specs.List.{All};
+ghost use Rattle.std.specs.Prelude.{◌≡◌, ◌≤◌, ◌<◌, ◌⊎◌, List, Result, Ok, Err, length, OnOk, IfOk, IfErr};
 ghost use Rattle.wire_lines.specs.Text.{lines_of};
 ghost use Rattle.wire_script.specs.Limits as limit;
 ghost use Rattle.wire_script.specs.Statements.{Statement, statements};
 ghost use Rattle.wire_script.specs.Left.{statements_left};
-ghost use Rattle.wire_script.specs.FirstPass.{nothing, JudgesAll, FirstPass};
+ghost use Rattle.wire_script.specs.FirstPass.{Declared, nothing, JudgesAll, FirstPass};
 ghost use Rattle.wire_script.specs.Drafted.{declared_of};
 ghost use Rattle.wire_script.specs.Pieces.{HasRoom, AreParsed, ArePieces, all_left};
 ghost use Rattle.wire_script.specs.declared.lines.Cursor.{Cursor as Left};
@@ -20,10 +19,6 @@ use crate::pieces::{Parsed, cut_pieces, parse_pieces};
 use std::alloc::Global;
 use std::thread::Threads;
 use wire_types::{Fault, Version};
-
-/// How many pieces are read before their lines are declared: what these 4 MiB say takes some 20 MiB, and at most 150 MiB
-/// where each line has one byte.
-const PIECES_AT_ONCE: usize = 16;
 
 /// A file of fewer bytes is read by one thread.
 const SMALL_BYTES: usize = 1_048_576;
@@ -66,25 +61,45 @@ fn declare_rows<'a>(
     Ok(())
 }
 
-/// Declares what the lines of all pieces say. Some pieces at a time are read by several threads, and then judged.
-fn declare_pieces<'a>(
+/// Declares what the lines of the next pieces say: several threads read them, and then they are judged.
+fn declare_next<'a>(
     rt: &(impl Threads + Sync),
     draft: &mut Draft<'a>,
     alloc: Global,
-    pieces: &[Cursor<'a>],
+    left: &mut Cursor<'a>,
 ) -> Result<(), Fault>
-    requires { All HasRoom pieces.now }
-    ensures ok { OnOk result (JudgesAll (declared_of draft.old) (all_left pieces.now) (Ok (declared_of draft.new))) }
-    ensures err { IfErr result (λ e. (e ≡ Fault.Memory) ⊎ JudgesAll (declared_of draft.old) (all_left pieces.now) (Err e)) }
+    requires some { 0 < length left.old.rest.now }
+    requires room { HasRoom left.old }
+    ensures ok { OnOk result ((r : Result Declared Fault) → JudgesAll (declared_of draft.new) (statements_left left.new) r
+        → JudgesAll (declared_of draft.old) (statements_left left.old) r) }
+    ensures err { IfErr result (λ e. (e ≡ Fault.Memory) ⊎ JudgesAll (declared_of draft.old) (statements_left left.old) (Err e)) }
+    ensures room { OnOk result (HasRoom left.new) }
+    ensures shorter { OnOk result (length left.new.rest.now < length left.old.rest.now) }
 {
-    let mut at = 0;
-    'groups: while at < pieces.len() {
-        let end = pieces.len().min(at + PIECES_AT_ONCE);
-        let rows = parse_pieces(rt, alloc, &pieces[at..end])?;
-        if let Err(fault) = declare_rows(draft, alloc, rows) {
+    let pieces = cut_pieces(alloc, left)?;
+    let rows = parse_pieces(rt, alloc, &pieces)?;
+    if let Err(fault) = declare_rows(draft, alloc, rows) {
+        return Err(fault);
+    }
+    Ok(())
+}
+
+/// Declares what all lines that are left say.
+fn declare_left<'a>(
+    rt: &(impl Threads + Sync),
+    draft: &mut Draft<'a>,
+    alloc: Global,
+    cursor: Cursor<'a>,
+) -> Result<(), Fault>
+    requires { HasRoom cursor }
+    ensures ok { OnOk result (JudgesAll (declared_of draft.old) (statements_left cursor.entry) (Ok (declared_of draft.new))) }
+    ensures err { IfErr result (λ e. (e ≡ Fault.Memory) ⊎ JudgesAll (declared_of draft.old) (statements_left cursor.entry) (Err e)) }
+{
+    let mut left = cursor;
+    'groups: while !left.rest.is_empty() {
+        if let Err(fault) = declare_next(rt, draft, alloc, &mut left) {
             return Err(fault);
         }
-        at = end;
     }
     Ok(())
 }
@@ -101,9 +116,8 @@ fn declare_shared<'a>(
     ensures ok { IfOk result (λ d. JudgesAll (nothing size version) (statements_left cursor.entry) (Ok (declared_of d))) }
     ensures err { IfErr result (λ e. (e ≡ Fault.Memory) ⊎ JudgesAll (nothing size version) (statements_left cursor.entry) (Err e)) }
 {
-    let pieces = cut_pieces(alloc, cursor)?;
     let mut draft = new_draft(alloc, size, version);
-    match declare_pieces(rt, &mut draft, alloc, &pieces) {
+    match declare_left(rt, &mut draft, alloc, cursor) {
         Ok(()) => Ok(draft),
         Err(fault) => {
             drop(draft);

@@ -14,3 +14,8 @@ returns-clause-place c =
     λ k p at same. place_is (declared_of c.args.draft.now) bs c.args.job c.partition_point.result k p c.requires.declared refl at same
     (λ i b lt. ltb-true _ _ (point.0 i b (omega arith) lt))
     (λ i b le lt. ltb-false _ _ (point.1 i b le lt))
+
+pub returns-then-job-eq0-clause-place : goal.returns-then-job-eq0-clause-place
+returns-then-job-eq0-clause-place c =
+    let bs = c.args.draft.now.processes.items in
+    λ k p at same. place_is (declared_of c.args.draft.now) bs c.args.job 0 k p c.requires.declared refl at same (λ i b lt. absurd (omega arith)) (λ i b le lt. omega (arith, c.if-job-eq0.true))
