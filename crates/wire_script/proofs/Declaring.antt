@@ -1,7 +1,8 @@
 -- What lines declare that were parsed by themselves.
-use Rattle.std.proofs.Common.{◌≡◌, ◌∙◌, sym, ap, subst, refl, ℕ, List, [], ◌∷◌, ◌++◌, Vec, Result, Ok, Err}
+use Rattle.std.proofs.Common.{◌≡◌, sym, subst, refl, ℕ, List, [], ◌∷◌, ◌++◌, Vec, Result, Ok, Err, Option, Some, None, inl, inr}
 use Rattle.std.specs.declared.alloc.Global.{Global}
 use Rattle.wire_types.specs.declared.Fault.{Fault}
+use Rattle.wire_lines.specs.declared.line.Line.{Line}
 use Rattle.wire_script.specs.Statements.{Statement}
 use Rattle.wire_script.specs.Left.{statements_left}
 use Rattle.wire_script.specs.FirstPass.{Declared, Judges, JudgesAll}
@@ -41,11 +42,21 @@ JudgesSaid d p r = (words : List (List ℕ)) → IsSaid words p.said → Judges 
 at_number : (d : Declared) (p : Parsed) (s : Statement) (r : Result Declared Fault) → JudgesSaid d p r → p.number ≡ s.0 → IsSaid s.1 p.said → Judges d s r
 at_number d p s r judged same said = subst (λ n. Judges d (n, s.1) r) same (judged s.1 said)
 
+-- a line that says nothing is never declared
+no_more : (d next : Declared) (s : Statement) (read : Option Line) → read ≡ None → IsSaid s.1 read → Judges d s (Ok next) → ⊥
+no_more d next s (Some line) silent is judged = absurd (cc)
+no_more d next s None silent is (inl (unsaid, refused)) = no_value next _ refused
+no_more d next s None silent is (inr (said, says, after)) = is said says
+
 module _ (start now : Declared) (lines : List Statement) where
   pub one_declared : (next : Declared) (p : Parsed) (left : List Parsed) → JudgesSaid now p (Ok next) → Goes start now lines (p ∷ left) → Goes start next lines left
   one_declared next p left judged ([], parsed, so_far) = absurd parsed
   one_declared next p left judged (s ∷ later, parsed, so_far) =
-      (later, parsed.1, λ r all. so_far r (Ok next, at_number now p s (Ok next) judged parsed.0.0 parsed.0.1, all))
+      let one = at_number now p s (Ok next) judged parsed.0.0 parsed.0.1 in
+      elim parsed.1 [
+        | inl last ↦ absurd (no_more now next s p.said last.0 parsed.0.1 one)
+        | inr more ↦ (later, more, λ r all. so_far r (Ok next, one, all))
+      ]
 
   pub one_refused : (f : Fault) (p : Parsed) (left : List Parsed) → JudgesSaid now p (Err f) → Goes start now lines (p ∷ left) → JudgesAll start lines (Err f)
   one_refused f p left judged ([], parsed, so_far) = absurd parsed

@@ -1,5 +1,6 @@
 -- What the lines of a piece say, line by line.
-use Rattle.std.proofs.Common.{◌≡◌, subst, ℕ, List, Vec, Result, Ok, Err, map, IfOk, IfErr, OnOk, ◌⊎◌, inl, inr, MatchResult, [], ◌∷◌, ◌++◌, Option, Some, None, IfSome, IfNone, append_assoc, append-nil}
+use Rattle.std.proofs.Common.{◌≡◌, ◌∙◌, ap, refl, Bool, true, true≢false, subst, ℕ, List, Vec, Result, Ok, Err, map, IfOk, IfErr, OnOk, ◌⊎◌, inl, inr, MatchResult, [], ◌∷◌, ◌++◌, Option, Some, None, IfSome, IfNone, append_assoc, append-nil}
+use Rattle.std.specs.Prelude.{is_some, not}
 use Rattle.std.specs.List.{AllZip, Contains}
 use Rattle.std.specs.declared.alloc.Global.{Global}
 use Rattle.std.specs.declared.alloc.AllocError.{AllocError}
@@ -17,6 +18,10 @@ use Rattle.wire_script.specs.declared.pieces.Parsed.{Parsed}
 pub is_said : (words : List (List ℕ)) (read : Option Line) → IfSome read (λ l. Says words (said_by l)) → IfNone read ((said : Said) → Says words said → ⊥) → IsSaid words read
 is_said words (Some line) found none = found
 is_said words None found none = none
+
+pub says_nothing : (read : Option Line) (b : Bool) → is_some read ≡ not b → b ≡ true → read ≡ None
+says_nothing None b e t = refl
+says_nothing (Some line) b e t = absurd (true≢false (e ∙ ap not t))
 
 -- what holds of all words that say this holds of those that were read
 pub said_ok : (r : Result Unit Fault) (words : List (List ℕ)) (read : Option Line) (Then : List (List ℕ) → Type 0)
@@ -36,7 +41,11 @@ module _ (all now : List Statement) (done : List Parsed) (so_far : (more : List 
       → (more : List Parsed) → AreParsed lines more → AreParsed all (new ++ more)
   one_more s lines p new is parsed added more rest =
       let joined : new ++ more ≡ done ++ (p ∷ more) = rw added (append_assoc done (p ∷ []) more) in
-      rw joined (so_far (p ∷ more) (rw is (parsed, rest)))
+      rw joined (so_far (p ∷ more) (rw is (parsed, inr rest)))
+
+  -- no more is parsed behind a line that says nothing
+  pub last_parsed : (s : Statement) (lines : List Statement) (p : Parsed) (new : List Parsed) → now ≡ s ∷ lines → IsParsed s p → p.said ≡ None → new ≡ done ++ p ∷ [] → AreParsed all new
+  last_parsed s lines p new is parsed silent added = rw added (so_far (p ∷ []) (rw is (parsed, inl (silent, refl))))
 
   -- no line is left
   pub all_parsed : now ≡ [] → AreParsed all done

@@ -1,5 +1,5 @@
 -- A file in pieces, and what its lines say by themselves: for the contracts of private functions.
-use Rattle.std.specs.Prelude.{◌≡◌, ◌+◌, ◌<◌, ◌^◌, ℕ, List, [], ◌∷◌, ◌++◌, length, Option, Some, None, Vec}
+use Rattle.std.specs.Prelude.{◌≡◌, ◌⊎◌, ◌+◌, ◌<◌, ◌^◌, ℕ, List, [], ◌∷◌, ◌++◌, length, Option, Some, None, Vec}
 use Rattle.std.specs.List.{AllZip}
 use Rattle.std.specs.declared.alloc.Global.{Global}
 use Rattle.wire_lines.specs.Said.{Said, Says}
@@ -23,8 +23,12 @@ IsSaid words None = (said : Said) → Says words said → ⊥
 abbrev pub IsParsed : Statement → Parsed → Type 0
 IsParsed s p = (p.number ≡ s.0) × IsSaid s.1 p.said
 
+-- statements in their order, and what they say: nothing is parsed behind a line that says nothing
 abbrev pub AreParsed : List Statement → List Parsed → Type 0
-AreParsed lines parsed = AllZip IsParsed lines parsed
+AreParsed [] [] = Unit {0}
+AreParsed [] (p ∷ ps) = ⊥
+AreParsed (s ∷ ss) [] = ⊥
+AreParsed (s ∷ ss) (p ∷ ps) = IsParsed s p × (((p.said ≡ None) × (ps ≡ [])) ⊎ AreParsed ss ps)
 
 -- what pieces state, one after the other
 abbrev pub all_left : List Cursor → List Statement

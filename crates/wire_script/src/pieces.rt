@@ -24,15 +24,12 @@ pub struct Parsed<'a> {
     pub said: Option<Line<'a>>,
 }
 
-/// How many pieces are cut off at once: what these 4 MiB say takes some 20 MiB, and at most 150 MiB where each line has
-/// one byte.
+/// How many pieces are cut off at once: what these 4 MiB say takes some 20 MiB, and at most 100 MiB where each line is
+/// as short as a line of a plan can be.
 const PIECES_AT_ONCE: usize = 16;
 
 /// Cuts the next pieces off what is left, and gives them in their order.
-pub fn cut_pieces<'a>(
-    alloc: Global,
-    left: &mut Cursor<'a>,
-) -> Result<Vec<Cursor<'a>>, AllocError>
+pub fn cut_pieces<'a>(alloc: Global, left: &mut Cursor<'a>) -> Result<Vec<Cursor<'a>>, AllocError>
     requires some { 0 < length left.old.rest.now }
     requires room { HasRoom left.old }
     ensures left { IfOk result (λ pieces. all_left pieces.items ++ statements_left left.new ≡ statements_left left.old) }
@@ -58,7 +55,7 @@ fn lines_at_most(bytes: &[u8]) -> usize
     count_lines(bytes).min(bytes.len() / 6 + 1)
 }
 
-/// What the lines of a piece say.
+/// What the lines of a piece say, up to the first that is no line of a plan.
 fn parse_piece<'a>(alloc: Global, piece: &Cursor<'a>) -> Result<Vec<Parsed<'a>>, AllocError>
     requires { HasRoom piece.now }
     ensures { IfOk result (λ parsed. AreParsed (statements_left piece.now) parsed.items) }
@@ -71,7 +68,11 @@ fn parse_piece<'a>(alloc: Global, piece: &Cursor<'a>) -> Result<Vec<Parsed<'a>>,
     let mut parsed = Vec::with_capacity(alloc, lines_at_most(piece.rest))?;
     'statements: while let Some(number) = left.next_words(&mut words)? {
         let said = read_line(alloc, &words)?;
+        let is_wrong = said.is_none();
         parsed.push(Parsed { number, said })?;
+        if is_wrong {
+            return Ok(parsed);
+        }
     }
     Ok(parsed)
 }
