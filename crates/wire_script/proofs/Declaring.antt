@@ -1,5 +1,5 @@
 -- What lines declare that were parsed by themselves.
-use Rattle.std.proofs.Common.{◌≡◌, ◌∙◌, sym, ap, subst, refl, ℕ, List, [], ◌∷◌, ◌++◌, Vec, Result, Ok, Err, Option, Some, None, inl, inr}
+use Rattle.std.proofs.Common.{◌≡◌, sym, subst, refl, ℕ, List, [], ◌∷◌, ◌++◌, Vec, Result, Ok, Err, Option, Some, None, inl, inr}
 use Rattle.std.specs.declared.alloc.Global.{Global}
 use Rattle.wire_types.specs.declared.Fault.{Fault}
 use Rattle.wire_lines.specs.declared.line.Line.{Line}
