@@ -1,21 +1,21 @@
 -- The clocks that trees of rows and notes stand for.
-use Rattle.std.proofs.Common.{◌≡◌, ◌∙◌, ◌^◌, ◌/◌, ◌%◌, ◌*◌, ◌+◌, ◌-◌, ◌<◌, ◌≤◌, ◌==◌, ◌++◌, ◌∷◌, [], ℕ, zero, suc, List, Some, None, length, map, max, slice_index, refl, sym, ap, subst, arith, inl, inr}
-use Rattle.std.specs.Prelude.{Bool, true, false, ◌&&◌, nat_lt, slice_get, if◌then◌else◌, Result, IfOk}
+use Rattle.std.proofs.Common.{◌≡◌, ◌∙◌, ◌^◌, ◌/◌, ◌%◌, ◌*◌, ◌-◌, ◌<◌, ◌≤◌, ℕ, List, Some, None, length, map, max, slice_index, refl, sym, ap, subst, arith, inl, inr}
+use Rattle.std.specs.Prelude.{Bool, true, false, nat_lt, slice_get, if◌then◌else◌, Result, IfOk}
 use Rattle.std.specs.declared.alloc.AllocError.{AllocError}
 use Rattle.std.specs.List.{range_with_len}
 use Rattle.std.proofs.Math.Nat.{one-le-pow}
-use Rattle.std.proofs.lemmas.Bool.{cases_lt, cond_both, ltb-true, lt-ltb, true≢false, and_parts, and_from}
+use Rattle.std.proofs.lemmas.Bool.{cases_lt, cond_both, ltb-true, true≢false}
 use Rattle.std.proofs.lemmas.List.FromFn.{get_or-map-range_with_len, length-map-range_with_len}
 use Rattle.std.proofs.lemmas.Option.{slice_get-get_or, slice_get_past}
 use Rattle.std.proofs.lemmas.Result.{IfOk-weaker}
 use Rattle.wire_clocks.specs.declared.notes.Note.{Note}
 use Rattle.wire_clocks.specs.Rows as rows
 use Rattle.wire_clocks.specs.Rows.{entry, numbers_in, tree_says, IsTree, IsZero}
-use Rattle.wire_clocks.specs.Notes.{note_at, clock_number, clock_stands, is_top, IsTopOf, IsNoted, KeepsNotes}
+use Rattle.wire_clocks.specs.Notes.{note_at, clock_number, clock_stands, is_top, IsTopOf, KeepsNotes}
 use Rattle.wire_clocks.specs.ClockTrees.{Clocks, numbers_of, is_clock, says, IsRoot, Holds, HasZeros, Keeps}
 use Rattle.wire_clocks.specs.Trees.{clock_at, clocks_of, AreTrees}
-use Rattle.wire_clocks.proofs.Growing.{says_kept, tree_kept, says_zero, says_down, tree_of_zeros, tree_there, zero_kept, keeps_itself}
-use Rattle.wire_clocks.proofs.Noting.{none_at, none_past, top_tree, top_even, tree_top, stands_kept, number_kept, notes_stay, tree_stands, tree_number}
+use Rattle.wire_clocks.proofs.Growing.{says_zero, says_down, tree_of_zeros, tree_there, zero_kept}
+use Rattle.wire_clocks.proofs.Noting.{none_at, none_past, top_tree, tree_top, stands_kept, number_kept, notes_stay, tree_stands, tree_number}
 
 -- what stands at a root, and past the last one
 stands_at : (rows : List (List ℕ)) (notes : List Note) (height n : ℕ) → n < 2 * max (length rows) (length notes) →

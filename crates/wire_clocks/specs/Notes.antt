@@ -1,5 +1,5 @@
 -- What notes stand for: each is a clock that says a little more than the clock before it.
-use Rattle.std.specs.Prelude.{◌≡◌, ◌<◌, ◌≤◌, ◌-◌, ◌/◌, ◌%◌, ◌^◌, ◌==◌, ◌&&◌, ℕ, zero, suc, Bool, true, List, Option, Some, None, nat_lt, max, length, slice_get, slice_index, if◌then◌else◌}
+use Rattle.std.specs.Prelude.{◌≡◌, ◌<◌, ◌≤◌, ◌-◌, ◌/◌, ◌%◌, ◌^◌, ◌==◌, ◌&&◌, ℕ, zero, suc, Bool, List, Option, Some, None, nat_lt, max, length, slice_get, slice_index, if◌then◌else◌}
 use Rattle.wire_clocks.specs.declared.notes.Note.{Note}
 use Rattle.wire_clocks.specs.declared.notes.Raised.{Raised}
 use Rattle.wire_clocks.specs.Rows.{tree_says, IsTree, is_tree}

@@ -5,8 +5,8 @@
 ghost use Rattle.std.specs.Prelude.{◌≡◌, ◌<◌, ◌≤◌, ◌+◌, ◌-◌, ◌*◌, ◌/◌, ◌%◌, ◌^◌, ◌==◌, ◌++◌, ◌∷◌, [], ℕ, suc, true};
 ghost use Rattle.std.specs.Prelude.{List, IsTrue, IfOk, length, slice_index, max, if◌then◌else◌};
 ghost use Rattle.wire_clocks.specs.Rows.{tree_says, IsTree, IsZero, Keeps};
-ghost use Rattle.wire_clocks.specs.Notes.{note_at, next_note, raised_at, clock_number, clock_stands, IsTopOf, IsNoted, KeepsNotes};
-ghost use Rattle.wire_clocks.specs.Notes.{IsRaised, raised_says};
+ghost use Rattle.wire_clocks.specs.Notes.{note_at, next_note, raised_at, clock_number, clock_stands, IsTopOf};
+ghost use Rattle.wire_clocks.specs.Notes.{IsNoted, KeepsNotes, IsRaised, raised_says};
 
 use crate::rows::{number, raise_block};
 use std::alloc::AllocError;

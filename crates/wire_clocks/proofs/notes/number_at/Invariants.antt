@@ -1,4 +1,4 @@
-use Rattle.std.proofs.Common.{◌≡◌, ◌≤◌, max}
+use Rattle.std.proofs.Common.{◌≡◌, max}
 use Rattle.wire_clocks.specs.Notes.{clock_number}
 use Rattle.wire_clocks.proofs.notes.number_at.Given as goal
 

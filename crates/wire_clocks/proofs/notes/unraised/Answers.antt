@@ -1,4 +1,4 @@
-use Rattle.std.proofs.Common.{◌-◌, ◌/◌, ◌%◌, ◌==◌, ◌^◌, refl, arith}
+use Rattle.std.proofs.Common.{◌-◌, ◌/◌, ◌%◌, ◌==◌, refl, arith}
 use Rattle.std.proofs.Math.Nat.{one-le-pow}
 use Rattle.wire_clocks.specs.Rows.{tree_says}
 use Rattle.wire_clocks.proofs.Growing.{zeros}
