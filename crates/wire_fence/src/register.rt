@@ -28,11 +28,13 @@ pub(crate) struct FenceDraft {
     pub collects: bool,
 }
 
-// The rows by number, and the number of each by set and nth.
+// The rows by number, and the number of each by set and nth. Most processes call the same fences in the same order, so
+// the one after the last that was found is looked at first.
 #[derive(Drop)]
 pub(crate) struct Register {
     pub rows: Vec<FenceDraft>,
     pub keys: IndexSet<(u32, usize)>,
+    next: usize,
 }
 
 impl FenceDraft {
@@ -104,11 +106,41 @@ impl Register {
         Register {
             rows: Vec::new(alloc),
             keys: IndexSet::new(alloc),
+            next: 0,
         }
     }
 
-    /// Counts a call of the nth fence over a set of so many members, and says the number of the fence.
-    pub(crate) fn add(
+    /// Whether the row of this number is that of the nth fence over a set.
+    fn is_row(&self, number: usize, set: u32, nth: usize) -> bool
+        ensures { OnTrue result (HasRow self.now.rows.items number set nth) }
+    {
+        let Some(row) = self.rows.get(number) else {
+            return false;
+        };
+        if row.set != set {
+            return false;
+        }
+        if row.nth != nth {
+            return false;
+        }
+        true
+    }
+
+    /// Counts a call of the fence of a row.
+    fn call_row(&mut self, number: usize, collect: bool)
+        requires keyed { IsKeyed self.old }
+        requires there { number < length self.old.rows.items }
+        ensures keyed { IsKeyed self.new }
+        ensures called { (set nth members : ℕ) → HasRow self.old.rows.items number set nth →
+            IsCalled self.old.rows.items set nth members collect number self.new.rows.items }
+    {
+        let row = self.rows[number];
+        self.rows[number] = row.with_call(collect);
+    }
+
+    /// Counts a call of the nth fence over a set of so many members, and says the number of the fence, which is
+    /// found by its key.
+    fn add_by_key(
         &mut self,
         set: u32,
         nth: usize,
@@ -132,6 +164,29 @@ impl Register {
             let row = self.rows[number];
             self.rows[number] = row.with_call(collect);
         }
+        Ok(number)
+    }
+
+    /// Counts a call of the nth fence over a set of so many members, and says the number of the fence.
+    fn add(
+        &mut self,
+        set: u32,
+        nth: usize,
+        members: usize,
+        collect: bool,
+    ) -> Result<usize, AllocError>
+        requires { IsKeyed self.old }
+        ensures keyed { OnOk result (IsKeyed self.new) }
+        ensures called { IfOk result (λ n. IsCalled self.old.rows.items set nth members collect n self.new.rows.items) }
+    {
+        let next = self.next;
+        if self.is_row(next, set, nth) {
+            self.call_row(next, collect);
+            self.next = next.saturating_add(1);
+            return Ok(next);
+        }
+        let number = self.add_by_key(set, nth, members, collect)?;
+        self.next = number.saturating_add(1);
         Ok(number)
     }
 
@@ -183,6 +238,7 @@ impl Register {
             AreRead s (update read p (length calls.now)) self.new.rows.items) }
     {
         let mut numbers = Vec::with_capacity(alloc, calls.len())?;
+        self.next = 0;
         for call in calls {
             let number = self.read(counts, sets, *call)?;
             numbers.push(number)?;
