@@ -9,3 +9,4 @@ pub mod Same
 pub mod Leaving
 pub mod Joining
 pub mod Back
+pub mod Followers

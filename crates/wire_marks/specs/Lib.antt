@@ -3,3 +3,4 @@ pub mod Clocks
 pub mod Chain
 pub mod Marking
 pub mod Meeting
+pub mod Following

@@ -11,6 +11,7 @@ ghost use Rattle.wire_clocks.specs.Rising.{IsRising, rising_says};
 ghost use Rattle.wire_marks.specs.Clocks.{marked_count, root_at, base_at, own_of, clock_of};
 ghost use Rattle.wire_marks.specs.Marking.{AreBased, IsGrown, Adds, Notes, root_before, Counts, IsRaised};
 ghost use Rattle.wire_marks.specs.Meeting.{AreMarked, IsJoin};
+ghost use Rattle.wire_marks.specs.Following.{last_root};
 
 use crate::updates::Updates;
 use std::alloc::{AllocError, Global};
@@ -110,6 +111,22 @@ impl Clocks {
             Some(event) => self.root(event).unwrap_or(0),
             None => 0,
         }
+    }
+
+    /// The root of the base of the last marked event of a process, that of zeros where none is marked.
+    pub(crate) fn last_root(&self, proc: Proc) -> u32
+        requires { (p : ℕ) → marked_count self.now p < 2 ^ 32 }
+        ensures { result ≡ last_root self.now proc.number }
+    {
+        let count = self.marked(proc);
+        if count == 0 {
+            return 0;
+        }
+        let event = Event {
+            proc,
+            at: (count - 1) as u32,
+        };
+        self.root_before(Some(event))
     }
 
     /// Whether the clock of the event before, if there is one, counts an event.
@@ -221,6 +238,16 @@ impl Clocks {
         Ok(raised)
     }
 
+    /// Adds the root of the base of the next event of a process, which changes no name.
+    pub(crate) fn push(&mut self, proc: Proc, root: u32) -> Result<(), AllocError>
+        requires { proc.number < length self.old.roots.items }
+        ensures adds { OnOk result (Adds self.old self.new proc.number root) }
+        ensures updates { self.new.updates ≡ self.old.updates }
+    {
+        self.roots[proc.index()].push(root)?;
+        Ok(())
+    }
+
     /// Marks the next event of a process, with the base of this root.
     pub(crate) fn mark(
         &mut self,
@@ -235,7 +262,6 @@ impl Clocks {
         ensures notes { OnOk result (Notes (plan_of plan.now) (event_of event) self.old self.new) }
     {
         self.updates.note(alloc, plan, event)?;
-        self.roots[event.proc.index()].push(root)?;
-        Ok(())
+        self.push(event.proc, root)
     }
 }

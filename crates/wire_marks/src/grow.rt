@@ -9,6 +9,7 @@ ghost use Rattle.wire_marks.specs.Marking.{AreClocks, IsNextBase};
 ghost use Rattle.wire_marks.specs.Meeting.{plan_in, left_in, IsStuckIn, IsGrowing};
 
 use crate::clocks::Clocks;
+use crate::following::mark_followers;
 use crate::joins::{Growth, find_ended_fence, meet};
 use crate::updates::Updates;
 use crate::way::{Way, waits_for};
@@ -111,8 +112,9 @@ fn mark_run(alloc: Global, growth: &mut Growth<'_>, proc: Proc) -> Result<bool, 
     ensures same { IfOk result (λ b. OnFalse b (growth.new.clocks.roots.items ≡ growth.old.clocks.roots.items)) }
     ensures stuck { OnOk result (IsStuckIn growth.new proc.number) }
 {
-    let mut moved = false;
+    let mut moved = mark_followers(growth, proc)?;
     'events: while mark_next(alloc, growth, proc)? {
+        mark_followers(growth, proc)?;
         moved = true;
     }
     Ok(moved)

@@ -2,6 +2,7 @@
 #![tactic(auto)]
 
 mod clocks;
+mod following;
 mod grow;
 mod held;
 mod joins;

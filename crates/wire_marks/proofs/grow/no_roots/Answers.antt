@@ -1,4 +1,4 @@
-use Rattle.std.proofs.Common.{◌∙◌, sym, ap, length, arith}
+use Rattle.std.proofs.Common.{◌∙◌, ap, length, arith}
 use Rattle.std.proofs.lemmas.List.{length_push}
 use Rattle.wire_marks.specs.Clocks.{items_at}
 use Rattle.wire_marks.proofs.Lists.{none_more}

@@ -1,5 +1,4 @@
 use Rattle.std.proofs.Common.{◌∙◌, ap, refl, sym, inl}
-use Rattle.std.specs.Prelude.{option_map}
 use Rattle.wire_runs.specs.Plan.{event_of}
 use Rattle.wire_runs.specs.Step.{is_publisher}
 use Rattle.wire_marks.proofs.Holding.{added_swept, added_cleared}

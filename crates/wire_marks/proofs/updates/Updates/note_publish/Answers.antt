@@ -1,7 +1,7 @@
-use Rattle.std.proofs.Common.{◌∙◌, ap, refl, sym, subst}
+use Rattle.std.proofs.Common.{◌∙◌, ap, refl, subst}
 use Rattle.std.specs.Prelude.{OnOk}
 use Rattle.wire_runs.specs.Plan.{event_of}
-use Rattle.wire_marks.specs.Updates.{updates_at, standing_in, after_publish, AreHeld, IsAppended, names_at}
+use Rattle.wire_marks.specs.Updates.{updates_at, standing_in, after_publish, IsAppended, names_at}
 use Rattle.wire_marks.proofs.Holding.{held_same, held_more, publish_kept, appended, among_last}
 use Rattle.wire_marks.proofs.updates.Updates.note_publish.Goals as goal
 

@@ -1,5 +1,4 @@
-use Rattle.std.proofs.Common.{◌∙◌, ap, sym, subst, ℕ}
-use Rattle.std.specs.Prelude.{slice_get}
+use Rattle.std.proofs.Common.{subst, ℕ}
 use Rattle.wire_runs.specs.Plan.{event_of}
 use Rattle.wire_marks.specs.Updates.{updates_at, IsSwept}
 use Rattle.wire_marks.proofs.Holding.{swept_held, held_cleared, all_cleared}

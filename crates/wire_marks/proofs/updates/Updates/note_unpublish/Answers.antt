@@ -1,4 +1,4 @@
-use Rattle.std.proofs.Common.{◌∙◌, ap, refl, sym, subst}
+use Rattle.std.proofs.Common.{◌∙◌, ap, refl, subst}
 use Rattle.std.specs.Prelude.{OnOk}
 use Rattle.wire_runs.specs.Plan.{event_of}
 use Rattle.wire_marks.specs.Updates.{updates_at, standing_in, after_unpublish, IsAppended}

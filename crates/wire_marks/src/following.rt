@@ -1,0 +1,80 @@
+//! Runs of events that wait for nothing but the event before them: each has the base of that event.
+
+ghost use Rattle.std.specs.Prelude.{◌≡◌, ◌<◌, ◌≤◌, ℕ, List, Some, IfOk, OnOk};
+ghost use Rattle.std.specs.Bool.{OnTrue, OnFalse};
+ghost use Rattle.wire_plan.specs.Kinds.{kind_of};
+ghost use Rattle.wire_marks.specs.Meeting.{left_in, IsGrowing};
+ghost use Rattle.wire_marks.specs.Following.{AreKindsOf, last_root};
+ghost use Rattle.wire_marks.specs.Following as spec;
+
+use crate::joins::Growth;
+use std::alloc::AllocError;
+use wire_plan::Kind;
+use wire_types::Proc;
+
+/// Whether an event waits for nothing but the event before it, is never ruled out, and changes no name.
+fn only_follows(kind: &Kind) -> bool
+    ensures { (sets : List (List ℕ)) → result ≡ spec.only_follows (Some (kind_of sets kind.now)) }
+{
+    match kind {
+        Kind::Put { .. } => true,
+        Kind::Commit => true,
+        Kind::Arrive { .. } => true,
+        Kind::Leave { .. } => false,
+        Kind::Get { .. } => false,
+        Kind::GetNow { .. } => true,
+        Kind::Publish { .. } => false,
+        Kind::Lookup { .. } => true,
+        Kind::LookupWait { .. } => false,
+        Kind::Unpublish { .. } => false,
+        Kind::UnpublishAll => false,
+        Kind::Fixed(_) => true,
+    }
+}
+
+/// Marks the next event of a process with the root of its last event, where it only follows that one. Whether it
+/// does.
+fn mark_follower(
+    growth: &mut Growth<'_>,
+    kinds: &[Kind],
+    proc: Proc,
+    root: u32,
+) -> Result<bool, AllocError>
+    requires growing { IsGrowing growth.old }
+    requires kinds { AreKindsOf growth.old.plan.now proc.number kinds.now }
+    requires root { root ≡ last_root growth.old.clocks proc.number }
+    ensures growing { OnOk result (IsGrowing growth.new) }
+    ensures plan { growth.new.plan.now ≡ growth.old.plan.now }
+    ensures falls { IfOk result (λ b. OnTrue b (left_in growth.new < left_in growth.old)) }
+    ensures same { IfOk result (λ b. OnFalse b (growth.new.clocks.roots.items ≡ growth.old.clocks.roots.items)) }
+    ensures root { OnOk result (root ≡ last_root growth.new.clocks proc.number) }
+{
+    let at = growth.clocks.marked(proc);
+    let Some(kind) = kinds.get(at) else {
+        return Ok(false);
+    };
+    if !only_follows(kind) {
+        return Ok(false);
+    }
+    growth.clocks.push(proc, root)?;
+    Ok(true)
+}
+
+/// Marks the next events of a process as long as each only follows the one before it. Whether any did.
+pub(crate) fn mark_followers(growth: &mut Growth<'_>, proc: Proc) -> Result<bool, AllocError>
+    requires { IsGrowing growth.old }
+    ensures growing { OnOk result (IsGrowing growth.new) }
+    ensures plan { growth.new.plan.now ≡ growth.old.plan.now }
+    ensures not_more { OnOk result (left_in growth.new ≤ left_in growth.old) }
+    ensures falls { IfOk result (λ b. OnTrue b (left_in growth.new < left_in growth.old)) }
+    ensures same { IfOk result (λ b. OnFalse b (growth.new.clocks.roots.items ≡ growth.old.clocks.roots.items)) }
+{
+    let plan = growth.plan;
+    let kinds = plan.events(proc);
+    let root = growth.clocks.last_root(proc);
+    let mut moved = false;
+    'events: while mark_follower(growth, kinds, proc, root)? {
+        moved = true;
+    }
+    Ok(moved)
+}
