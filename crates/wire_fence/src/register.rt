@@ -259,7 +259,8 @@ impl Register {
         requires first { self.old.rows.items ≡ [] }
         requires counted { IsCounted processes.now }
         requires within { (p c set : ℕ) (collect : _) → call_at processes.now p c ≡ Some (TheFence set collect) → set < length sets.now }
-        ensures numbers { IfOk result (λ numbers. AreAllNumbers self.new.rows.items processes.now (map (λ v. map number_kept v.items) numbers.items) (length processes.now)) }
+        ensures numbers { IfOk result (λ numbers. AreAllNumbers self.new.rows.items processes.now (map (λ v. map number_kept v.items) numbers.items)
+            (length processes.now)) }
         ensures read { OnOk result ((s : Scripts) → IsSound s → map (λ v. numbers_of v.items) sets.now ≡ s.sets → processes.now ≡ s.processes
             → AreRead s (read_to s (length processes.now)) self.new.rows.items) }
     {
