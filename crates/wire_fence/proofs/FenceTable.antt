@@ -3,7 +3,7 @@ use Rattle.std.proofs.Common.{◌≡◌, ◌∙◌, ℕ, zero, suc, ◌<◌, Lis
 use Rattle.std.proofs.Common.{refl, sym, ap, subst, inl, inr, arith}
 use Rattle.std.specs.List.{list_all}
 use Rattle.std.proofs.lemmas.Bool.{cases_lt, lt-ltb, le-ltb, ltb-true, and_parts}
-use Rattle.std.proofs.lemmas.Option.{none-some, same_Some, slice_get-map, slice_get-get_or, slice_get_within, slice_get_past}
+use Rattle.std.proofs.lemmas.Option.{none-some, same_Some, slice_get-map, slice_get-get_or, slice_get_past}
 use Rattle.std.proofs.lemmas.List.{get_or_past}
 use Rattle.wire_runs.specs.Plan.{event_count}
 use Rattle.wire_runs.specs.Fences.{arrivals, collects, is_full, is_collecting, has_node}
@@ -83,8 +83,7 @@ module _ (s : Scripts) (sound : IsSound s) (rows : List FenceDraft) (numbers : L
   call_is p c k collect is =
       let low = calls_there p c (Fence k collect) is in
       let of_process = numbered.each p low in
-      let within = slice_get_within (written_calls s p) c (Fence k collect) is in
-      let number = subst (λ o. IsNumber rows (written_calls s p) c o (get_or (get_or numbers p []) c None)) is (of_process.each c within) in
+      let number = subst (λ o. IsNumber rows (written_calls s p) c o (get_or (get_or numbers p []) c None)) is (of_process c) in
       let has = number.2 in
       let j = fence_count k (take (suc c) (written_calls s p)) in
       record {
@@ -99,11 +98,7 @@ module _ (s : Scripts) (sound : IsSound s) (rows : List FenceDraft) (numbers : L
   number_is : (p c number : ℕ) → fence_number table p c ≡ Some number → (k : ℕ) × (collect : Bool) × (call_at s.processes p c ≡ Some (Fence k collect))
   number_is p c number is = elim (cases_lt p (length s.processes)) [
     | inl low ↦
-        let of_process = numbered.each p low in
-        elim (cases_lt c (length (written_calls s p))) [
-          | inl within ↦ fence_call rows (written_calls s p) c number (slice_get (written_calls s p) c) (get_or (get_or numbers p []) c None) (of_process.each c within) is
-          | inr past ↦ let count = of_process.count in absurd (none-some number (sym (get_or_past (get_or numbers p []) c None (omega (arith, count, past))) ∙ is))
-        ]
+        fence_call rows (written_calls s p) c number (slice_get (written_calls s p) c) (get_or (get_or numbers p []) c None) (numbered.each p low c) is
     | inr past ↦
         let count = numbered.count in
         let none = get_or_past numbers p [] (omega (arith, count, past)) in

@@ -1,5 +1,5 @@
 -- The register finds a row by its set and its number.
-use Rattle.std.proofs.Common.{◌≡◌, ◌∙◌, ℕ, zero, suc, ◌+◌, List, [], ◌∷◌, ◌++◌, map, length, Bool, true, false, not, cond, ◌&&◌, ◌==◌, Option, Some, None, option_map, slice_get, get_or, refl}
+use Rattle.std.proofs.Common.{◌≡◌, ◌∙◌, ℕ, zero, suc, ◌+◌, ◌<◌, List, [], ◌∷◌, ◌++◌, map, length, Bool, true, false, not, cond, ◌&&◌, ◌==◌, Option, Some, None, option_map, slice_get, get_or, refl}
 use Rattle.std.proofs.Common.{sym, ap, inl, inr, arith}
 use Rattle.std.specs.List.{list_any, position_or_len}
 use Rattle.std.proofs.lemmas.Bool.{cases_Bool, true≢false, eqb-true, eq-eqb, and_parts, not-true, not-false, or_right}
@@ -90,3 +90,18 @@ keyed_again rows new keys set_of_call nth number collect is_new row after keyed 
     ∙ sym (set-get_or (map key_of rows) number (key_of row))
     ∙ ap (set (map key_of rows) number) (get_or-map key_of rows number row (key_of row) within ∙ ap key_of (sym read) ∙ ap key_of (sym is))
     ∙ sym (map-set key_of rows number after)
+
+-- one more call of the fence of a row
+pub keyed_row : (rows : List FenceDraft) (keys : List (ℕ × ℕ)) (number : ℕ) (collect : Bool) (row after : FenceDraft) → keys ≡ map key_of rows → number < length rows → row ≡ get_or rows number row →
+    after ≡ called collect row → keys ≡ map key_of (set rows number after)
+keyed_row rows keys number collect row after keyed within read is =
+    keyed
+    ∙ sym (set-get_or (map key_of rows) number (key_of row))
+    ∙ ap (set (map key_of rows) number) (get_or-map key_of rows number row (key_of row) within ∙ ap key_of (sym read) ∙ ap key_of (sym is))
+    ∙ sym (map-set key_of rows number after)
+
+pub row_called : (rows : List FenceDraft) (set_of_call nth members number : ℕ) (collect : Bool) (row after : FenceDraft) → HasRow rows number set_of_call nth → row ≡ get_or rows number row →
+    after ≡ called collect row → IsCalled rows set_of_call nth members collect number (set rows number after)
+row_called rows set_of_call nth members number collect row after has read is =
+    let same : has.row ≡ row = sym (get_or_from_slice_get rows number has.row row has.there) ∙ sym read in
+    Again has.row has.there has.of_set has.is_nth (ap (set rows number) (is ∙ ap (called collect) (sym same)))

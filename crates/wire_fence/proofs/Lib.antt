@@ -7,3 +7,4 @@ pub mod ReadRows
 pub mod States
 pub mod FenceTable
 pub mod Forgotten
+mod Kept

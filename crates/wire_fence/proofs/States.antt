@@ -2,7 +2,7 @@
 use Rattle.std.proofs.Common.{◌≡◌, ◌∙◌, ℕ, zero, suc, ◌+◌, ◌<◌, ◌≤◌, List, [], ◌∷◌, ◌++◌, take, replicate, length, Bool, true, false, cond, nat_lt, Option, Some, None, slice_get, get_or, refl, sym}
 use Rattle.std.proofs.Common.{ap, subst, inl, inr, arith, add-one}
 use Rattle.std.proofs.lemmas.Bool.{cases_eq, cases_lt, eq-eqb, ne_eqb, lt-ltb, le-ltb}
-use Rattle.std.proofs.lemmas.Option.{none-some, slice_get-get_or}
+use Rattle.std.proofs.lemmas.Option.{none-some, slice_get-get_or, slice_get_past}
 use Rattle.std.proofs.lemmas.List.{get_or-set_same, get_or-set_other, length-set, get_or_append_left, get_or_push, length_push, get_or_past, get_or-replicate, length-replicate}
 use Rattle.std.proofs.lemmas.List.Sums.{sum_by_push, sum_by_more_le, count_by-le-length}
 use Rattle.std.proofs.Math.ListN.{set}
@@ -15,7 +15,7 @@ use Rattle.wire_content.specs.Scripts.{Process, Scripts, IsSound, set_at, calls_
 use Rattle.wire_fence.specs.declared.register.FenceDraft.{FenceDraft}
 use Rattle.wire_fence.specs.FenceTable.{is_over, fence_count, written_calls}
 use Rattle.wire_fence.specs.Reading.{says_with}
-use Rattle.wire_fence.specs.Register.{HasRow, IsCalled, IsAfter, AreRead, IsNumber, AreNumbers, AreAllNumbers, read_to}
+use Rattle.wire_fence.specs.Register.{HasRow, IsCalled, IsAfter, AreRead, IsNumber, AreNumbers, AreNumbersOf, AreAllNumbers, read_to}
 use Rattle.wire_fence.proofs.ReadRows.{count_call, read_fence, read_other, kept_row, row_of_call, few_rows}
 
 -- after the first n calls of a process
@@ -45,17 +45,25 @@ state_first rows sets calls counts numbers size size_is zeros none = record {
 }
 
 -- the numbers of earlier calls stay
-number_kept : (rows new : List FenceDraft) (calls : List Call) (c : ℕ) (o : Option Call) (number : Option ℕ) → ((m k j : ℕ) → HasRow rows m k j → HasRow new m k j) → IsNumber rows calls c o number →
+number_stays : (rows new : List FenceDraft) (calls : List Call) (c : ℕ) (o : Option Call) (number : Option ℕ) → ((m k j : ℕ) → HasRow rows m k j → HasRow new m k j) → IsNumber rows calls c o number →
     IsNumber new calls c o number
-number_kept rows new calls c (Some (Fence other collect)) number kept is = (is.0, is.1, kept is.0 other (fence_count other (take (suc c) calls)) is.2)
-number_kept rows new calls c _ number kept is = is
+number_stays rows new calls c (Some (Fence other collect)) number kept is = (is.0, is.1, kept is.0 other (fence_count other (take (suc c) calls)) is.2)
+number_stays rows new calls c _ number kept is = is
 
-pub numbers_kept : (rows new : List FenceDraft) (calls : List Call) (numbers : List (Option ℕ)) (n : ℕ) → ((m k j : ℕ) → HasRow rows m k j → HasRow new m k j) → AreNumbers rows calls numbers n →
-    AreNumbers new calls numbers n
-numbers_kept rows new calls numbers n kept are = record {
-  count = are.count;
-  each = λ c low. number_kept rows new calls c (slice_get calls c) (get_or numbers c None) kept (are.each c low);
-}
+numbers_kept : (rows new : List FenceDraft) (calls : List Call) (numbers : List (Option ℕ)) → ((m k j : ℕ) → HasRow rows m k j → HasRow new m k j) → AreNumbersOf rows calls numbers →
+    AreNumbersOf new calls numbers
+numbers_kept rows new calls numbers kept are = λ c. number_stays rows new calls c (slice_get calls c) (get_or numbers c None) kept (are c)
+
+-- past the last call there is no number
+pub numbers_past : (rows : List FenceDraft) (calls : List Call) (numbers copy : List (Option ℕ)) (n : ℕ) → n ≡ length calls → AreNumbers rows calls numbers n →
+    ((c : ℕ) → get_or copy c None ≡ get_or numbers c None) → AreNumbersOf rows calls copy
+numbers_past rows calls numbers copy n all are same = λ c. subst (IsNumber rows calls c (slice_get calls c)) (sym (same c)) (elim (cases_lt c n) [
+  | inl low ↦ are.each c low
+  | inr past ↦
+      let count = are.count in
+      let none : get_or numbers c None ≡ None = get_or_past numbers c None (omega (arith, count, past)) in
+      subst (λ o. IsNumber rows calls c o (get_or numbers c None)) (sym (slice_get_past calls c (omega (arith, all, past)))) none
+])
 
 numbers_more : (rows new : List FenceDraft) (calls : List Call) (numbers : List (Option ℕ)) (n : ℕ) (number : Option ℕ) → ((m k j : ℕ) → HasRow rows m k j → HasRow new m k j) →
     AreNumbers rows calls numbers n → IsNumber new calls n (slice_get calls n) number → AreNumbers new calls (numbers ++ number ∷ []) (suc n)
@@ -69,7 +77,7 @@ numbers_more rows new calls numbers n number kept are is = record {
         let count = are.count in
         let below : c < length numbers = omega (arith, count, low, ne) in
         let at : get_or (numbers ++ number ∷ []) c None ≡ get_or numbers c None = get_or_append_left numbers (number ∷ []) None c below in
-        subst (IsNumber new calls c (slice_get calls c)) (sym at) (number_kept rows new calls c (slice_get calls c) (get_or numbers c None) kept (are.each c (omega (arith, low, ne))))
+        subst (IsNumber new calls c (slice_get calls c)) (sym at) (number_stays rows new calls c (slice_get calls c) (get_or numbers c None) kept (are.each c (omega (arith, low, ne))))
   ];
 }
 
@@ -213,27 +221,27 @@ all_first rows sets processes numbers none nothing = record {
 }
 
 all_numbers_more : (rows new : List FenceDraft) (processes : List Process) (numbers : List (List (Option ℕ))) (more : List (Option ℕ)) (n : ℕ) → ((m k j : ℕ) → HasRow rows m k j → HasRow new m k j) →
-    AreAllNumbers rows processes numbers n → AreNumbers new (calls_in (slice_get processes n)) more (length (calls_in (slice_get processes n))) →
+    AreAllNumbers rows processes numbers n → AreNumbersOf new (calls_in (slice_get processes n)) more →
     AreAllNumbers new processes (numbers ++ more ∷ []) (suc n)
 all_numbers_more rows new processes numbers more n kept are is = record {
   count = length_push numbers more ∙ add-one (length numbers) ∙ ap suc are.count;
   each = λ p low. elim (cases_eq p n) [
     | inl here ↦
         let at : get_or (numbers ++ more ∷ []) p [] ≡ more = get_or_push numbers more [] p (are.count ∙ sym here) in
-        subst (λ xs. AreNumbers new (calls_in (slice_get processes p)) xs (length (calls_in (slice_get processes p)))) (sym at)
-        (subst (λ k. AreNumbers new (calls_in (slice_get processes k)) more (length (calls_in (slice_get processes k)))) (sym here) is)
+        subst (λ xs. AreNumbersOf new (calls_in (slice_get processes p)) xs) (sym at)
+        (subst (λ k. AreNumbersOf new (calls_in (slice_get processes k)) more) (sym here) is)
     | inr ne ↦
         let count = are.count in
         let below : p < length numbers = omega (arith, count, low, ne) in
         let at : get_or (numbers ++ more ∷ []) p [] ≡ get_or numbers p [] = get_or_append_left numbers (more ∷ []) [] p below in
-        subst (λ xs. AreNumbers new (calls_in (slice_get processes p)) xs (length (calls_in (slice_get processes p)))) (sym at)
-        (numbers_kept rows new (calls_in (slice_get processes p)) (get_or numbers p []) (length (calls_in (slice_get processes p))) kept (are.each p (omega (arith, low, ne))))
+        subst (λ xs. AreNumbersOf new (calls_in (slice_get processes p)) xs) (sym at)
+        (numbers_kept rows new (calls_in (slice_get processes p)) (get_or numbers p []) kept (are.each p (omega (arith, low, ne))))
   ];
 }
 
 pub all_more : (rows new : List FenceDraft) (sets : List (List ℕ)) (processes : List Process) (numbers : List (List (Option ℕ))) (more : List (Option ℕ)) (n : ℕ) (process : Process) →
     AllRead rows sets processes numbers n → slice_get processes n ≡ Some process →
-    length new ≤ length rows + length process.calls → AreNumbers new process.calls more (length process.calls) → ((m k j : ℕ) → HasRow rows m k j → HasRow new m k j) →
+    length new ≤ length rows + length process.calls → AreNumbersOf new process.calls more → ((m k j : ℕ) → HasRow rows m k j → HasRow new m k j) →
     ((s : Scripts) (p : ℕ) (read : ℕ → ℕ) → IsSound s → sets ≡ s.sets → process.calls ≡ written_calls s p → read p ≡ 0 → AreRead s read rows → AreRead s (update read p (length process.calls)) new) →
     AllRead new sets processes (numbers ++ more ∷ []) (n + 1)
 all_more rows new sets processes numbers more n process all is few are kept read =
@@ -244,7 +252,7 @@ all_more rows new sets processes numbers more n process all is few are kept read
           let one_more : call_count (take (suc n) processes) ≡ call_count (take n processes) + length process.calls = ap call_count (take_get processes n process is)
           ∙ sum_by_push (λ (q : Process). length q.calls) (take n processes) process in
           omega (arith, was, few, one_more);
-      numbered = all_numbers_more rows new processes numbers more n kept all.numbered (subst (λ o. AreNumbers new (calls_in o) more (length (calls_in o))) (sym is) are);
+      numbered = all_numbers_more rows new processes numbers more n kept all.numbered (subst (λ o. AreNumbersOf new (calls_in o) more) (sym is) are);
       read = λ s sound same_sets same_processes.
           let calls : process.calls ≡ written_calls s n = ap calls_in (sym is ∙ ap (λ xs. slice_get xs n) same_processes) in
           let nothing : read_to s n n ≡ 0 = ap (λ b. cond b (length (written_calls s n)) 0) (le-ltb n n (omega arith)) in
@@ -280,13 +288,13 @@ room_left rows processes n process calls few low is same counted =
 -- the same, where the calls that were read are told apart from the process
 pub all_more_of : (rows new : List FenceDraft) (sets : List (List ℕ)) (processes : List Process) (numbers : List (List (Option ℕ))) (more : List (Option ℕ)) (n : ℕ) (process : Process)
     (calls : List Call) → AllRead rows sets processes numbers n → n < length processes → process ≡ get_or processes n process → calls ≡ process.calls →
-    length new ≤ length rows + length calls → AreNumbers new calls more (length calls) → ((m k j : ℕ) → HasRow rows m k j → HasRow new m k j) →
+    length new ≤ length rows + length calls → AreNumbersOf new calls more → ((m k j : ℕ) → HasRow rows m k j → HasRow new m k j) →
     ((s : Scripts) (p : ℕ) (read : ℕ → ℕ) → IsSound s → sets ≡ s.sets → calls ≡ written_calls s p → read p ≡ 0 → AreRead s read rows → AreRead s (update read p (length calls)) new) →
     AllRead new sets processes (numbers ++ more ∷ []) (n + 1)
 all_more_of rows new sets processes numbers more n process calls all low is same few are kept read =
     all_more rows new sets processes numbers more n process all (slice_get-get_or processes n process low ∙ ap Some (sym is))
     (subst (λ xs. length new ≤ length rows + length xs) same few)
-    (subst (λ xs. AreNumbers new xs more (length xs)) same are)
+    (subst (λ xs. AreNumbersOf new xs more) same are)
     kept
     (subst (λ (xs : List Call). (s : Scripts) (p : ℕ) (read : ℕ → ℕ) → IsSound s → sets ≡ s.sets → xs ≡ written_calls s p → read p ≡ 0 → AreRead s read rows →
     AreRead s (update read p (length xs)) new) same read)

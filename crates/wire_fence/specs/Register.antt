@@ -82,10 +82,22 @@ pub record AreNumbers (rows : List FenceDraft) (calls : List Call) (numbers : Li
   pub count : length numbers ≡ n
   pub each : (c : ℕ) → c < n → IsNumber rows calls c (slice_get calls c) (slice_index_or numbers c None)
 
+-- what is kept of a call is the number of its fence, or 2 ^ 32 - 1, which no fence has
+abbrev pub number_kept : ℕ → Option ℕ
+number_kept kept = if kept == 4294967295 then None else Some kept
+
+-- the last of the first n of these is that of no fence
+abbrev pub EndsBare : List ℕ → ℕ → Type 0
+EndsBare kept n = (0 < n) × (slice_index_or kept (n - 1) 0 ≡ 4294967295)
+
+-- the numbers of the calls of a process, up to its last fence call or further
+abbrev pub AreNumbersOf : List FenceDraft → List Call → List (Option ℕ) → Type 0
+AreNumbersOf rows calls numbers = (c : ℕ) → IsNumber rows calls c (slice_get calls c) (slice_index_or numbers c None)
+
 -- the numbers of all calls of the first processes
 pub record AreAllNumbers (rows : List FenceDraft) (processes : List Process) (numbers : List (List (Option ℕ))) (n : ℕ) : Type 0 where
   pub count : length numbers ≡ n
-  pub each : (p : ℕ) → p < n → AreNumbers rows (calls_in (slice_get processes p)) (slice_index_or numbers p []) (length (calls_in (slice_get processes p)))
+  pub each : (p : ℕ) → p < n → AreNumbersOf rows (calls_in (slice_get processes p)) (slice_index_or numbers p [])
 
 -- all calls of the first processes
 abbrev pub read_to : Scripts → ℕ → ℕ → ℕ

@@ -1,6 +1,6 @@
 //! The fences of scripts.
 
-ghost use Rattle.std.specs.Prelude.{◌≡◌, ◌<◌, ◌||◌, ◌&&◌, ◌==◌, ℕ, Some, false, is_some, true, [], length};
+ghost use Rattle.std.specs.Prelude.{◌≡◌, ◌<◌, ◌||◌, ◌&&◌, ◌==◌, ℕ, Some, None, false, is_some, true, [], length};
 ghost use Rattle.std.specs.Prelude.{map as map_list, slice_index_or, IfOk, OnOk, IsOkUnless};
 ghost use Rattle.std.specs.List.{list_all};
 ghost use Rattle.wire_runs.specs.Fences.{has_node};
@@ -9,8 +9,9 @@ ghost use Rattle.wire_content.specs.Planned.{plan_of};
 ghost use Rattle.wire_procmap.specs.Map.{map_of, row_count};
 ghost use Rattle.wire_fence.specs.FenceTable.{FenceInfo, AreFencesOf, fence_at, members_in, full_in, collects_in};
 ghost use Rattle.wire_fence.specs.FenceTable.{reaches_in, is_noted, fence_number as the_fence_number};
+ghost use Rattle.wire_fence.specs.Register.{number_kept};
 
-use crate::register::{FenceDraft, members_of, read_rows};
+use crate::register::{FenceDraft, NO_FENCE, members_of, read_rows};
 use std::alloc::{AllocError, Global};
 use std::collections::HashSet;
 use std::marker::Model;
@@ -32,7 +33,8 @@ pub struct Fences {
     // all that its function holds.
     reached: Box<HashSet<(u32, u32)>>,
     rows: Vec<FenceDraft>,
-    numbers: Vec<Vec<Option<u32>>>,
+    // For each process what is kept of its calls, up to its last fence call.
+    numbers: Vec<Vec<u32>>,
 }
 
 // By hand and not derived: so dropping one is a call, and the proof of a function that drops one doesn't take it apart.
@@ -51,13 +53,13 @@ impl Model for Fences {
     ghost use Rattle.std.specs.Prelude.{map};
     ghost use Rattle.wire_content.specs.Scripts.{numbers_of};
     ghost use Rattle.wire_fence.specs.FenceTable.{FenceTable};
-    ghost use Rattle.wire_fence.specs.Register.{info_of};
+    ghost use Rattle.wire_fence.specs.Register.{info_of, number_kept};
 
     ghost Value = { FenceTable };
 
     ghost view = { λ f. record {
       fences = map (info_of (map (λ v. numbers_of v.items) f.sets.items)) f.rows.items;
-      numbers = map (λ v. v.items) f.numbers.items;
+      numbers = map (λ v. map number_kept v.items) f.numbers.items;
       reached = f.reached.value.keys;
     } };
 }
@@ -117,6 +119,16 @@ fn is_reached(reached: &HashSet<(u32, u32)>, set: u32, node: u32) -> bool
     reached.contains(&(set, node))
 }
 
+/// What is kept of a call, if it is the number of a fence.
+fn number_at(numbers: &[u32], call: u32) -> Option<u32>
+    ensures { result ≡ slice_index_or (map_list number_kept numbers.now) call None }
+{
+    match numbers.get(call as usize) {
+        Some(number) if *number != NO_FENCE => Some(*number),
+        _ => None,
+    }
+}
+
 /// How many members the fence of each row has.
 fn sizes_of(
     alloc: Global,
@@ -156,10 +168,7 @@ impl Fences {
         ensures { result ≡ the_fence_number self.now call.proc.number call.call }
     {
         match self.numbers.get(call.proc.index()) {
-            Some(numbers) => match numbers.get(call.call as usize) {
-                Some(number) => *number,
-                None => None,
-            },
+            Some(numbers) => number_at(numbers, call.call),
             None => None,
         }
     }

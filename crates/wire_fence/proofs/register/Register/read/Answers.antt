@@ -1,4 +1,4 @@
-use Rattle.std.proofs.Common.{◌≡◌, ◌∙◌, ap, sym, subst, refl, ℕ, ◌+◌, List, length, map, Bool, Some, slice_index_or}
+use Rattle.std.proofs.Common.{◌≡◌, ◌∙◌, ap, sym, subst, refl, ℕ, ◌+◌, List, length, map, Bool, Some, slice_index_or, arith}
 use Rattle.std.proofs.Math.ListN.{set}
 use Rattle.std.proofs.lemmas.Grind.{get_or_default_zero}
 use Rattle.std.proofs.lemmas.List.{length-map}
@@ -7,6 +7,7 @@ use Rattle.wire_types.specs.declared.Call.TheVariants.{Fence}
 use Rattle.wire_content.specs.Scripts.{numbers_of, set_at}
 use Rattle.wire_fence.specs.declared.register.FenceDraft.{FenceDraft}
 use Rattle.wire_fence.specs.Register.{IsCalled, IsAfter}
+use Rattle.wire_fence.proofs.Kept.{kept_is, number_low}
 use Rattle.wire_fence.proofs.register.Register.read.Goals as goal
 
 after_fence : (sets : List (List ℕ)) (call : Call) (which : ℕ) (collect : Bool) (rows new : List FenceDraft) (counts : List ℕ) (before members n : ℕ)
@@ -26,6 +27,10 @@ returns-clause-after c =
     let counts = c.args.counts.now.items in
     let sets = map (λ v. numbers_of v.items) c.args.sets.now in
     let members = c.members_of.result.now in
-    after_fence sets c.args.call which c.in-Fence.collect c.args.self.now.rows.items c.add.new.self.rows.items counts c.index.result.now (length members) c.in_ok-number.number
+    let low = number_low _ _ _ _ _ _ _ c.in_ok-number.ensures.called in
+    let room = c.requires.room in
+    subst (λ o. IsAfter sets c.args.call c.args.self.now.rows.items counts o c.add.new.self.rows.items (set counts which (c.index.result.now + 1)))
+    (sym (kept_is c.in_ok-number.number (omega (arith, low, room))))
+    (after_fence sets c.args.call which c.in-Fence.collect c.args.self.now.rows.items c.add.new.self.rows.items counts c.index.result.now (length members) c.in_ok-number.number
     c.in-Fence.is (c.index.ensures ∙ get_or_default_zero counts which _ (c.requires.within which c.in-Fence.collect c.in-Fence.is))
-    (sym (length-map members (λ p. p.number)) ∙ ap length c.members_of.ensures) c.in_ok-number.ensures.called
+    (sym (length-map members (λ p. p.number)) ∙ ap length c.members_of.ensures) c.in_ok-number.ensures.called)

@@ -7,7 +7,7 @@ use Rattle.wire_content.specs.Planned.{plan_of}
 use Rattle.wire_procmap.specs.Map.{Map, row_count}
 use Rattle.wire_procmap.specs.Rows.{row_of}
 use Rattle.wire_fence.specs.FenceTable.{AreFencesOf}
-use Rattle.wire_fence.specs.Register.{info_of, AreRead, AreAllNumbers, read_to}
+use Rattle.wire_fence.specs.Register.{info_of, AreRead, AreAllNumbers, read_to, number_kept}
 use Rattle.wire_fence.proofs.FenceTable.{fences_are, member_within}
 use Rattle.wire_fence.proofs.table.Fences.of.Goals as goal
 
@@ -41,11 +41,11 @@ returns-clause-ok c =
     let sound = c.processes-processes.ensures.sound in
     subst (λ (xs : List (List ℕ)). AreFencesOf s (record {
       fences = map (info_of xs) c.in_ok-rows.rows.items;
-      numbers = map (λ v. v.items) c.in_ok-rows.numbers.items;
+      numbers = map (λ v. map number_kept v.items) c.in_ok-rows.numbers.items;
       reached = c.in_ok-reached.reached.value.keys;
     })) (sym copied) (
-    fences_are s sound c.in_ok-rows.rows.items (map (λ v. v.items) c.in_ok-rows.numbers.items) c.in_ok-reached.reached.value.keys
+    fences_are s sound c.in_ok-rows.rows.items (map (λ v. map number_kept v.items) c.in_ok-rows.numbers.items) c.in_ok-reached.reached.value.keys
     (subst (λ (ps : List Process). AreRead s (read_to s (length ps)) c.in_ok-rows.rows.items) processes (c.in_ok-rows.ensures.read s sound read processes))
-    (subst (λ (ps : List Process). AreAllNumbers c.in_ok-rows.rows.items ps (map (λ v. v.items) c.in_ok-rows.numbers.items) (length ps)) processes c.in_ok-rows.ensures.numbers)
+    (subst (λ (ps : List Process). AreAllNumbers c.in_ok-rows.rows.items ps (map (λ v. map number_kept v.items) c.in_ok-rows.numbers.items) (length ps)) processes c.in_ok-rows.ensures.numbers)
     (λ k node. c.in_ok-reached.ensures s k node c.requires ∙ ap (λ (xs : List (List ℕ)). has_node (plan_of s) (set_at xs k) node) c.sets-2.ensures)
     )
