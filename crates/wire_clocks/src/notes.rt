@@ -102,6 +102,19 @@ fn is_low(notes: &[Note], left: u32, root: u32) -> bool
     }
 }
 
+/// Whether a note of a process may stand above a clock, as its notes are of the same block of 16 processes: so all of
+/// them cost one path when they are put into the tree.
+fn takes_note(notes: &[Note], root: u32, process: u32) -> bool
+    ensures { IsTrue result → (rows : List (List ℕ)) → (height : ℕ) → clock_stands rows notes.now height 15 root ≡ true →
+        clock_stands rows notes.now height 14 root ≡ true }
+{
+    let near = match note_at(notes, root) {
+        None => true,
+        Some(note) => note.process / 16 == process / 16,
+    };
+    near && is_low(notes, 14, root)
+}
+
 /// A tree as it is, with nothing to be raised.
 fn unraised(tree: u32) -> Raised
     ensures raised { (rows : List (List ℕ)) → (height : ℕ) → IsTree rows height tree → IsRaised rows height result }
@@ -213,12 +226,13 @@ pub(crate) fn flatten(
     raise_block(rows, levels, raised.tree, raised.block, &raised.least)
 }
 
-/// A clock that says what the given one says, and above which a note may stand.
+/// A clock that says what the given one says, and above which a note of the process may stand.
 pub(crate) fn shorten(
     rows: &mut Vec<[u32; 16]>,
     notes: &[Note],
     levels: u32,
     root: u32,
+    process: u32,
 ) -> Result<u32, AllocError>
     requires levels { levels ≤ 8 }
     requires high { 0 < levels }
@@ -229,7 +243,7 @@ pub(crate) fn shorten(
     ensures says { IfOk result (λ r. (q : ℕ) → q < 16 ^ levels → clock_number rows.new.items notes.now levels 14 r q ≡
         clock_number rows.old.items notes.now levels 15 root q) }
 {
-    if is_low(notes, 14, root) {
+    if takes_note(notes, root, process) {
         return Ok(root);
     }
     let tree = flatten(rows, notes, levels, root)?;

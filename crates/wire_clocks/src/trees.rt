@@ -123,7 +123,7 @@ impl ClockTrees {
         ensures root { IfOk result (λ r. IsRoot self.new r) }
         ensures says { IfOk result (λ r. (q : ℕ) → says self.new r q ≡ (if q == process then max (says self.old root q) number else says self.old root q)) }
     {
-        let before = shorten(&mut self.rows, &self.notes, self.levels, root)?;
+        let before = shorten(&mut self.rows, &self.notes, self.levels, root, process)?;
         let note = Note {
             before,
             process,

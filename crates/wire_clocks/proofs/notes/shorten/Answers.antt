@@ -6,10 +6,10 @@ use Rattle.wire_clocks.specs.Notes.{clock_number, clock_stands, IsTopOf}
 use Rattle.wire_clocks.proofs.Noting.{none_at, tree_stands, tree_number, tree_top, low_number}
 use Rattle.wire_clocks.proofs.notes.shorten.Goals as goal
 
-pub returns-then-is_low-clause-says : goal.returns-then-is_low-clause-says
-returns-then-is_low-clause-says c = λ q low.
+pub returns-then-takes_note-clause-says : goal.returns-then-takes_note-clause-says
+returns-then-takes_note-clause-says c = λ q low.
     let rows = c.args.rows.now.items in
-    sym (low_number rows c.args.notes.now c.args.levels q 14 c.args.root (c.is_low.ensures c.if-is_low.true rows c.args.levels c.requires.root))
+    sym (low_number rows c.args.notes.now c.args.levels q 14 c.args.root (c.takes_note.ensures c.if-takes_note.true rows c.args.levels c.requires.root))
 
 pub returns-clause-stands : goal.returns-clause-stands
 returns-clause-stands c =
