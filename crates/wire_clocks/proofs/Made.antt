@@ -66,11 +66,11 @@ same_cases true new old is = is refl
 same_cases false new old is = refl
 
 pub flattened_says : (old new : List (List ℕ)) (notes : List Note) (height root t r : ℕ) → AreTrees old height → AreTrees new height → IsTopOf t r →
-    ((q : ℕ) → q < 16 ^ height → tree_says new height t q ≡ clock_number old notes height 15 root q) → (q : ℕ) →
+    ((q : ℕ) → q < 16 ^ height → tree_says new height t q ≡ clock_number old notes height 16 root q) → (q : ℕ) →
     says (clocks_of new notes height) r q ≡ says (clocks_of old notes height) root q
 flattened_says old new notes height root t r are are' top each q =
     top_says new notes height t r q are' top
-    ∙ same_cases (nat_lt q (16 ^ height)) (tree_says new height t q) (clock_number old notes height 15 root q) (λ b. each q (ltb-true q (16 ^ height) b))
+    ∙ same_cases (nat_lt q (16 ^ height)) (tree_says new height t q) (clock_number old notes height 16 root q) (λ b. each q (ltb-true q (16 ^ height) b))
     ∙ sym (clock_says old notes height root q are)
 
 -- a note is added above a clock
@@ -84,10 +84,10 @@ noted_cases false true new old number is held = absurd (none_holds (held refl))
 noted_cases false false new old number is held = refl
 
 pub noted_says : (old new : List (List ℕ)) (ns ns' : List Note) (height root r process number : ℕ) → AreTrees old height → AreTrees new height → process < 16 ^ height →
-    ((q : ℕ) → q < 16 ^ height → clock_number new ns' height 15 r q ≡ (if q == process then max (clock_number old ns height 15 root q) number else clock_number old ns height 15 root q)) → (q : ℕ) →
+    ((q : ℕ) → q < 16 ^ height → clock_number new ns' height 16 r q ≡ (if q == process then max (clock_number old ns height 16 root q) number else clock_number old ns height 16 root q)) → (q : ℕ) →
     says (clocks_of new ns' height) r q ≡ (if q == process then max (says (clocks_of old ns height) root q) number else says (clocks_of old ns height) root q)
 noted_says old new ns ns' height root r process number are are' low each q =
     clock_says new ns' height r q are'
-    ∙ noted_cases (nat_lt q (16 ^ height)) (q == process) (clock_number new ns' height 15 r q) (clock_number old ns height 15 root q) number (λ b. each q (ltb-true q (16 ^ height) b))
+    ∙ noted_cases (nat_lt q (16 ^ height)) (q == process) (clock_number new ns' height 16 r q) (clock_number old ns height 16 root q) number (λ b. each q (ltb-true q (16 ^ height) b))
     (λ e. let is = eqb-true q process e in lt-ltb q (16 ^ height) (omega (arith, is, low)))
     ∙ ap (λ v. if q == process then max v number else v) (sym (clock_says old ns height root q are))

@@ -214,14 +214,14 @@ noted_at : (old new : List Note) (note : Note) (root : ℕ) → IsNoted old new 
 noted_at old new note root noted = odd_at new root (λ e. omega (arith, e, noted.odd)) ∙ noted.there
 
 pub noted_stands : (rows : List (List ℕ)) (ns ns' : List Note) (height root : ℕ) (note : Note) → IsZero rows → KeepsNotes ns ns' → IsNoted ns ns' note root → note.process < 16 ^ height →
-    clock_stands rows ns height 14 note.before ≡ true → clock_stands rows ns' height 15 root ≡ true
+    clock_stands rows ns height 15 note.before ≡ true → clock_stands rows ns' height 16 root ≡ true
 noted_stands rows ns ns' height root note z keeps noted low stands =
-    note_stands rows ns' height 14 root note (noted_at ns ns' note root noted)
-    ∙ and_from (nat_lt note.process (16 ^ height)) (clock_stands rows ns' height 14 note.before) (lt-ltb note.process (16 ^ height) low)
-    (stands_kept rows rows ns ns' (keeps_itself rows) keeps z height 14 note.before stands)
+    note_stands rows ns' height 15 root note (noted_at ns ns' note root noted)
+    ∙ and_from (nat_lt note.process (16 ^ height)) (clock_stands rows ns' height 15 note.before) (lt-ltb note.process (16 ^ height) low)
+    (stands_kept rows rows ns ns' (keeps_itself rows) keeps z height 15 note.before stands)
 
 pub noted_number : (rows : List (List ℕ)) (ns ns' : List Note) (height root q : ℕ) (note : Note) → IsZero rows → KeepsNotes ns ns' → IsNoted ns ns' note root →
-    clock_stands rows ns height 14 note.before ≡ true → clock_number rows ns' height 15 root q ≡ raised_at note.process note.number q (clock_number rows ns height 14 note.before q)
+    clock_stands rows ns height 15 note.before ≡ true → clock_number rows ns' height 16 root q ≡ raised_at note.process note.number q (clock_number rows ns height 15 note.before q)
 noted_number rows ns ns' height root q note z keeps noted stands =
-    note_number rows ns' height 14 root q note (noted_at ns ns' note root noted)
-    ∙ ap (raised_at note.process note.number q) (number_kept rows rows ns ns' (keeps_itself rows) keeps z height q 14 note.before stands)
+    note_number rows ns' height 15 root q note (noted_at ns ns' note root noted)
+    ∙ ap (raised_at note.process note.number q) (number_kept rows rows ns ns' (keeps_itself rows) keeps z height q 15 note.before stands)

@@ -41,17 +41,17 @@ rows_end : (rows : List (List ℕ)) (notes : List Note) (n : ℕ) → 2 * max (l
 rows_end rows notes n ge = omega (arith, ge)
 
 -- a root is a clock's
-pub clock_of_root : (rows : List (List ℕ)) (notes : List Note) (height n : ℕ) → IsRoot (clocks_of rows notes height) n → clock_stands rows notes height 15 n ≡ true
+pub clock_of_root : (rows : List (List ℕ)) (notes : List Note) (height n : ℕ) → IsRoot (clocks_of rows notes height) n → clock_stands rows notes height 16 n ≡ true
 clock_of_root rows notes height n root = elim (cases_lt n (2 * max (length rows) (length notes))) [
   | inl lt ↦ sym (ap is_clock (stands_at rows notes height n lt)) ∙ root
   | inr ge ↦ absurd (true≢false (sym root ∙ ap is_clock (nothing_past rows notes height n ge)))
 ]
 
-pub root_of_clock : (rows : List (List ℕ)) (notes : List Note) (height n : ℕ) → AreTrees rows height → clock_stands rows notes height 15 n ≡ true → IsRoot (clocks_of rows notes height) n
+pub root_of_clock : (rows : List (List ℕ)) (notes : List Note) (height n : ℕ) → AreTrees rows height → clock_stands rows notes height 16 n ≡ true → IsRoot (clocks_of rows notes height) n
 root_of_clock rows notes height n are stands = elim (cases_lt n (2 * max (length rows) (length notes))) [
   | inl lt ↦ ap is_clock (stands_at rows notes height n lt) ∙ stands
   | inr ge ↦
-      let top : is_top rows height n ≡ true = sym (tree_stands rows notes height 15 n (notes_end rows notes n ge)) ∙ stands in
+      let top : is_top rows height n ≡ true = sym (tree_stands rows notes height 16 n (notes_end rows notes n ge)) ∙ stands in
       let there = tree_there rows height (n / 2) are.high (top_tree rows are.zero height n top) in
       absurd (omega (arith, there, rows_end rows notes n ge))
 ]
@@ -63,12 +63,12 @@ past_says rows height n p are ge =
     says_down rows height n p are.high ∙ ap (λ t. tree_says rows (height - 1) t (p % 16 ^ (height - 1))) none ∙ says_zero rows are.zero (height - 1) (p % 16 ^ (height - 1))
 
 numbers_say : (rows : List (List ℕ)) (notes : List Note) (height n p : ℕ) → AreTrees rows height → p < 16 ^ height →
-    slice_index (numbers_of (slice_get (map (clock_at rows notes height) (range_with_len 0 (2 * max (length rows) (length notes)))) n)) p ≡ clock_number rows notes height 15 n p
+    slice_index (numbers_of (slice_get (map (clock_at rows notes height) (range_with_len 0 (2 * max (length rows) (length notes)))) n)) p ≡ clock_number rows notes height 16 n p
 numbers_say rows notes height n p are low = elim (cases_lt n (2 * max (length rows) (length notes))) [
   | inl lt ↦ ap (λ o. slice_index (numbers_of o) p) (stands_at rows notes height n lt)
-      ∙ get_or-map-range_with_len (clock_number rows notes height 15 n) 0 (16 ^ height) p p 0 low (omega arith)
+      ∙ get_or-map-range_with_len (clock_number rows notes height 16 n) 0 (16 ^ height) p p 0 low (omega arith)
   | inr ge ↦ ap (λ o. slice_index (numbers_of o) p) (nothing_past rows notes height n ge) ∙ sym (past_says rows height (n / 2) p are (rows_end rows notes n ge))
-      ∙ sym (tree_number rows notes height 15 n p (notes_end rows notes n ge))
+      ∙ sym (tree_number rows notes height 16 n p (notes_end rows notes n ge))
 ]
 
 if_same : (b : Bool) (x y : ℕ) → (b ≡ true → x ≡ y) → (if b then x else 0) ≡ (if b then y else 0)
@@ -77,25 +77,25 @@ if_same false x y same = refl
 
 -- what a clock says, its notes and its tree say
 pub clock_says : (rows : List (List ℕ)) (notes : List Note) (height n p : ℕ) → AreTrees rows height →
-    says (clocks_of rows notes height) n p ≡ (if nat_lt p (16 ^ height) then clock_number rows notes height 15 n p else 0)
+    says (clocks_of rows notes height) n p ≡ (if nat_lt p (16 ^ height) then clock_number rows notes height 16 n p else 0)
 clock_says rows notes height n p are =
     if_same (nat_lt p (16 ^ height)) (slice_index (numbers_of (slice_get (map (clock_at rows notes height) (range_with_len 0 (2 * max (length rows) (length notes)))) n)) p)
-    (clock_number rows notes height 15 n p) (λ t. numbers_say rows notes height n p are (ltb-true p (16 ^ height) t))
+    (clock_number rows notes height 16 n p) (λ t. numbers_say rows notes height n p are (ltb-true p (16 ^ height) t))
 
 -- the clock of a tree
 pub top_says : (rows : List (List ℕ)) (notes : List Note) (height tree n p : ℕ) → AreTrees rows height → IsTopOf tree n →
     says (clocks_of rows notes height) n p ≡ (if nat_lt p (16 ^ height) then tree_says rows height tree p else 0)
 top_says rows notes height tree n p are top =
     clock_says rows notes height n p are
-    ∙ ap (λ v. if nat_lt p (16 ^ height) then v else 0) (tree_number rows notes height 15 n p (none_at notes n top.even) ∙ ap (λ t. tree_says rows height t p) top.half)
+    ∙ ap (λ v. if nat_lt p (16 ^ height) then v else 0) (tree_number rows notes height 16 n p (none_at notes n top.even) ∙ ap (λ t. tree_says rows height t p) top.half)
 
 pub tree_of_root : (rows : List (List ℕ)) (notes : List Note) (height n : ℕ) → AreTrees rows height → IsRoot (clocks_of rows notes height) n → n % 2 ≡ 0 → IsTree rows height (n / 2)
 tree_of_root rows notes height n are root even =
-    top_tree rows are.zero height n (sym (tree_stands rows notes height 15 n (none_at notes n even)) ∙ clock_of_root rows notes height n root)
+    top_tree rows are.zero height n (sym (tree_stands rows notes height 16 n (none_at notes n even)) ∙ clock_of_root rows notes height n root)
 
 pub root_of_tree : (rows : List (List ℕ)) (notes : List Note) (height tree n : ℕ) → AreTrees rows height → IsTopOf tree n → IsTree rows height tree → IsRoot (clocks_of rows notes height) n
 root_of_tree rows notes height tree n are top is =
-    root_of_clock rows notes height n are (tree_stands rows notes height 15 n (none_at notes n top.even) ∙ tree_top rows height n top.even (subst (IsTree rows height) (sym top.half) is))
+    root_of_clock rows notes height n are (tree_stands rows notes height 16 n (none_at notes n top.even) ∙ tree_top rows height n top.even (subst (IsTree rows height) (sym top.half) is))
 
 pub zeros_stand : (rows : List (List ℕ)) (notes : List Note) (height : ℕ) → AreTrees rows height → HasZeros (clocks_of rows notes height)
 zeros_stand rows notes height are =
@@ -118,9 +118,9 @@ clocks_keep old new ns ns' height are keeps keeps' =
     let are' = trees_kept old new height are keeps in
     record {
       width = refl;
-      roots = λ n root. root_of_clock new ns' height n are' (stands_kept old new ns ns' keeps keeps' are.zero height 15 n (clock_of_root old ns height n root));
+      roots = λ n root. root_of_clock new ns' height n are' (stands_kept old new ns ns' keeps keeps' are.zero height 16 n (clock_of_root old ns height n root));
       same = λ n root p. clock_says new ns' height n p are'
-          ∙ ap (λ v. if nat_lt p (16 ^ height) then v else 0) (number_kept old new ns ns' keeps keeps' are.zero height p 15 n (clock_of_root old ns height n root))
+          ∙ ap (λ v. if nat_lt p (16 ^ height) then v else 0) (number_kept old new ns ns' keeps keeps' are.zero height p 16 n (clock_of_root old ns height n root))
           ∙ sym (clock_says old ns height n p are);
     }
 
@@ -129,7 +129,7 @@ pub tree_given : (rows : List (List ℕ)) (notes : List Note) (height n : ℕ) (
     IsTree rows height (n / 2)
 tree_given rows notes height n clocks are view root even = tree_of_root rows notes height n are (subst (λ these. IsRoot these n) (sym view) root) even
 
-pub clock_given : (rows : List (List ℕ)) (notes : List Note) (height n : ℕ) (clocks : Clocks) → clocks_of rows notes height ≡ clocks → IsRoot clocks n → clock_stands rows notes height 15 n ≡ true
+pub clock_given : (rows : List (List ℕ)) (notes : List Note) (height n : ℕ) (clocks : Clocks) → clocks_of rows notes height ≡ clocks → IsRoot clocks n → clock_stands rows notes height 16 n ≡ true
 clock_given rows notes height n clocks view root = clock_of_root rows notes height n (subst (λ these. IsRoot these n) (sym view) root)
 
 pub given_keep : (old new : List (List ℕ)) (ns ns' : List Note) (height : ℕ) (clocks : Clocks) → AreTrees old height → clocks_of old ns height ≡ clocks → rows.Keeps old new →

@@ -6,9 +6,9 @@ use Rattle.wire_clocks.specs.Rows.{IsZero}
 use Rattle.wire_clocks.specs.Notes.{clock_number, clock_stands}
 use Rattle.wire_clocks.specs.ClockTrees.{Clock, Clocks}
 
--- what stands at a root: at most 15 notes above a tree are a clock
+-- what stands at a root: at most 16 notes above a tree are a clock
 abbrev pub clock_at : List (List ℕ) → List Note → ℕ → ℕ → Clock
-clock_at rows notes height root = record { numbers = map (clock_number rows notes height 15 root) (range_with_len 0 (16 ^ height)); stays = clock_stands rows notes height 15 root }
+clock_at rows notes height root = record { numbers = map (clock_number rows notes height 16 root) (range_with_len 0 (16 ^ height)); stays = clock_stands rows notes height 16 root }
 
 -- what the trees of this height and the notes stand for
 abbrev pub clocks_of : List (List ℕ) → List Note → ℕ → Clocks

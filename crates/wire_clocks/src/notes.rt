@@ -78,11 +78,11 @@ pub(crate) fn number_at(
 ) -> u32
     requires levels { levels ≤ 8 }
     requires zero { IsZero rows.now }
-    ensures { result ≡ clock_number rows.now notes.now levels 15 root process }
+    ensures { result ≡ clock_number rows.now notes.now levels 16 root process }
 {
     let mut at = root;
     let mut least: u32 = 0;
-    let mut left: u32 = 15;
+    let mut left: u32 = 16;
     'down: while let Some(note) = next_note(notes, left, at) {
         least = raise_number(note, process, least);
         at = note.before;
@@ -105,14 +105,14 @@ fn is_low(notes: &[Note], left: u32, root: u32) -> bool
 /// Whether a note of a process may stand above a clock, as its notes are of the same block of 16 processes: so all of
 /// them cost one path when they are put into the tree.
 fn takes_note(notes: &[Note], root: u32, process: u32) -> bool
-    ensures { IsTrue result → (rows : List (List ℕ)) → (height : ℕ) → clock_stands rows notes.now height 15 root ≡ true →
-        clock_stands rows notes.now height 14 root ≡ true }
+    ensures { IsTrue result → (rows : List (List ℕ)) → (height : ℕ) → clock_stands rows notes.now height 16 root ≡ true →
+        clock_stands rows notes.now height 15 root ≡ true }
 {
     let near = match note_at(notes, root) {
         None => true,
         Some(note) => note.process / 16 == process / 16,
     };
-    near && is_low(notes, 14, root)
+    near && is_low(notes, 15, root)
 }
 
 /// A tree as it is, with nothing to be raised.
@@ -213,16 +213,16 @@ pub(crate) fn flatten(
     requires levels { levels ≤ 8 }
     requires high { 0 < levels }
     requires zero { IsZero rows.old.items }
-    requires root { clock_stands rows.old.items notes.now levels 15 root ≡ true }
+    requires root { clock_stands rows.old.items notes.now levels 16 root ≡ true }
     ensures keeps { Keeps rows.old.items rows.new.items }
     ensures tree { IfOk result (λ t. IsTree rows.new.items levels t) }
     ensures says { IfOk result (λ t. (q : ℕ) → q < 16 ^ levels → tree_says rows.new.items levels t q ≡
-        clock_number rows.old.items notes.now levels 15 root q) }
+        clock_number rows.old.items notes.now levels 16 root q) }
 {
     if root % 2 == 0 {
         return Ok(root / 2);
     }
-    let raised = rise(rows, notes, levels, 15, root)?;
+    let raised = rise(rows, notes, levels, 16, root)?;
     raise_block(rows, levels, raised.tree, raised.block, &raised.least)
 }
 
@@ -237,11 +237,11 @@ pub(crate) fn shorten(
     requires levels { levels ≤ 8 }
     requires high { 0 < levels }
     requires zero { IsZero rows.old.items }
-    requires root { clock_stands rows.old.items notes.now levels 15 root ≡ true }
+    requires root { clock_stands rows.old.items notes.now levels 16 root ≡ true }
     ensures keeps { Keeps rows.old.items rows.new.items }
-    ensures stands { IfOk result (λ r. clock_stands rows.new.items notes.now levels 14 r ≡ true) }
-    ensures says { IfOk result (λ r. (q : ℕ) → q < 16 ^ levels → clock_number rows.new.items notes.now levels 14 r q ≡
-        clock_number rows.old.items notes.now levels 15 root q) }
+    ensures stands { IfOk result (λ r. clock_stands rows.new.items notes.now levels 15 r ≡ true) }
+    ensures says { IfOk result (λ r. (q : ℕ) → q < 16 ^ levels → clock_number rows.new.items notes.now levels 15 r q ≡
+        clock_number rows.old.items notes.now levels 16 root q) }
 {
     if takes_note(notes, root, process) {
         return Ok(root);

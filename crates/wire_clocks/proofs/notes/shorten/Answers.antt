@@ -9,15 +9,15 @@ use Rattle.wire_clocks.proofs.notes.shorten.Goals as goal
 pub returns-then-takes_note-clause-says : goal.returns-then-takes_note-clause-says
 returns-then-takes_note-clause-says c = λ q low.
     let rows = c.args.rows.now.items in
-    sym (low_number rows c.args.notes.now c.args.levels q 14 c.args.root (c.takes_note.ensures c.if-takes_note.true rows c.args.levels c.requires.root))
+    sym (low_number rows c.args.notes.now c.args.levels q 15 c.args.root (c.takes_note.ensures c.if-takes_note.true rows c.args.levels c.requires.root))
 
 pub returns-clause-stands : goal.returns-clause-stands
 returns-clause-stands c =
     let new = c.flatten.new.rows.items in
     let notes = c.args.notes.now in
     let height = c.args.levels in
-    IfOk-weaker c.root_of.result (IsTopOf c.in_ok-tree.tree) (λ r. clock_stands new notes height 14 r ≡ true)
-    (λ r top. tree_stands new notes height 14 r (none_at notes r top.even) ∙ tree_top new height r top.even (subst (IsTree new height) (sym top.half) c.in_ok-tree.ensures.tree)) c.root_of.ensures
+    IfOk-weaker c.root_of.result (IsTopOf c.in_ok-tree.tree) (λ r. clock_stands new notes height 15 r ≡ true)
+    (λ r top. tree_stands new notes height 15 r (none_at notes r top.even) ∙ tree_top new height r top.even (subst (IsTree new height) (sym top.half) c.in_ok-tree.ensures.tree)) c.root_of.ensures
 
 pub returns-clause-says : goal.returns-clause-says
 returns-clause-says c =
@@ -25,5 +25,5 @@ returns-clause-says c =
     let new = c.flatten.new.rows.items in
     let notes = c.args.notes.now in
     let height = c.args.levels in
-    IfOk-weaker c.root_of.result (IsTopOf c.in_ok-tree.tree) (λ r. (q : ℕ) → q < 16 ^ height → clock_number new notes height 14 r q ≡ clock_number old notes height 15 c.args.root q)
-    (λ r top. λ q low. tree_number new notes height 14 r q (none_at notes r top.even) ∙ ap (λ t. tree_says new height t q) top.half ∙ c.in_ok-tree.ensures.says q low) c.root_of.ensures
+    IfOk-weaker c.root_of.result (IsTopOf c.in_ok-tree.tree) (λ r. (q : ℕ) → q < 16 ^ height → clock_number new notes height 15 r q ≡ clock_number old notes height 16 c.args.root q)
+    (λ r top. λ q low. tree_number new notes height 15 r q (none_at notes r top.even) ∙ ap (λ t. tree_says new height t q) top.half ∙ c.in_ok-tree.ensures.says q low) c.root_of.ensures

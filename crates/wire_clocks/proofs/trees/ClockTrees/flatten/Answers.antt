@@ -11,7 +11,7 @@ use Rattle.wire_clocks.proofs.trees.ClockTrees.flatten.Goals as goal
 
 pub flatten-requires-clause-root : goal.flatten-requires-clause-root
 flatten-requires-clause-root c =
-    subst (λ notes. clock_stands c.self.inside.rows.items notes c.self.inside.levels 15 c.args.root ≡ true) (sym c.deref.ensures.value)
+    subst (λ notes. clock_stands c.self.inside.rows.items notes c.self.inside.levels 16 c.args.root ≡ true) (sym c.deref.ensures.value)
     (clock_given c.self.inside.rows.items c.self.inside.notes.items c.self.inside.levels c.args.root c.args.self.now c.self.view_is c.requires)
 
 pub returns-in_err-tree-clause-keeps : goal.returns-in_err-tree-clause-keeps
@@ -35,8 +35,8 @@ returns-clause-says c =
     let height = c.self.inside.levels in
     let root = c.args.root in
     let tree = c.in_ok-tree.tree in
-    let each : (q : ℕ) → q < 16 ^ height → tree_says new height tree q ≡ clock_number old notes height 15 root q = λ q low.
-    c.in_ok-tree.ensures.says q low ∙ ap (λ these. clock_number old these height 15 root q) c.deref.ensures.value in
+    let each : (q : ℕ) → q < 16 ^ height → tree_says new height tree q ≡ clock_number old notes height 16 root q = λ q low.
+    c.in_ok-tree.ensures.says q low ∙ ap (λ these. clock_number old these height 16 root q) c.deref.ensures.value in
     subst (λ clocks. IfOk c.root_of.result (λ r. (q : ℕ) → says (clocks_of new notes height) r q ≡ says clocks root q)) c.self.view_is
     (IfOk-weaker c.root_of.result (IsTopOf tree) (λ r. (q : ℕ) → says (clocks_of new notes height) r q ≡ says (clocks_of old notes height) root q)
     (λ r top. flattened_says old new notes height root tree r c.self.invariant (trees_kept old new height c.self.invariant c.in_ok-tree.ensures.keeps) top each) c.root_of.ensures)

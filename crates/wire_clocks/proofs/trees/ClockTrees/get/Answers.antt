@@ -13,8 +13,8 @@ returns-then-is_within c =
     let height = c.self.inside.levels in
     let root = c.args.root in
     let process = c.args.process in
-    let said : c.number_at.result ≡ clock_number rows notes height 15 root process = c.number_at.ensures
-    ∙ ap (λ these. clock_number these c.deref-then-is_within.result.now height 15 root process) c.deref.ensures.value ∙ ap (λ these. clock_number rows these height 15 root process) c.deref-then-is_within.ensures.value in
+    let said : c.number_at.result ≡ clock_number rows notes height 16 root process = c.number_at.ensures
+    ∙ ap (λ these. clock_number these c.deref-then-is_within.result.now height 16 root process) c.deref.ensures.value ∙ ap (λ these. clock_number rows these height 16 root process) c.deref-then-is_within.ensures.value in
     subst (λ clocks. c.number_at.result ≡ says clocks root process) c.self.view_is
-    (said ∙ sym (cond-true (nat_lt process (16 ^ height)) (clock_number rows notes height 15 root process) 0 (lt-ltb process (16 ^ height) (c.is_within.ensures.0 c.if-is_within.true)))
+    (said ∙ sym (cond-true (nat_lt process (16 ^ height)) (clock_number rows notes height 16 root process) 0 (lt-ltb process (16 ^ height) (c.is_within.ensures.0 c.if-is_within.true)))
     ∙ sym (clock_says rows notes height root process c.self.invariant))
