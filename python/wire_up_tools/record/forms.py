@@ -23,6 +23,17 @@ from wire_up_tools.record.calls import (
     Value,
     ValueKind,
 )
+from wire_up_tools.record.messages import (
+    ANY_RANK,
+    ANY_TAG,
+    FOUND_WAYS,
+    NOT_SAID,
+    PROBE,
+    RECEIVE,
+    SEND,
+    Begun,
+    Came,
+)
 
 WORD = r"[!-~]+"
 VALUE = r"(?:none|text:[!-~]*|long:\d+|bytes:\d+|number:\d+:-?\d+|other:\d+|type:\d+)"
@@ -110,11 +121,6 @@ def read_ranks(text: str) -> Sequence[int]:
     return found
 
 
-def read_wanted(text: Optional[str]) -> Optional[int]:
-    """The source or tag that a receive or a probe asks for; None for any."""
-    return None if text in ("any", None) else int(text or "")
-
-
 # --- calls ---
 
 
@@ -175,18 +181,6 @@ BEGINS = {
         re.compile(rf"unpublish (blocks|nb|own) (-|every|:{WORD}) ({WORD})"),
         lambda it: calls.Unpublish(Ending(it[0]), read_keys(it[1]), read_pairs(it[2])),
     ),
-    "send": Form(
-        re.compile(r"send (\d{1,9}) (-?\d{1,9}) (-?\d{1,18}) (-?\d{1,18})"),
-        lambda it: calls.Send(int(it[0]), int(it[1]), int(it[2]), int(it[3])),
-    ),
-    "receive": Form(
-        re.compile(r"receive (\d{1,9})(?: (any|-?\d{1,9}) (any|-?\d{1,18}))?"),
-        lambda it: calls.Receive(int(it[0]), read_wanted(it[1]), read_wanted(it[2])),
-    ),
-    "probe": Form(
-        re.compile(r"probe (\d{1,9}) (any|-?\d{1,9}) (any|-?\d{1,18})"),
-        lambda it: calls.Probe(int(it[0]), read_wanted(it[1]), read_wanted(it[2])),
-    ),
     "collective": Form(
         re.compile(r"collective (\w+) (\d{1,9})"),
         lambda it: calls.Collective(it[0], int(it[1])),
@@ -194,13 +188,61 @@ BEGINS = {
 }
 
 
+# --- messages ---
+
+SEND_FORM = re.compile(r"send (\d{1,9}) (-?\d{1,9}) (-?\d{1,18}) (-?\d{1,18})")
+RECEIVE_FORM = re.compile(r"receive (\d{1,9})(?: (any|-?\d{1,9}) (any|-?\d{1,18}))?")
+PROBE_FORM = re.compile(r"probe (\d{1,9}) (any|-?\d{1,9}) (any|-?\d{1,18})")
+MESSAGE_END = re.compile(rf"0 (-?\d{{1,9}}) (-?\d{{1,18}}) (-?\d{{1,18}})(?: {FOUND_BY})?")
+FAILED_MESSAGE_END = "1"
+# How a message was found, as a recording says it.
+FINDS: dict[Optional[str], int] = {it.value: n for n, it in enumerate(FOUND_WAYS) if it}
+
+
+def read_wanted(text: Optional[str], any_number: int) -> int:
+    """The source or tag that a receive or a probe asks for."""
+    return any_number if text in ("any", None) else int(text or "")
+
+
+def read_send(text: str) -> Begun:
+    """A message that is sent."""
+    return Begun(SEND, *map(int, match(SEND_FORM, text)))
+
+
+def read_ask(text: str) -> Begun:
+    """A receive or a probe."""
+    is_receive = text.startswith("receive")
+    communicator, source, tag = match(RECEIVE_FORM if is_receive else PROBE_FORM, text)
+    return Begun(
+        RECEIVE if is_receive else PROBE,
+        int(communicator),
+        read_wanted(source, ANY_RANK),
+        read_wanted(tag, ANY_TAG),
+        -1,
+    )
+
+
+# What a record of a message that begins says, by its first word.
+MESSAGES: Mapping[str, Callable[[str], Begun]] = {
+    "send": read_send,
+    "receive": read_ask,
+    "probe": read_ask,
+}
+
+
+def read_came(text: str) -> Optional[Came]:
+    """The message that a receive or a probe got; None where it failed."""
+    if text == FAILED_MESSAGE_END:
+        return None
+    source, tag, size, found_by = match(MESSAGE_END, text)
+    return Came(int(source), int(tag), int(size), FINDS.get(found_by, NOT_SAID))
+
+
 # --- ends of calls ---
 
 STATUS = re.compile(r"(-?\d{1,10})")
 GET_END = re.compile(rf"(-?\d{{1,10}})(?: ({VALUE}))?")
 LOOKUP_END = re.compile(rf"(-?\d{{1,10}}) ({WORD})")
-MESSAGE_END = re.compile(rf"0 (-?\d{{1,9}}) (-?\d{{1,18}}) (-?\d{{1,18}})(?: {FOUND_BY})?")
-FAILED_MESSAGE_END = "1"
 COLLECTIVE_END = re.compile(rf"([01]) (all|none|below|\d+(?:,\d+)*)(?: {FOUND_BY})?")
 
 
@@ -226,14 +268,6 @@ def read_found_by(text: Optional[str]) -> Optional[FoundBy]:
     return FoundBy(text) if text else None
 
 
-def read_message_end(text: str) -> End:
-    """The end of a receive or a probe."""
-    if text == FAILED_MESSAGE_END:
-        return End(int(text))
-    source, tag, size, found_by = match(MESSAGE_END, text)
-    return calls.MessageEnd(0, int(source), int(tag), int(size), read_found_by(found_by))
-
-
 def read_sources(text: str) -> Union[Sources, tuple[int, ...]]:
     """Those whose data a process waited for in a collective."""
     return tuple(map(int, text.split(","))) if text[0].isdigit() else Sources(text)
@@ -248,8 +282,6 @@ def read_collective_end(text: str) -> End:
 ENDS: Mapping[str, Callable[[str], End]] = {
     "get": read_get_end,
     "lookup": read_lookup_end,
-    "receive": read_message_end,
-    "probe": read_message_end,
     "collective": read_collective_end,
 }
 
