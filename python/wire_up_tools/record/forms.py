@@ -190,9 +190,13 @@ BEGINS = {
 
 # --- messages ---
 
-SEND_FORM = re.compile(r"send (\d{1,9}) (-?\d{1,9}) (-?\d{1,18}) (-?\d{1,18})")
-RECEIVE_FORM = re.compile(r"receive (\d{1,9})(?: (any|-?\d{1,9}) (any|-?\d{1,18}))?")
-PROBE_FORM = re.compile(r"probe (\d{1,9}) (any|-?\d{1,9}) (any|-?\d{1,18})")
+MESSAGE = re.compile(
+    r"send (\d{1,9}) (-?\d{1,9}) (-?\d{1,18}) (-?\d{1,18})"
+    r"|receive (\d{1,9})(?: (any|-?\d{1,9}) (any|-?\d{1,18}))?"
+    r"|probe (\d{1,9}) (any|-?\d{1,9}) (any|-?\d{1,18})"
+)
+# How many groups of it come up to the last one of each kind, but for a receive of any message.
+OF_SEND, OF_RECEIVE, OF_PROBE = 4, 7, 10
 MESSAGE_END = re.compile(rf"0 (-?\d{{1,9}}) (-?\d{{1,18}}) (-?\d{{1,18}})(?: {FOUND_BY})?")
 FAILED_MESSAGE_END = "1"
 # How a message was found, as a recording says it.
@@ -204,30 +208,20 @@ def read_wanted(text: Optional[str], any_number: int) -> int:
     return any_number if text in ("any", None) else int(text or "")
 
 
-def read_send(text: str) -> Begun:
-    """A message that is sent."""
-    return Begun(SEND, *map(int, match(SEND_FORM, text)))
-
-
-def read_ask(text: str) -> Begun:
-    """A receive or a probe."""
-    is_receive = text.startswith("receive")
-    communicator, source, tag = match(RECEIVE_FORM if is_receive else PROBE_FORM, text)
-    return Begun(
-        RECEIVE if is_receive else PROBE,
-        int(communicator),
-        read_wanted(source, ANY_RANK),
-        read_wanted(tag, ANY_TAG),
-        -1,
+def read_message(text: str) -> Optional[Begun]:
+    """What a call that begins sends, receives or probes for; None of another call."""
+    read = MESSAGE.fullmatch(text)
+    if not read:
+        return None
+    if read.lastindex == OF_SEND:
+        communicator, peer, tag, size = read.groups()[:OF_SEND]
+        return SEND, int(communicator), int(peer), int(tag), int(size)
+    is_receive = read.lastindex != OF_PROBE
+    communicator, source, tag = read.groups()[OF_SEND:OF_RECEIVE] if is_receive else (
+        read.groups()[OF_RECEIVE:]
     )
-
-
-# What a record of a message that begins says, by its first word.
-MESSAGES: Mapping[str, Callable[[str], Begun]] = {
-    "send": read_send,
-    "receive": read_ask,
-    "probe": read_ask,
-}
+    wanted = read_wanted(source, ANY_RANK), read_wanted(tag, ANY_TAG)
+    return RECEIVE if is_receive else PROBE, int(communicator), *wanted, -1
 
 
 def read_came(text: str) -> Optional[Came]:
@@ -235,7 +229,7 @@ def read_came(text: str) -> Optional[Came]:
     if text == FAILED_MESSAGE_END:
         return None
     source, tag, size, found_by = match(MESSAGE_END, text)
-    return Came(int(source), int(tag), int(size), FINDS.get(found_by, NOT_SAID))
+    return int(source), int(tag), int(size), FINDS.get(found_by, NOT_SAID)
 
 
 # --- ends of calls ---

@@ -5,7 +5,7 @@ A large recording has millions of them: in arrays each takes some fifty bytes.
 import functools
 from array import array
 from collections.abc import Sequence
-from typing import NamedTuple, Optional
+from typing import Optional
 
 from wire_up_tools.record.calls import (
     Call,
@@ -31,24 +31,12 @@ FOUND_WAYS = (None, None, FoundBy.WAIT, FoundBy.POLL, FoundBy.SOME)
 KEPT = 1 << 12
 
 
-class Begun(NamedTuple):
-    """What a call does that sends, receives or probes. `size` is that of a message that is sent,
-    and -1 of another."""
-
-    verb: int
-    communicator: int
-    peer: int
-    tag: int
-    size: int
-
-
-class Came(NamedTuple):
-    """The message that a receive or a probe got. `size` is -1 if it isn't known."""
-
-    source: int
-    tag: int
-    size: int
-    found_by: int
+# What a call does: its verb, its communicator, the rank and the tag that it names, and the size of
+# what it sends, or -1.
+Begun = tuple[int, int, int, int, int]
+# The message that a receive or a probe got: its source, its tag, its size, or -1 where that isn't
+# known, and how it was found.
+Came = tuple[int, int, int, int]
 
 
 def find_wanted(number: int, any_number: int) -> Optional[int]:
@@ -117,8 +105,8 @@ class Messages:
         """Takes how a call ended, at a line, and the message that came."""
         self.ends[number] = at
         if came:
-            self.came_from[number], self.came_tags[number], self.sizes[number] = came[:3]
-            self.found_by[number] = came.found_by
+            self.came_from[number], self.came_tags[number], self.sizes[number], how = came
+            self.found_by[number] = how
         if status:
             self.failed[number] = status
 

@@ -13,7 +13,6 @@ from wire_up_tools.failures import Refused
 from wire_up_tools.limits import Limits
 from wire_up_tools.record.calls import Call
 from wire_up_tools.record.forms import (
-    MESSAGES,
     WORD,
     Groups,
     decode,
@@ -22,6 +21,7 @@ from wire_up_tools.record.forms import (
     read_begin,
     read_came,
     read_end,
+    read_message,
     read_ranks,
     read_status_end,
 )
@@ -49,9 +49,9 @@ HEAD = (
 )
 # A record: its sign (+ a call begins, - it ends, = all else), the number of the call, the thread,
 # the time, the number of its place in the program, and what it says.
-RECORD = re.compile(rf"([-+=]) ({NUMBER}) ({NUMBER}) \d{{1,18}}\.\d{{6}} (?:@(\d{{1,9}}) )?(.+)")
+RECORD = re.compile(rf"([-+=]) ({NUMBER}) ({NUMBER}) \d{{1,18}}\.\d{{6}} (?:@(\d{{1,9}}) )?(.+)\n")
 FOREIGN = re.compile(rb"[^ -~\n]")
-LOST = "lost"
+LOST = "lost\n"
 NO_RECORD = "isn't a record"
 
 
@@ -239,10 +239,10 @@ class Records:
         self, call: int, number: int, thread: str, place: Optional[str], text: str
     ) -> None:
         """Takes a call that begins. Raises Refused, ValueError or KeyError."""
-        read = MESSAGES.get(text.partition(" ")[0])
-        if read:
+        message = read_message(text)
+        if message:
             index = 2 * len(self.messages)
-            self.messages.begin(read(text), number, thread, place)
+            self.messages.begin(message, number, thread, place)
         else:
             index = 2 * len(self.calls) + 1
             thread = self.words.setdefault(thread, thread)
@@ -318,7 +318,7 @@ def read_head(path: str, lines: Sequence[str]) -> Head:
     """The head of a recording by its lines. Raises Refused."""
     found: list[str] = []
     for number, (form, why) in enumerate(HEAD, 1):
-        read = re.fullmatch(form, lines[number - 1]) if number <= len(lines) else None
+        read = re.fullmatch(f"{form}\n", lines[number - 1]) if number <= len(lines) else None
         if not read:
             refuse(path, number, why)
         found += read.groups()
@@ -347,10 +347,9 @@ def read_recording(path: str, data: bytes) -> Recording:
     if foreign:
         number = data.count(b"\n", 0, foreign.start()) + 1
         refuse(path, number, "has a byte that no recording has")
-    lines = io.TextIOWrapper(io.BytesIO(data), "ascii", "replace", newline="\n")
-    whole = (it[:-1] for it in lines if it.endswith("\n"))
-    head, records = read_head(path, [*itertools.islice(whole, len(HEAD))]), Records(path)
-    for number, line in enumerate(whole, len(HEAD) + 1):
+    lines = io.TextIOWrapper(io.BytesIO(data[:end]), "ascii", newline="\n")
+    head, records = read_head(path, [*itertools.islice(lines, len(HEAD))]), Records(path)
+    for number, line in enumerate(lines, len(HEAD) + 1):
         records.read(number, line)
     return Recording(
         path=path,
