@@ -4,7 +4,15 @@ import tempfile
 import unittest
 from collections.abc import Mapping, Sequence
 
-from tapes import Tape, run_recorder, make_world, write_file, write_plan_of
+from tapes import (
+    Tape,
+    in_world,
+    make_world,
+    read_scripts,
+    run_recorder,
+    write_file,
+    write_plan_of,
+)
 
 FINE = Tape(0).call("put global k text:v").text()
 RANKS = Tape(0).text(), Tape(1).text()
@@ -94,6 +102,25 @@ class RefusedRecordingsTest(unittest.TestCase):
     def test_begins_and_ends(self) -> None:
         self.refuse_one(FINE.replace(b"- 1 1", b"- 7 1"), "line 6 ends a call that isn't open")
         self.refuse_one(twice(FINE.splitlines(True)), "begins a call that is open")
+
+    def test_numbers_of_calls(self) -> None:
+        """A call can have any number that no open call has."""
+        tape = in_world(0, 1)
+        for number in (10 ** 17, 7, 5, 7000, 6, 10 ** 17, 7):
+            tape.line("+", number, "put global k text:v")
+            tape.line("-", number, "0")
+        self.assertEqual(len(read_scripts(write_plan_of([tape]))[0]), 7)
+        for number in (1, 2, 6000, 10 ** 17):
+            with self.subTest(number=number):
+                tape = in_world(0, 1)
+                for _ in range(2):
+                    tape.line("+", number, "send 1 0 0 4")
+                    tape.line("+", number + 1, "commit")
+                self.refuse_one(tape.text(), "line 9 begins a call that is open")
+                tape = in_world(0, 1)
+                for _ in range(2):
+                    tape.line("-", number, "0")
+                self.refuse_one(tape.text(), "line 7 ends a call that isn't open")
 
     def test_ranks(self) -> None:
         first, second = RANKS

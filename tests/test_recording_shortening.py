@@ -1,5 +1,6 @@
 """Tests what a plan of a long recording leaves out."""
 import time
+import tracemalloc
 import unittest
 
 from order_case import BARRIER, COLLECTS, MARK, SENT, WAITS
@@ -8,6 +9,8 @@ from tapes import make_world, read_scripts, write_plan_of
 # How many messages have tags of their own, and how long their plan may take, in seconds of a
 # processor: some ten times what it takes.
 TAGS, MOST_SECONDS = 20_000, 30
+# How many bytes each of them may take: twice what it takes.
+MOST_BYTES = 550
 
 
 class ShorteningTest(unittest.TestCase):
@@ -41,6 +44,17 @@ class ShorteningTest(unittest.TestCase):
         self.assertLess(time.process_time() - before, MOST_SECONDS)
         self.assertEqual(read_scripts(plan), [[], ["publish m x"], ["lookup m"]])
         self.assertIn(f"{TAGS} lines of MPI's order, since they can't change a finding", plan)
+
+    def test_memory_of_a_tag_for_each_message(self) -> None:
+        tapes = make_world(2)
+        for tag in range(TAGS):
+            tapes[1].begin(f"send 1 0 {tag} 4")
+            tapes[0].call(f"receive 1 any {tag}", f"0 1 {tag} 4")
+        texts = [it.text() for it in tapes]
+        tracemalloc.start()
+        self.addCleanup(tracemalloc.stop)
+        write_plan_of(texts)
+        self.assertLess(tracemalloc.get_traced_memory()[1] / TAGS, MOST_BYTES)
 
     def test_many_gets(self) -> None:
         """Those of what is surely there go, and those alone: not one that waits for something, one

@@ -23,6 +23,17 @@ from wire_up_tools.record.calls import (
     Value,
     ValueKind,
 )
+from wire_up_tools.record.messages import (
+    ANY_RANK,
+    ANY_TAG,
+    FOUND_WAYS,
+    NOT_SAID,
+    PROBE,
+    RECEIVE,
+    SEND,
+    Begun,
+    Came,
+)
 
 WORD = r"[!-~]+"
 VALUE = r"(?:none|text:[!-~]*|long:\d+|bytes:\d+|number:\d+:-?\d+|other:\d+|type:\d+)"
@@ -110,11 +121,6 @@ def read_ranks(text: str) -> Sequence[int]:
     return found
 
 
-def read_wanted(text: Optional[str]) -> Optional[int]:
-    """The source or tag that a receive or a probe asks for; None for any."""
-    return None if text in ("any", None) else int(text or "")
-
-
 # --- calls ---
 
 
@@ -175,18 +181,6 @@ BEGINS = {
         re.compile(rf"unpublish (blocks|nb|own) (-|every|:{WORD}) ({WORD})"),
         lambda it: calls.Unpublish(Ending(it[0]), read_keys(it[1]), read_pairs(it[2])),
     ),
-    "send": Form(
-        re.compile(r"send (\d{1,9}) (-?\d{1,9}) (-?\d{1,18}) (-?\d{1,18})"),
-        lambda it: calls.Send(int(it[0]), int(it[1]), int(it[2]), int(it[3])),
-    ),
-    "receive": Form(
-        re.compile(r"receive (\d{1,9})(?: (any|-?\d{1,9}) (any|-?\d{1,18}))?"),
-        lambda it: calls.Receive(int(it[0]), read_wanted(it[1]), read_wanted(it[2])),
-    ),
-    "probe": Form(
-        re.compile(r"probe (\d{1,9}) (any|-?\d{1,9}) (any|-?\d{1,18})"),
-        lambda it: calls.Probe(int(it[0]), read_wanted(it[1]), read_wanted(it[2])),
-    ),
     "collective": Form(
         re.compile(r"collective (\w+) (\d{1,9})"),
         lambda it: calls.Collective(it[0], int(it[1])),
@@ -194,13 +188,55 @@ BEGINS = {
 }
 
 
+# --- messages ---
+
+MESSAGE = re.compile(
+    r"send (\d{1,9}) (-?\d{1,9}) (-?\d{1,18}) (-?\d{1,18})"
+    r"|receive (\d{1,9})(?: (any|-?\d{1,9}) (any|-?\d{1,18}))?"
+    r"|probe (\d{1,9}) (any|-?\d{1,9}) (any|-?\d{1,18})"
+)
+# How many groups of it come up to the last one of each kind, but for a receive of any message.
+OF_SEND, OF_RECEIVE, OF_PROBE = 4, 7, 10
+MESSAGE_END = re.compile(rf"0 (-?\d{{1,9}}) (-?\d{{1,18}}) (-?\d{{1,18}})(?: {FOUND_BY})?")
+FAILED_MESSAGE_END = "1"
+# How a message was found, as a recording says it.
+FINDS: dict[Optional[str], int] = {it.value: n for n, it in enumerate(FOUND_WAYS) if it}
+
+
+def read_wanted(text: Optional[str], any_number: int) -> int:
+    """The source or tag that a receive or a probe asks for."""
+    return any_number if text in ("any", None) else int(text or "")
+
+
+def read_message(text: str) -> Optional[Begun]:
+    """What a call that begins sends, receives or probes for; None of another call."""
+    read = MESSAGE.fullmatch(text)
+    if not read:
+        return None
+    if read.lastindex == OF_SEND:
+        communicator, peer, tag, size = read.groups()[:OF_SEND]
+        return SEND, int(communicator), int(peer), int(tag), int(size)
+    is_receive = read.lastindex != OF_PROBE
+    communicator, source, tag = read.groups()[OF_SEND:OF_RECEIVE] if is_receive else (
+        read.groups()[OF_RECEIVE:]
+    )
+    wanted = read_wanted(source, ANY_RANK), read_wanted(tag, ANY_TAG)
+    return RECEIVE if is_receive else PROBE, int(communicator), *wanted, -1
+
+
+def read_came(text: str) -> Optional[Came]:
+    """The message that a receive or a probe got; None where it failed."""
+    if text == FAILED_MESSAGE_END:
+        return None
+    source, tag, size, found_by = match(MESSAGE_END, text)
+    return int(source), int(tag), int(size), FINDS.get(found_by, NOT_SAID)
+
+
 # --- ends of calls ---
 
 STATUS = re.compile(r"(-?\d{1,10})")
 GET_END = re.compile(rf"(-?\d{{1,10}})(?: ({VALUE}))?")
 LOOKUP_END = re.compile(rf"(-?\d{{1,10}}) ({WORD})")
-MESSAGE_END = re.compile(rf"0 (-?\d{{1,9}}) (-?\d{{1,18}}) (-?\d{{1,18}})(?: {FOUND_BY})?")
-FAILED_MESSAGE_END = "1"
 COLLECTIVE_END = re.compile(rf"([01]) (all|none|below|\d+(?:,\d+)*)(?: {FOUND_BY})?")
 
 
@@ -226,14 +262,6 @@ def read_found_by(text: Optional[str]) -> Optional[FoundBy]:
     return FoundBy(text) if text else None
 
 
-def read_message_end(text: str) -> End:
-    """The end of a receive or a probe."""
-    if text == FAILED_MESSAGE_END:
-        return End(int(text))
-    source, tag, size, found_by = match(MESSAGE_END, text)
-    return calls.MessageEnd(0, int(source), int(tag), int(size), read_found_by(found_by))
-
-
 def read_sources(text: str) -> Union[Sources, tuple[int, ...]]:
     """Those whose data a process waited for in a collective."""
     return tuple(map(int, text.split(","))) if text[0].isdigit() else Sources(text)
@@ -248,8 +276,6 @@ def read_collective_end(text: str) -> End:
 ENDS: Mapping[str, Callable[[str], End]] = {
     "get": read_get_end,
     "lookup": read_lookup_end,
-    "receive": read_message_end,
-    "probe": read_message_end,
     "collective": read_collective_end,
 }
 

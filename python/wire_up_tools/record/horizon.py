@@ -7,11 +7,11 @@ from collections.abc import Iterator, Mapping, Sequence
 from dataclasses import dataclass, field
 
 from wire_up_tools.limits import VERSION_1
-from wire_up_tools.record.calls import Call
 from wire_up_tools.record.draft import Part
+from wire_up_tools.record.groups import Group
 from wire_up_tools.record.meetings import JointCalls
+from wire_up_tools.record.messages import NO_LINE
 from wire_up_tools.record.notes import Notes
-from wire_up_tools.record.open_groups import OpenGroup
 from wire_up_tools.record.processes import Process
 
 # How often all links are looked at before the search is given up: then everything can matter.
@@ -28,19 +28,19 @@ class Horizon:
         """Whether a line of the recording of a process can matter."""
         return not self.last or at <= self.last[process]
 
-    def has_end(self, process: Process, call: Call) -> bool:
-        """Whether what a process learns by the end of a call can matter."""
-        return call.ends is not None and self.has(process, call.ends)
+    def has_end(self, process: Process, ends: int) -> bool:
+        """Whether what a process learns by the end of a call at a line can matter."""
+        return ends != NO_LINE and self.has(process, ends)
 
-    def choose_groups(self, groups: Sequence[OpenGroup], notes: Notes) -> Sequence[OpenGroup]:
+    def choose_groups(self, groups: Sequence[Group], notes: Notes) -> Sequence[Group]:
         """The groups of which a receive or probe can matter. Notes how many lines the others would
         have."""
         chosen, useless = [], 0
         for it in groups:
-            if any(self.has_end(it.target, got.call) for got in it.group.asked):
+            if any(self.has_end(it.target, ends) for ends in it.ends()):
                 chosen.append(it)
             else:
-                useless += len(it.group.asked)
+                useless += len(it.asked)
         note_useless(useless, notes)
         return chosen
 
@@ -98,11 +98,6 @@ class Links:
                     yield Link(line.process, line.at, it.process, it.at)
 
 
-def reaches(last: Mapping[Process, int], target: Process, call: Call) -> bool:
-    """Whether the end of a call is before the last line of its process that can matter."""
-    return call.ends is not None and call.ends <= last[target]
-
-
 def extend(last: dict[Process, int], process: Process, at: int) -> bool:
     """Puts the last line of a process further on, if it has to. Answers whether it had to."""
     if at <= last[process]:
@@ -111,20 +106,26 @@ def extend(last: dict[Process, int], process: Process, at: int) -> bool:
     return True
 
 
-def extend_by_group(last: dict[Process, int], found: OpenGroup) -> bool:
-    """Takes what processes learn by the messages of a group."""
-    group, target, is_further = found.group, found.target, False
-    if not group.is_certain:
-        if any(reaches(last, target, it.call) for it in group.asked):
-            for stream, sends in group.streams.items():
-                is_further |= extend(last, found.peers[stream.source], sends[-1].begins)
-        return is_further
-    for send, got in group.pairs():
-        source = found.peers[got.stream.source]
-        if reaches(last, target, got.call):
-            is_further |= extend(last, source, send.begins)
-        if send.ends and send.ends <= last[source]:
-            is_further |= extend(last, target, got.call.begins)
+def extend_by_group(last: dict[Process, int], group: Group) -> bool:
+    """Takes what processes learn by the messages of a group that is certain."""
+    source, target, is_further = group.source, group.target, False
+    sent, own = source.recording.messages, target.recording.messages
+    for send, number in group.pairs():
+        if NO_LINE < own.ends[number] <= last[target]:
+            is_further |= extend(last, source, sent.begins[send])
+        if NO_LINE < sent.ends[send] <= last[source]:
+            is_further |= extend(last, target, own.begins[number])
+    return is_further
+
+
+def extend_by_open_group(last: dict[Process, int], group: Group) -> bool:
+    """Takes what processes learn by the messages of a group that could have come otherwise."""
+    letters, is_further = group.letters, False
+    if any(NO_LINE < ends <= last[group.target] for ends in group.ends()):
+        for stream in group.streams:
+            sender = letters.find_sender(stream)
+            begins = sender.recording.messages.begins[letters.sent.of_stream(stream)[-1]]
+            is_further |= extend(last, sender, begins)
     return is_further
 
 
@@ -137,16 +138,21 @@ def extend_by_collective(last: dict[Process, int], meeting: JointCalls) -> bool:
 
 
 def find_horizon(
-    processes: Sequence[Process], links: Links, groups: Sequence[OpenGroup]
+    processes: Sequence[Process],
+    links: Links,
+    certain: Sequence[Group],
+    open_groups: Sequence[Group],
 ) -> Horizon:
     """Up to where processes do what can matter; everywhere, if that are few calls."""
-    count = sum(it.group.message_count for it in groups) + len(links.collectives)
+    count = sum(it.message_count for them in (certain, open_groups) for it in them)
+    count += len(links.collectives)
     if count <= VERSION_1.calls:
         return Horizon()
     last = {**dict.fromkeys(processes, 0), **links.find_first()}
     of_pmix = list(links.links())
     for _ in range(MOST_ROUNDS):
-        further = [extend_by_group(last, it) for it in reversed(groups)]
+        further = [extend_by_open_group(last, it) for it in reversed(open_groups)]
+        further += [extend_by_group(last, it) for it in reversed(certain)]
         further += [extend_by_collective(last, it) for it in reversed(links.collectives)]
         further += [
             extend(last, it.source, it.tells) for it in of_pmix if it.learns <= last[it.target]

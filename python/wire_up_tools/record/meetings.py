@@ -37,11 +37,34 @@ def join_calls(
         yield JointCalls(members, {it: them[n] for it, them in calls.items() if n < len(them)})
 
 
-def is_any_inside(bounds: Sequence[int], call: Call) -> bool:
-    """Whether one of the lines of a recording, which are in order, is between the two at which a
-    call begins and ends."""
-    ends = call.ends or sys.maxsize
-    return bisect.bisect(bounds, call.begins) < bisect.bisect_left(bounds, ends)
+@dataclass
+class Bounds:
+    """At which lines of the recording of each process calls begin and end, found out where that is
+    asked for: of MPI's calls and, where `of_pmix` doesn't say where they are, of all of PMIx."""
+
+    of_pmix: Optional[Mapping[Process, Sequence[int]]] = None
+    found: dict[Process, Sequence[int]] = field(default_factory=dict)
+
+    def find(self, process: Process) -> Sequence[int]:
+        """The lines of the recording of one process, in order, but for those of messages."""
+        if process not in self.found:
+            every = process.recording.calls
+            calls = [it for it in every if self.of_pmix is None or not it.is_of_pmix]
+            bounds = [it.begins for it in calls] + [it.ends for it in calls if it.ends]
+            self.found[process] = sorted([*bounds, *(self.of_pmix or {}).get(process, ())])
+        return self.found[process]
+
+    def has_inside(self, process: Process, call: Call) -> bool:
+        """Whether a call of a process begins or ends while another one is open."""
+        messages, ends = process.recording.messages, call.ends or sys.maxsize
+        return any(
+            bisect.bisect(them, call.begins) < bisect.bisect_left(them, ends)
+            for them in (self.find(process), messages.begins, messages.ends_in_order)
+        )
+
+    def has_any(self, meeting: JointCalls) -> bool:
+        """Whether a process has one while it is in a call that several made."""
+        return any(self.has_inside(it, call) for it, call in meeting.calls.items())
 
 
 @dataclass

@@ -11,13 +11,13 @@
   orders nothing with --strict. Nor does a message whose peer may have been named by one of any
   source, or by the first of several requests.
 
-Which receive got which message is found by messages.py; where that isn't certain, nothing is
+Which receive got which message is found by grouping.py; where that isn't certain, nothing is
 ordered, and the head of the plan says so.
 """
-from collections.abc import Iterable, Sequence
+from collections.abc import Iterable, Iterator, Sequence
 from dataclasses import dataclass, replace
 
-from wire_up_tools.record.calls import MPI_CALLS, Call
+from wire_up_tools.record.calls import Call
 from wire_up_tools.record.collectives import (
     Collectives,
     count_awaited,
@@ -28,11 +28,13 @@ from wire_up_tools.record.collectives import (
 )
 from wire_up_tools.record.communicators import Communicators, find_communicators
 from wire_up_tools.record.draft import Line, Ordered, Part
+from wire_up_tools.record.grouping import find_groups
+from wire_up_tools.record.groups import Group
 from wire_up_tools.record.horizon import Horizon, Links, find_horizon, note_useless
-from wire_up_tools.record.meetings import MOST_NAMED, JointCalls, Sets, is_any_inside
-from wire_up_tools.record.messages import find_inboxes
+from wire_up_tools.record.inboxes import find_inboxes
+from wire_up_tools.record.meetings import MOST_NAMED, Bounds, JointCalls, Sets
+from wire_up_tools.record.messages import RECEIVE
 from wire_up_tools.record.names import MessageNames, Spelling
-from wire_up_tools.record.open_groups import OpenGroup
 from wire_up_tools.record.pmix_fences import PmixFences
 from wire_up_tools.record.processes import Process, Processes
 from wire_up_tools.record.unseen import has_unknown_sends, note_unfit_messages, note_unseen
@@ -47,7 +49,7 @@ class MessageOrder:
     from `names`. What is past the `horizon` isn't ordered."""
 
     ordered: Ordered
-    open_groups: Sequence[OpenGroup]
+    open_groups: Sequence[Group]
     names: MessageNames
     horizon: Horizon
 
@@ -74,33 +76,33 @@ def order_messages(
     unknown = {it for it in processes.all if has_unknown_sends(it.recording)}
     lacking = {it for it in processes.all if not it.recording.has_finalized} | unknown
     inboxes = find_inboxes(processes, communicators)
-    certain: list[OpenGroup] = []
-    open_groups: list[OpenGroup] = []
+    certain: list[Group] = []
+    open_groups: list[Group] = []
     ordered = Ordered(notes=inboxes.notes)
     note_unseen(processes, ordered.notes)
-    for (_, target), inbox in inboxes.found.items():
+    for inbox in inboxes.found.values():
         is_cut = any(it in lacking for it in inbox.peers)
         is_open = not unknown.isdisjoint(inbox.peers)
-        groups = inbox.groups()
-        note_unfit_messages(target, inbox, groups, ordered.notes)
+        letters = inbox.sort()
+        groups = find_groups(letters)
+        note_unfit_messages(letters, groups, ordered.notes)
         for group in groups:
-            found = OpenGroup(group, target, inbox.peers)
             is_matched = group.is_matched(is_cut) and not is_open
-            if not is_matched or (group.is_from_any and is_cut):
+            if not is_matched or (is_cut and group.is_from_any):
                 left_out = ordered.notes.left_out
-                left_out["messages that can't be matched for certain"] += group.receive_count
+                left_out["messages that can't be matched for certain"] += group.match.receive_count
             elif group.is_certain:
-                certain.append(found)
+                certain.append(group)
             else:
-                open_groups.append(found)
-    horizon = find_horizon(processes.all, links, [*certain, *open_groups])
+                open_groups.append(group)
+    horizon = find_horizon(processes.all, links, certain, open_groups)
     for found in certain:
         order_pairs(found, horizon, names, is_strict, ordered)
     return MessageOrder(ordered, open_groups, names, horizon)
 
 
 def order_pairs(
-    found: OpenGroup, horizon: Horizon, names: MessageNames, is_strict: bool, ordered: Ordered
+    group: Group, horizon: Horizon, names: MessageNames, is_strict: bool, ordered: Ordered
 ) -> None:
     """Orders messages and receives that are the same pairs in every run, besides what is ordered.
 
@@ -108,56 +110,49 @@ def order_pairs(
     before theirs. That is less order for the receiver, but would be more for a sender that waited
     for its receive: so then it has none.
     """
-    group, target, useless = found.group, found.target, 0
-    is_all = group.message_count == group.receive_count and not group.lacks
-    is_chosen = False
-    for send, got in group.pairs():
-        source = found.peers[got.stream.source]
-        if source is target:
-            continue
-        is_chosen = is_chosen or send in group.chosen or got.call in group.chosen
-        is_luck = is_chosen or got.call.is_left_to_luck
-        ordered.left_to_luck += is_luck
-        if is_luck and is_strict:
-            continue
-        ordered.count += 1
-        waits = bool(send.end and is_all and got.is_receive)
-        if not (horizon.has_end(target, got.call) or waits and horizon.has_end(source, send)):
+    source, target = group.source, group.target
+    if source is target:
+        return
+    sent, own = source.recording.messages, target.recording.messages
+    is_all, useless = group.is_all, 0
+    for send, number in choose_pairs(group, is_strict, ordered):
+        waits = bool(sent.ends[send] and is_all and own.verbs[number] == RECEIVE)
+        is_useful = horizon.has_end(target, own.ends[number])
+        if not (is_useful or waits and horizon.has_end(source, sent.ends[send])):
             useless += 1
             continue
-        name = names.next(source, target)
-        ordered.part.add_order(name, source, send, {target: got.call})
+        name, begun, got = names.next(source, target), sent.make_call(send), own.make_call(number)
+        ordered.part.add_order(name, source, begun, {target: got})
         if waits:
-            ordered.part.add_order(f"{name}.begun", target, got.call, {source: send})
+            ordered.part.add_order(f"{name}.begun", target, got, {source: begun})
     note_useless(useless, ordered.notes)
+
+
+def choose_pairs(group: Group, is_strict: bool, ordered: Ordered) -> Iterator[tuple[int, int]]:
+    """The pairs of a group that order something, and counts them and those left to luck. Behind a
+    message whose peer may have been chosen by another all are."""
+    letters, own, is_chosen = group.letters, group.target.recording.messages, False
+    for send, index in zip(group.match.sends, group.match.asked):
+        number = letters.asked[index]
+        is_chosen = is_chosen or letters.is_chosen(index, send)
+        is_luck = is_chosen or own.is_left_to_luck(number)
+        ordered.left_to_luck += is_luck
+        if not (is_luck and is_strict):
+            ordered.count += 1
+            yield send, number
 
 
 # --- collectives ---
 
 
-class Bounds:
-    """At which lines of the recording of each process calls begin and end that can race, or that
-    order others: not gets that wait."""
-
-    def __init__(self, program: Sequence[Part]) -> None:
-        self.of_pmix: dict[Process, list[int]] = {}
-        self.found: dict[Process, list[int]] = {}
-        for line in (it for part in program for it in part.lines):
-            if line.is_of_program and line.verb != "get":
-                self.of_pmix.setdefault(line.process, []).append(line.at)
-
-    def find(self, process: Process) -> Sequence[int]:
-        """The lines of the recording of one process, in order."""
-        if process not in self.found:
-            calls = process.recording.calls
-            of_mpi = [it for it in calls if isinstance(it.action, MPI_CALLS)]
-            bounds = [it.begins for it in of_mpi] + [it.ends for it in of_mpi if it.ends]
-            self.found[process] = sorted(bounds + self.of_pmix.get(process, []))
-        return self.found[process]
-
-    def has_any(self, meeting: JointCalls) -> bool:
-        """Whether a process has one while it is in a collective."""
-        return any(is_any_inside(self.find(it), call) for it, call in meeting.calls.items())
+def find_bounds(program: Sequence[Part]) -> Bounds:
+    """At which lines of recordings calls begin and end that can race, or that order others: not
+    gets that wait."""
+    of_pmix: dict[Process, list[int]] = {}
+    for line in (it for part in program for it in part.lines):
+        if line.is_of_program and line.verb != "get":
+            of_pmix.setdefault(line.process, []).append(line.at)
+    return Bounds(of_pmix)
 
 
 @dataclass(frozen=True)
@@ -285,7 +280,7 @@ def order_by_mpi(
     useful = replace(
         collectives, meetings=messages.horizon.choose(collectives.meetings, collectives.notes)
     )
-    waiting, bounds = Waiting(communicators, is_strict), Bounds(program)
+    waiting, bounds = Waiting(communicators, is_strict), find_bounds(program)
     chosen = choose_fences(useful.meetings, waiting, fences, bounds)
     ordered = order_collectives(useful, waiting, chosen, sets, mark)
     ordered.count += len(collectives.meetings) - len(useful.meetings)

@@ -1,8 +1,9 @@
 """Notes what a plan can't say of the program: the head of the plan tells it."""
+import bisect
 import re
 import sys
 from collections import Counter
-from collections.abc import Sequence
+from collections.abc import Iterable, Sequence
 from dataclasses import dataclass, field
 
 from wire_up_tools.record.calls import (
@@ -15,6 +16,7 @@ from wire_up_tools.record.calls import (
     Unpublish,
 )
 from wire_up_tools.record.directives import KNOWN, find_ending, gives_up, stands_early
+from wire_up_tools.record.messages import Messages
 from wire_up_tools.record.recordings import Recording
 from wire_up_tools.words import show
 
@@ -62,7 +64,7 @@ def note_recording(recording: Recording, notes: Notes) -> None:
         noted[f"calls of {name}"] += count
     for name, count in recording.polls.items():
         notes.of_luck[f"calls of {name} that found nothing"] += count
-    if len({call.thread for call in recording.calls}) > 1 or recording.awaited_elsewhere:
+    if len(recording.threads) > 1 or recording.awaited_elsewhere:
         notes.more_ordered[
             "processes that called from several threads: "
             "their calls stand in the order in which they began"
@@ -81,25 +83,37 @@ def note_directives(call: Call, notes: Notes) -> None:
                 notes.left_out[f"directives {show(it.key)}"] += 1
 
 
-def note_overlaps(calls: Sequence[Call], notes: Notes) -> None:
-    """Notes the calls that were made while one was open that the plan puts before them."""
-    if not any(stands_early(it.action) for it in calls if it.is_of_pmix):
-        return
-    open_until: list[int] = []
+def find_early(calls: Iterable[Call]) -> list[tuple[int, int]]:
+    """From where to where calls are open that the plan puts before those that were made
+    meanwhile, in order and apart from each other."""
+    found: list[tuple[int, int]] = []
     for call in calls:
-        if open_until:
-            open_until = [it for it in open_until if it > call.begins]
-        if open_until:
-            notes.more_ordered[
-                "calls made while one that doesn't block was open: in the plan they come after it"
-            ] += 1
         if stands_early(call.action):
-            open_until.append(call.ends or sys.maxsize)
+            ends = call.ends or sys.maxsize
+            if found and call.begins < found[-1][1]:
+                found[-1] = found[-1][0], max(ends, found[-1][1])
+            else:
+                found.append((call.begins, ends))
+    return found
 
 
-def note_unawaited(calls: Sequence[Call], notes: Notes) -> None:
+def note_overlaps(calls: Sequence[Call], messages: Messages, notes: Notes) -> None:
+    """Notes the calls that were made while one is open that the plan puts before them."""
+    early = find_early(calls)
+    begins = [it.begins for it in calls] if early else ()
+    count = sum(
+        bisect.bisect_left(them, last) - bisect.bisect(them, first)
+        for first, last in early
+        for them in (begins, messages.begins)
+    )
+    notes.more_ordered[
+        "calls made while one that doesn't block was open: in the plan they come after it"
+    ] += count
+
+
+def note_unawaited(calls: Sequence[Call], messages: Messages, notes: Notes) -> None:
     """Notes the calls of the program that didn't block, ended, and were followed by others."""
-    last = calls[-1].begins if calls else 0
+    last = max(calls[-1].begins if calls else 0, messages.begins[-1] if messages.begins else 0)
     unawaited = (it for it in calls if it.is_of_pmix and it.ends and it.ends < last)
     count = sum(find_ending(it.action) is Ending.CALLS_PROGRAM for it in unawaited)
     notes.more_ordered[

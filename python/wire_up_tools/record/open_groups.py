@@ -17,11 +17,13 @@ from wire_up_tools.record.draft import (
     make_publish,
     walk,
 )
+from wire_up_tools.record.groups import Group
 from wire_up_tools.record.knowledge import Latest, find_heard, merge
-from wire_up_tools.record.messages import Ask, Got, Group, Stream
+from wire_up_tools.record.messages import ANY_RANK, ANY_TAG
 from wire_up_tools.record.names import MessageNames
 from wire_up_tools.record.notes import Notes
 from wire_up_tools.record.processes import Process, Processes
+from wire_up_tools.record.streams import Ask, Stream
 
 # How often the order of messages that could have come otherwise is looked at again.
 MOST_ROUNDS = 8
@@ -29,16 +31,43 @@ MOST_ROUNDS = 8
 AFTER_NOTHING = -1
 
 
+@dataclass(eq=False)
+class Got:
+    """A receive or a probe that got a message. A receive took it, and a probe left it there."""
+
+    __slots__ = ("ask", "call", "is_receive")
+
+    ask: Ask
+    call: Call
+    is_receive: bool
+
+
 @dataclass(frozen=True, eq=False)
 class OpenGroup:
-    """A group of messages to a process that could have come otherwise, and the processes that
-    its ranks are."""
+    """A group of messages to a process that could have come otherwise, by streams, with what got
+    them, and the processes that its ranks are. `has_chosen` says that the program may have chosen
+    the peer of one by a message that came before."""
 
-    __slots__ = ("group", "target", "peers")
+    __slots__ = ("streams", "asked", "has_chosen", "target", "peers")
 
-    group: Group
+    streams: Mapping[Stream, Sequence[Call]]
+    asked: Sequence[Got]
+    has_chosen: bool
     target: Process
     peers: Side
+
+
+def open_group(group: Group) -> OpenGroup:
+    """A group with a call for each of its messages."""
+    letters, own, streams = group.letters, group.letters.own, dict[Stream, Sequence[Call]]()
+    for it in group.streams:
+        make_call = letters.find_sender(it).recording.messages.make_call
+        streams[letters.streams.name(it)] = [*map(make_call, letters.sent.of_stream(it))]
+    asked = [
+        Got(letters.find_ask(it), own.make_call(letters.asked[it]), letters.is_receive(it))
+        for it in group.asked
+    ]
+    return OpenGroup(streams, asked, group.has_chosen, letters.target, letters.peers)
 
 
 class Taken:
@@ -67,7 +96,8 @@ class Taken:
 
     def find_alike(self, ask: Ask) -> Sequence[Ask]:
         """What receives asked for that would have got each message that one of this could."""
-        alike = (ask, Ask(ask.source, None), Ask(None, ask.tag), Ask(None, None))
+        of_any = Ask(ask.source, ANY_TAG), Ask(ANY_RANK, ask.tag), Ask(ANY_RANK, ANY_TAG)
+        alike = (ask, *of_any)
         return [it for it in dict.fromkeys(alike) if it in self.waiting]
 
 
@@ -145,12 +175,12 @@ class Counted:
 
 
 def find_orders(
-    group: Group, after: Mapping[Call, int], is_strict: bool
+    group: OpenGroup, after: Mapping[Call, int], is_strict: bool
 ) -> Iterator[tuple[Call, Call]]:
     """What comes before what in every run, where one receive could get messages of several
     processes: each message with the receive or probe that ends after it was sent."""
     taken, counted = Taken(group.asked), Counted(group.streams, after)
-    if is_strict and group.chosen:
+    if is_strict and group.has_chosen:
         return
     for got in sorted(group.asked, key=lambda it: it.call.ends or 0):
         if is_strict and got.call.is_left_to_luck:
@@ -171,7 +201,7 @@ def find_lines_before(
     message_of = {
         sent[send]: (send, it.target)
         for it in groups
-        for sends in it.group.streams.values()
+        for sends in it.streams.values()
         for send in sends
     }
     found = {send: AFTER_NOTHING for send, _ in message_of.values()}
@@ -203,7 +233,7 @@ def publish_messages(groups: Sequence[OpenGroup], names: MessageNames) -> dict[C
     """A line for each message of open groups."""
     found: dict[Call, Line] = {}
     for it in groups:
-        for stream, sends in it.group.streams.items():
+        for stream, sends in it.streams.items():
             source = it.peers[stream.source]
             for send in sends:
                 found[send] = make_publish(names.next(source, it.target), source, send)
@@ -229,7 +259,7 @@ class Waits:
         """Adds all that holds in every run by what a draft has so far."""
         after = find_lines_before(draft, groups, self.sent)
         for it in groups:
-            for message, ended in find_orders(it.group, after, is_strict):
+            for message, ended in find_orders(it, after, is_strict):
                 self.add(it.target, message, ended)
 
     def finish(self) -> Part:
@@ -242,7 +272,7 @@ class Waits:
 def order_open_groups(
     processes: Processes,
     parts: Sequence[Part],
-    groups: Sequence[OpenGroup],
+    groups: Sequence[Group],
     names: MessageNames,
     is_strict: bool,
 ) -> Ordered:
@@ -251,26 +281,30 @@ def order_open_groups(
     What is ordered already, by `parts`, rules messages out: one that is sent after a receive has
     ended can't be the one that it got. So it begins again as long as that brings more.
     """
-    waits, before, rounds = Waits(publish_messages(groups, names)), -1, 0
+    opened = [open_group(it) for it in groups]
+    waits, before, rounds = Waits(publish_messages(opened, names)), -1, 0
     published = Part([*waits.sent.values()])
     while len(waits.known) != before and rounds < MOST_ROUNDS:
         before, rounds = len(waits.known), rounds + 1
         draft = make_draft(processes, [*parts, published, waits.part])
-        waits.add_all(groups, draft, is_strict)
+        waits.add_all(opened, draft, is_strict)
     return Ordered(waits.finish(), count=len(waits.known))
 
 
-def note_open_groups(groups: Sequence[OpenGroup]) -> Ordered:
+def count_left_to_luck(group: Group) -> int:
+    """How many of the receives and probes of a group another run may have found open."""
+    if group.has_chosen:
+        return len(group.asked)
+    letters = group.letters
+    return sum(letters.own.is_left_to_luck(letters.asked[it]) for it in group.asked)
+
+
+def note_open_groups(groups: Sequence[Group]) -> Ordered:
     """Notes messages that could have come otherwise, and which of their ends were left to luck."""
-    notes, count = Notes(), sum(it.group.receive_count for it in groups)
+    notes, count = Notes(), sum(it.match.receive_count for it in groups)
     notes.otherwise[
         "receives that could have got messages of several processes: "
         "they order what holds whichever they got"
     ] += count
     notes.of_luck["receives that could have got another message"] += count
-    luck = sum(
-        bool(it.group.chosen) or got.call.is_left_to_luck
-        for it in groups
-        for got in it.group.asked
-    )
-    return Ordered(notes=notes, left_to_luck=luck)
+    return Ordered(notes=notes, left_to_luck=sum(map(count_left_to_luck, groups)))

@@ -25,6 +25,7 @@ from wire_up_tools.record.calls import (
 )
 from wire_up_tools.record.directives import AT_ONCE, WAIT, goes_away, has_directive
 from wire_up_tools.record.draft import Line, Part
+from wire_up_tools.record.messages import Messages
 from wire_up_tools.record.names import Spelling, is_reserved_by_pmix
 from wire_up_tools.record.notes import (
     Notes,
@@ -292,7 +293,8 @@ def make_lines(processes: Processes, spelling: Spelling, with_mpi: bool) -> Pmix
             for it in noted
             if not it.is_of_pmix or isinstance(it.action, (Fence, Group)) or it in with_lines
         ]
-        note_overlaps(in_plan, notes)
-        note_unawaited(in_plan, notes)
+        messages = recording.messages if with_mpi else Messages()
+        note_overlaps(in_plan, messages, notes)
+        note_unawaited(in_plan, messages, notes)
     note_names(part, notes)
     return PmixLines(part, notes)

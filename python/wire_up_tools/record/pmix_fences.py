@@ -4,7 +4,7 @@ The making of a group and its end are fences of its processes too, where all of 
 calls over its set in the same order.
 """
 from collections.abc import Mapping, Sequence
-from dataclasses import dataclass, field
+from dataclasses import dataclass
 from typing import Optional
 
 from wire_up_tools.record.calls import Call, Fence, Group, ProcessName
@@ -12,10 +12,10 @@ from wire_up_tools.record.directives import COLLECT, OF_GROUPS, has_directive
 from wire_up_tools.record.draft import Line, Part
 from wire_up_tools.record.meetings import (
     MOST_NAMED,
+    Bounds,
     JointCalls,
     Members,
     Sets,
-    is_any_inside,
     join_calls,
 )
 from wire_up_tools.record.names import Spelling
@@ -122,23 +122,7 @@ def why_left_out(meeting: JointCalls) -> Optional[str]:
     return None
 
 
-@dataclass
-class CallBounds:
-    """At which lines of the recording of each process calls begin and end, found out where that is
-    asked for."""
-
-    found: dict[Process, list[int]] = field(default_factory=dict)
-
-    def has_inside(self, process: Process, call: Call) -> bool:
-        """Whether a call of the process begins or ends while another one is open."""
-        if process not in self.found:
-            calls = process.recording.calls
-            bounds = [it.begins for it in calls] + [it.ends for it in calls if it.ends]
-            self.found[process] = sorted(bounds)
-        return is_any_inside(self.found[process], call)
-
-
-def is_split(meeting: JointCalls, bounds: CallBounds) -> bool:
+def is_split(meeting: JointCalls, bounds: Bounds) -> bool:
     """Whether a fence that doesn't collect has other calls of its process between its beginning
     and its end: then arriving and leaving must stand apart."""
     calls = meeting.calls
@@ -178,7 +162,7 @@ def make_meeting(meeting: JointCalls, sets: Sets) -> Part:
 def make_fences(sets: Sets, spelling: Spelling) -> PmixFences:
     """The lines of all fences of PMIx."""
     part, notes, splits = Part(), Notes(), 0
-    bounds = CallBounds()
+    bounds = Bounds()
     by_set: dict[Members, list[JointCalls]] = {}
     found = find_fences(sets, notes).items()
     for meeting in (it for members, calls in found for it in join_calls(members, calls)):

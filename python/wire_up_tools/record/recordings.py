@@ -19,9 +19,14 @@ from wire_up_tools.record.forms import (
     decode_text,
     match,
     read_begin,
+    read_came,
     read_end,
+    read_message,
     read_ranks,
+    read_status_end,
 )
+from wire_up_tools.record.messages import SEND, Messages
+from wire_up_tools.record.open_calls import OpenCalls
 from wire_up_tools.words import make_printable
 
 ENDING = ".recording"
@@ -44,9 +49,9 @@ HEAD = (
 )
 # A record: its sign (+ a call begins, - it ends, = all else), the number of the call, the thread,
 # the time, the number of its place in the program, and what it says.
-RECORD = re.compile(rf"([-+=]) ({NUMBER}) ({NUMBER}) \d{{1,18}}\.\d{{6}} (?:@(\d{{1,9}}) )?(.+)")
+RECORD = re.compile(rf"([-+=]) ({NUMBER}) ({NUMBER}) \d{{1,18}}\.\d{{6}} (?:@(\d{{1,9}}) )?(.+)\n")
 FOREIGN = re.compile(rb"[^ -~\n]")
-LOST = "lost"
+LOST = "lost\n"
 NO_RECORD = "isn't a record"
 
 
@@ -88,6 +93,8 @@ class RecordedCommunicator:
 class Recording:
     """What one process did, from the file at `path`; `began` is in seconds since 1970.
 
+    `calls` are those of PMIx and the collectives of MPI, and `messages` its sends, receives and
+    probes: both in the order in which they began.
     `others` counts the calls that are only counted, by their names; `polls` those that found
     nothing before another call; `unseen` what called MPI past
     the recorder, and `unseen_pmix` what called PMIx so, by what is said of it. `outer` has the
@@ -103,6 +110,7 @@ class Recording:
     library: str
     began: float
     calls: Sequence[Call]
+    messages: Messages
     others: Mapping[str, int]
     polls: Mapping[str, int]
     unseen: Mapping[str, int]
@@ -117,8 +125,13 @@ class Recording:
 
     @cached_property
     def calls_of_pmix(self) -> Sequence[Call]:
-        """The calls of PMIx alone: they are few beside those of MPI."""
+        """The calls of PMIx alone."""
         return [it for it in self.calls if it.is_of_pmix]
+
+    @property
+    def threads(self) -> set[str]:
+        """The threads that made calls."""
+        return {it.thread for it in self.calls} | self.messages.thread_words
 
     def list_frames(self, number: Optional[str]) -> list[Place]:
         """The place of a number and those at which the functions were called, from the outermost
@@ -183,12 +196,14 @@ def refuse(path: str, number: int, why: str) -> NoReturn:
 @dataclass
 class Records:
     """The records of a file, as far as they are read: what has ended, what is open, and the
-    rest. `calls` are in the order in which they began, and those in `opened` haven't ended yet,
-    by their numbers. A word that many calls have is kept once, in `words`."""
+    rest. `calls` and `messages` are in the order in which they began, and those in `opened`
+    haven't ended yet, the messages by twice their number, and the calls by that of their index and
+    one more. A word that many calls have is kept once, in `words`."""
 
     path: str
     calls: list[Call] = field(default_factory=list)
-    opened: dict[str, Call] = field(default_factory=dict)
+    messages: Messages = field(default_factory=Messages)
+    opened: OpenCalls = field(default_factory=OpenCalls)
     words: dict[str, str] = field(default_factory=dict)
     others: Counter[str] = field(default_factory=Counter)
     counted: dict[str, int] = field(default_factory=dict)
@@ -212,32 +227,57 @@ class Records:
         sign, call, thread, place, text = record.groups()
         try:
             if sign == "+":
-                thread = self.words.setdefault(thread, thread)
-                place = self.words.setdefault(place, place) if place else None
-                self.begin(call, Call(read_begin(text), number, thread, place, None, None))
+                self.begin(int(call), number, thread, place, text)
             elif sign == "-":
-                self.end(call, number, thread, text)
+                self.end(int(call), number, thread, text)
             else:
                 self.note(number, text)
         except (ValueError, KeyError):
             refuse(self.path, number, NO_RECORD)
 
-    def begin(self, number: str, call: Call) -> None:
-        """Takes a call that begins. Raises Refused."""
-        if number in self.opened:
-            refuse(self.path, call.begins, "begins a call that is open")
-        self.opened[number] = call
-        self.calls.append(call)
+    def begin(
+        self, call: int, number: int, thread: str, place: Optional[str], text: str
+    ) -> None:
+        """Takes a call that begins. Raises Refused, ValueError or KeyError."""
+        message = read_message(text)
+        if message:
+            index = 2 * len(self.messages)
+            self.messages.begin(message, number, thread, place)
+        else:
+            index = 2 * len(self.calls) + 1
+            thread = self.words.setdefault(thread, thread)
+            place = self.words.setdefault(place, place) if place else None
+            self.calls.append(Call(read_begin(text), number, thread, place, None, None))
+        if not self.opened.add(call, index):
+            refuse(self.path, number, "begins a call that is open")
         self.has_finalized = False
 
-    def end(self, call: str, number: int, thread: str, text: str) -> None:
+    def end(self, call: int, number: int, thread: str, text: str) -> None:
         """Takes the end of a call. Raises Refused or ValueError."""
-        opened = self.opened.pop(call, None)
-        if not opened:
+        opened = self.opened.remove(call)
+        if opened is None:
             refuse(self.path, number, "ends a call that isn't open")
+        index, is_in_calls = divmod(opened, 2)
+        if is_in_calls:
+            self.end_call(self.calls[index], number, thread, text)
+        else:
+            self.end_message(index, number, thread, text)
+
+    def end_call(self, opened: Call, number: int, thread: str, text: str) -> None:
+        """Takes the end of a call of PMIx or of a collective. Raises ValueError."""
         opened.finish(number, read_end(opened.action.verb, text))
         if thread != opened.thread and not opened.is_of_pmix:
             self.awaited_elsewhere += 1
+
+    def end_message(self, index: int, number: int, thread: str, text: str) -> None:
+        """Takes the end of a send, a receive or a probe. Raises ValueError."""
+        messages = self.messages
+        if messages.verbs[index] == SEND:
+            messages.finish(index, number, None, read_status_end(text).status)
+        else:
+            came = read_came(text)
+            messages.finish(index, number, came, came is None)
+        self.awaited_elsewhere += not messages.is_of_thread(index, thread)
 
     def note(self, number: int, text: str) -> None:
         """Takes what isn't a call, of a line. Raises ValueError or KeyError."""
@@ -278,7 +318,7 @@ def read_head(path: str, lines: Sequence[str]) -> Head:
     """The head of a recording by its lines. Raises Refused."""
     found: list[str] = []
     for number, (form, why) in enumerate(HEAD, 1):
-        read = re.fullmatch(form, lines[number - 1]) if number <= len(lines) else None
+        read = re.fullmatch(f"{form}\n", lines[number - 1]) if number <= len(lines) else None
         if not read:
             refuse(path, number, why)
         found += read.groups()
@@ -307,10 +347,9 @@ def read_recording(path: str, data: bytes) -> Recording:
     if foreign:
         number = data.count(b"\n", 0, foreign.start()) + 1
         refuse(path, number, "has a byte that no recording has")
-    lines = io.TextIOWrapper(io.BytesIO(data), "ascii", "replace", newline="\n")
-    whole = (it[:-1] for it in lines if it.endswith("\n"))
-    head, records = read_head(path, [*itertools.islice(whole, len(HEAD))]), Records(path)
-    for number, line in enumerate(whole, len(HEAD) + 1):
+    lines = io.TextIOWrapper(io.BytesIO(data[:end]), "ascii", newline="\n")
+    head, records = read_head(path, [*itertools.islice(lines, len(HEAD))]), Records(path)
+    for number, line in enumerate(lines, len(HEAD) + 1):
         records.read(number, line)
     return Recording(
         path=path,
@@ -320,6 +359,7 @@ def read_recording(path: str, data: bytes) -> Recording:
         library=head.library,
         began=head.began,
         calls=records.calls,
+        messages=records.messages,
         others=records.others + Counter(records.counted),
         polls=records.polls,
         unseen=records.unseen,

@@ -4,10 +4,11 @@ import re
 from collections.abc import Sequence
 
 from wire_up_tools.record.calls import Call
-from wire_up_tools.record.messages import Group, Inbox, Missed, differs_in_size
+from wire_up_tools.record.groups import Group, Letters
 from wire_up_tools.record.notes import Notes
 from wire_up_tools.record.processes import Process, Processes
 from wire_up_tools.record.recordings import Recording
+from wire_up_tools.record.streams import MISSED
 
 # Functions that are only counted, and that send, or that receive or may leave a message there.
 SENDS = re.compile(r"MPI_(Isendrecv\w*|\w*send\w*_c)")
@@ -33,10 +34,10 @@ def has_unknown_sends(recording: Recording) -> bool:
     return any(map(SENDS.fullmatch, recording.others))
 
 
-def has_all_messages(target: Process, inbox: Inbox) -> bool:
+def has_all_messages(letters: Letters) -> bool:
     """Whether recordings have all that was sent to a process in a communicator, and all that it
     received there, unless calls weren't seen."""
-    recordings = [target.recording, *(it.recording for it in inbox.peers)]
+    recordings = [letters.target.recording, *(it.recording for it in letters.peers)]
     return all(it.has_finalized for it in recordings) and not any(
         pattern.fullmatch(name)
         for it in recordings
@@ -45,25 +46,12 @@ def has_all_messages(target: Process, inbox: Inbox) -> bool:
     )
 
 
-def is_unfit(group: Group) -> bool:
-    """Whether messages and receives that are all there don't fit: a receive got a message that
-    isn't, or one of another size, or no receive got a message."""
-    for stream, receives in group.receives_by_stream().items():
-        sends = group.streams.get(stream, ())
-        is_one_thread = len({it.thread for it in sends}) < 2
-        if len(receives) > len(sends) or (is_one_thread and differs_in_size(sends, receives)):
-            return True
-    return group.message_count > group.receive_count and not group.lacks
-
-
-def note_unfit_messages(
-    target: Process, inbox: Inbox, groups: Sequence[Group], notes: Notes
-) -> None:
+def note_unfit_messages(letters: Letters, groups: Sequence[Group], notes: Notes) -> None:
     """Notes where messages to a process, which are in groups, and its receives don't fit."""
-    has_missed = any(isinstance(it, Missed) for it in inbox.asked)
     asked_count = sum(len(it.streams) for it in groups)
-    is_any_left = not has_missed and asked_count < len(inbox.streams)
-    if (is_any_left or any(map(is_unfit, groups))) and has_all_messages(target, inbox):
+    is_any_left = MISSED not in letters.got and asked_count < len(letters.streams)
+    is_unfit = is_any_left or any(it.match.is_unfit for it in groups)
+    if is_unfit and has_all_messages(letters):
         notes.more_ordered[MISFIT] += 1
 
 
