@@ -178,9 +178,10 @@ UNSEEN_PMIX = {
 
 
 def read_unseen(groups: Groups) -> str:
-    """What is said of something that called past the recorder. Raises ValueError."""
-    said = {**UNSEEN_MPI, **UNSEEN_PMIX}[groups[0]]
-    return said.format(make_printable(os.path.basename(decode_text(groups[1]))))
+    """What is said of something that called past the recorder, by its name without the version.
+    Raises ValueError."""
+    name = os.path.basename(decode_text(groups[1])).partition(".so.")[0]
+    return {**UNSEEN_MPI, **UNSEEN_PMIX}[groups[0]].format(make_printable(name))
 
 
 # --- files ---
