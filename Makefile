@@ -86,11 +86,11 @@ PMIX_INCLUDES = $(patsubst -I%,-isystem %,$(PMIX_FLAGS))
 LIBRARY_mpi = MPI
 LIBRARY_pmix = PMIx
 
-$(RECORD_OUT)/pmix.i:
+$(RECORD_OUT)/pmix.i: Makefile
 	@test -n "$(PMIX_CFLAGS)" || pkg-config --exists pmix || \
 		{ echo "pkg-config doesn't find PMIx: on Debian it takes pkg-config and libpmix-dev"; exit 1; }
 	@mkdir -p $(RECORD_OUT)
-	@echo '#include <pmix.h>' | $(CC) -E $(PMIX_INCLUDES) -x c - > $@.new
+	@echo '#include <pmix_tool.h>' | $(CC) -E $(PMIX_INCLUDES) -x c - > $@.new
 	@mv $@.new $@
 
 $(RECORD_OUT)/mpi.i:

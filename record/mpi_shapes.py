@@ -87,12 +87,15 @@ note_received(number, result, told, WAITED);
 }
 
 
-def take_poll(is_watched: str, has_found: str = "*flag") -> str:
-    """C that takes what a poll has found, if it is to be noted."""
+def take_poll(is_watched: str, has_found: str = "*flag", is_send: str = "false") -> str:
+    """C that takes what a poll has found, if it is to be noted, and counts a send that it found at
+    once."""
+    take = f"{is_watched} && result == MPI_SUCCESS && wire_up_take_poll(&polls, caller, {has_found})"
     return f"""\
 static struct counter polls = {{.what = POLLS_IN_VAIN, .function = "$function"}};
-if ({is_watched} && result == MPI_SUCCESS)
-    wire_up_take_poll(&polls, caller, {has_found});
+static struct counter sends = {{.what = FOUND_SENDS, .function = "$function"}};
+if ({take} && {is_send})
+    wire_up_count_alone(&sends);
 """
 
 
@@ -134,14 +137,14 @@ if (call.is_noted && request)
 if (is_watched)
     note_complete(before, result, told, WAITED);
 """, TOLD),
-    "test": Shape(WATCH_REQUEST, take_poll("is_watched") + """\
+    "test": Shape(WATCH_REQUEST, take_poll("is_watched", is_send="is_active_send(before)") + """\
 if (is_watched && (result != MPI_SUCCESS || *flag))
     note_complete(before, result, told, POLLED);
 """, TOLD),
     # The request stays, but it has nothing open any more.
     "ask-request": Shape(CALL + """\
 bool is_watched = call.is_noted;
-""" + WATCH_STATUS, take_poll("is_watched") + """\
+""" + WATCH_STATUS, take_poll("is_watched", is_send="is_active_send(request)") + """\
 if (is_watched && result == MPI_SUCCESS && *flag)
     note_complete(request, result, told, POLLED);
 """, TOLD),
@@ -159,16 +162,17 @@ MPI_Status *told = choose_status(watch.is_on, status, &own);
 """
 
 
-# Which of several sends is over first, other processes decide.
-NOTE_SENDS = """\
-if (are_sends(&call, &watch, count, requests))
+def note_sends(some: str, indices: str) -> str:
+    """C that notes that a send was over first of several requests: other processes decide that."""
+    return f"""\
+if (watch.active > 1 && result == MPI_SUCCESS && has_send(&watch, {some}, {indices}))
     note_other("$function of sends");
 """
 
 
-def shape_some(how: str, after: str, before: str = "") -> Shape:
+def shape_some(how: str, after: str) -> Shape:
     """A call that completes some of several requests."""
-    return Shape(WATCH_ALL + before, after + f"""\
+    return Shape(WATCH_ALL, after + f"""\
 int some = note_some_complete(&watch, result, ended, indices, told, {how});
 result = end_watch(&watch, result, some);
 """, TOLD_ALL)
@@ -179,18 +183,22 @@ SEVERAL_REQUESTS = {
 note_all_complete(&watch, result, told, WAITED);
 result = end_watch(&watch, result, count);
 """, TOLD_ALL),
-    "test-all": Shape(WATCH_ALL, take_poll("call.is_noted") + """\
+    "test-all": Shape(WATCH_ALL, take_poll("call.is_noted", is_send="are_sends(&watch)") + """\
 if (watch.is_on && (result == MPI_ERR_IN_STATUS || (result == MPI_SUCCESS && *flag)))
     note_all_complete(&watch, result, told, POLLED);
 result = end_watch(&watch, result, count);
 """, TOLD_ALL),
-    "wait-some": shape_some("name_wait(&watch)", "", NOTE_SENDS),
-    "test-some": shape_some("name_poll(&watch)", take_poll("call.is_noted", "*ended != 0")),
-    "wait-any": Shape(WATCH_ANY + NOTE_SENDS, """\
+    "wait-some": shape_some("name_wait(&watch)", note_sends("*ended", "indices")),
+    "test-some": shape_some(
+        "name_poll(&watch)",
+        take_poll("call.is_noted", "*ended != 0", "has_send(&watch, *ended, indices)"),
+    ),
+    "wait-any": Shape(WATCH_ANY, note_sends("1", "which") + """\
 note_one_complete(&watch, result, which, told, name_wait(&watch));
 result = end_watch(&watch, result, 0);
 """, TOLD),
-    "test-any": Shape(WATCH_ANY, take_poll("call.is_noted") + """\
+    "test-any": Shape(
+        WATCH_ANY, take_poll("call.is_noted", is_send="has_send(&watch, 1, which)") + """\
 if (watch.is_on && flag && *flag)
     note_one_complete(&watch, result, which, told, name_poll(&watch));
 result = end_watch(&watch, result, 0);

@@ -52,7 +52,7 @@ LOCAL = {
         r"Get_(version|attribute_\w+|cpuset|relative_locality)",
         r"Initialized|Progress|Load_topology",
         r"Compute_distances\w*",
-        r"(Register|Deregister)_event_handler",
+        r"Deregister_event_handler",
         r"tool_\w+|server_\w+|IOF_\w+",
     ),
 }
@@ -72,6 +72,9 @@ if (is_noted(caller))
     wire_up_count(&others);
 """,
 }
+# A library of MPI has handlers of its own.
+OF_PROGRAM = ("PMIx_Register_event_handler",)
+NOTES_OF_PROGRAM = NOTES["PMIx"].replace("is_noted", "is_of_program")
 # What the function makes may have the handle of something that is gone.
 FORGETTING = {
     "MPI_Request": "forget_request(*{})",
@@ -104,7 +107,8 @@ def write_forgetting(parameter: Parameter) -> str:
 def write_counted(library: Library, function: Function) -> str:
     """The wrapper of a function that is only counted."""
     parameters = function.parameters()
-    shape = Shape(NOTES[library.prefix], "".join(write_forgetting(it) for it in parameters))
+    note = NOTES_OF_PROGRAM if function.name in OF_PROGRAM else NOTES[library.prefix]
+    shape = Shape(note, "".join(write_forgetting(it) for it in parameters))
     return write_wrapper(library, function, parameters, shape)
 
 

@@ -29,16 +29,22 @@ note_begun(number, result, pending);
 """, {"then": f"pending ? end_{ends} : then", "data": "pending ? pending : data"})
 
 
-SHAPES = {
-    "init": Shape("""\
+def shape_init(is_recorded: str) -> Shape:
+    """The beginning of a session, of a process that is recorded on a condition in C."""
+    return Shape("""\
 pmix_proc_t own;
 memset(&own, 0, sizeof own);
 pmix_proc_t *me = process ? process : &own;
 bool is_inner = find_owner(caller) == OF_PMIX;
-""", """\
-if (result == PMIX_SUCCESS && !is_inner)
+""", f"""\
+if (result == PMIX_SUCCESS && {is_recorded})
     enter_session(me, caller);
-""", {"process": "me"}),
+""", {"process": "me"})
+
+
+SHAPES = {
+    "init": shape_init("!is_inner"),
+    "init-tool": shape_init("!is_inner && !is_launcher()"),
     "finalize": Shape("""\
 if (is_noted(caller))
     leave_session();

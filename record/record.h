@@ -44,6 +44,10 @@ EXPORTED void wire_up_text_add_word(struct text *to, const char *word);
 /* Whether a record would be written now: this process is a client of PMIx, and its file is open. */
 EXPORTED bool wire_up_is_recording(void);
 
+/* The same, where PMIx or MPI is called. What a forked child calls isn't recorded: its parent is
+ * told that it called. */
+EXPORTED bool wire_up_takes_calls(void);
+
 /* Makes a new number for a call. */
 EXPORTED unsigned long wire_up_number(void);
 
@@ -101,15 +105,20 @@ struct counter {
     struct counter *next;
 };
 #define POLLS_IN_VAIN "polled"
+#define FOUND_SENDS "found"
 #define OTHERS "others"
 
 /* Counts a call. */
 EXPORTED void wire_up_count(struct counter *of);
 
-/* Takes what a poll of the code at `caller` has found. One that finds nothing is counted as soon as
- * this thread makes another call that is noted or counted, unless the same code has found something
- * by then: it has waited. What the program does otherwise, another run may not do. */
-EXPORTED void wire_up_take_poll(struct counter *of, const void *caller, bool has_found);
+/* Counts a call, without what a call means for the polls before it. */
+EXPORTED void wire_up_count_alone(struct counter *of);
+
+/* Takes what a poll of the code at `caller` has found, and answers whether it found something at
+ * once. One that finds nothing is counted as soon as this thread makes another call that is noted or
+ * counted, unless the same code has found something by then: it has waited. What the program does
+ * otherwise, another run may not do. */
+EXPORTED bool wire_up_take_poll(struct counter *of, const void *caller, bool has_found);
 
 /* Finds the line in the program that a call comes from which a place makes, through however many
  * calls of libraries, and the functions that called there. Null on a thread that isn't the
@@ -119,8 +128,13 @@ EXPORTED struct place *wire_up_place_called(struct place *place, const void *fra
 /* Finds that line again, where the code at `caller` was called by the same functions before. */
 EXPORTED bool wire_up_recall_place(const void *caller, const void *frame, struct place **line);
 
+/* Notes that calls lack in the recording, or stand where another run may not have them: why, as a
+ * kind that recordings.py knows, and by which object or function. */
+EXPORTED void wire_up_note_unseen(const char *kind, const char *which);
+
 /* Notes each object of the program that is bound to functions of MPI or PMIx for which the recorder
- * has its own: it was opened so that it finds the library first. */
+ * has its own: it was opened so that it finds the library first. And notes libraries of MPI or PMIx
+ * that stand in a namespace of their own, where nothing is preloaded. */
 EXPORTED void wire_up_note_past(void);
 
 /* Whether the code before a return address calls a function that it names, and not one to which it

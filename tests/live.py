@@ -16,12 +16,18 @@ ENVIRONMENT = {**os.environ, "OMPI_ALLOW_RUN_AS_ROOT": "1", "OMPI_ALLOW_RUN_AS_R
 # How programs are compiled that aren't one source in C alone. A folder stands for that in which
 # they are put, where a program finds the libraries.
 COMPILED = {
+    "alone": ("cc", "alone.c"),
     "calls": ("cc", "-pthread", "calls.c"),
     "direct": ("mpicc", "-pthread", "direct.c"),
     "luck": ("mpicc", "luck.c"),
     "sessions": ("mpicc", "-pthread", "sessions.c"),
     "plugin.so": ("mpicc", "-shared", "-fPIC", "plugin.c"),
     "pmix_plugin.so": ("cc", "-shared", "-fPIC", "pmix_plugin.c"),
+    "liblookups.so": ("mpicc", "-shared", "-fPIC", "-Wl,--no-as-needed", "lookups.c"),
+    "lookups.so": ("mpicc", "-shared", "-fPIC", "-Wl,--no-as-needed", "lookups.c"),
+    "hidden": (
+        "mpicc", "-pthread", "hidden.c", "-L{folder}", "-Wl,-rpath,{folder}", "-llookups"
+    ),
     "libprofiler.so": ("mpicc", "-shared", "-fPIC", "profiler.c"),
     "profiled": ("mpicc", "told.c", "-L{folder}", "-Wl,-rpath,{folder}", "-lprofiler"),
     "mixed": ("mpifort", "-J{folder}", "mixed.c", "mixed_parts.f90"),
@@ -29,7 +35,7 @@ COMPILED = {
 }
 SOURCES = (".c", ".f90")
 # The programs that call PMIx themselves.
-WITH_PMIX = ("calls", "direct", "luck", "sessions", "pmix_plugin.so")
+WITH_PMIX = ("alone", "calls", "direct", "hidden", "luck", "sessions", "pmix_plugin.so")
 NEEDED = ("mpicc", "mpirun", "make", "cc", "pkg-config")
 # `mpirun` may mix the lines of two processes where one is long, in about one run of six.
 TRIES = 10

@@ -32,6 +32,16 @@ PMIX_PAST_RECORDER = (
 )
 
 
+OPENED = "2 processes in which lookups.so calls MPI past the recorder: its calls aren't seen\n"
+OPENED_AGAIN = "1 processes with libmpi in a namespace of its own: calls of it aren't seen\n"
+CHILD = "1 processes of which a child called PMIx or MPI by fork: its calls aren't seen\n"
+HANDLER = "1 processes that called in a handler of a signal: another run may call elsewhere\n"
+THREADS = (
+    "1 processes that called from several threads: their calls stand in the order in which they "
+    "began\n"
+)
+
+
 @dataclass(frozen=True)
 class Program:
     """A program that was recorded: on how many processes, how many findings its plan has, and how
@@ -40,7 +50,7 @@ class Program:
     isn't its name. `luck` counts the ends that were left to luck, without which there is one more
     finding, `received` the receives that could have got another message, and `first` those that
     were the first of several requests; `poll` is the function by which one poll found nothing
-    before another call. `is_replayed` says that the replay of the plan answers as the program was
+    before another call, and `called` another call whose result is luck. `is_replayed` says that the replay of the plan answers as the program was
     answered."""
 
     processes: int
@@ -53,6 +63,7 @@ class Program:
     received: int = 0
     first: int = 0
     poll: str = ""
+    called: str = ""
     is_replayed: bool = True
 
     @property
@@ -67,6 +78,7 @@ class Program:
         """What the recorder says of a poll that found nothing and, with MPI's order, of receives
         that could have got another message or were the first of several requests."""
         told = [f"1 calls of {self.poll} that found nothing"] if self.poll else []
+        told += [f"1 calls of {self.called}"] if self.called else []
         if self.received and with_mpi:
             told.append(f"{self.received} receives that could have got another message")
         if self.first and with_mpi:
@@ -145,12 +157,24 @@ LUCK = {
     "several": Program(3, 0, 1, luck=2, first=1),
     "asked": Program(2, 0, 1, luck=1),
     "nothing": Program(2, 0, 1, poll="MPI_Iprobe"),
+    "sent": Program(2, 0, 1, called="MPI_Test that found a send complete"),
+    "beside": Program(2, 0, 1, called="MPI_Waitany of sends"),
     "header": Program(3, 0, 1, luck=2, received=2),
     "answer": Program(3, 0, 1, luck=2, received=2),
     "once": Program(2, 0, 1, IN_PART, f"{IN_PART}{GOES_AWAY}", is_replayed=False),
     "brief": Program(2, 0, 0, IN_PART, f"{IN_PART}{SHORT_WAIT}"),
 }
-SHIPPED = {**CASES, **DIRECT, **LUCK, **OTHERS, **OTHER_WAYS}
+# Those of `hidden`.
+HIDDEN = {
+    "behind": Program(2, 1, 1),
+    "opened": Program(2, 0, 1, IN_PART, f"{IN_PART}{OPENED}", ("lookups.so",)),
+    "namespace": Program(2, 0, 1, IN_PART, f"{IN_PART}{OPENED_AGAIN}"),
+    "child": Program(2, 0, 1, IN_PART, f"{IN_PART}{CHILD}"),
+    "handler": Program(2, 0, 1, IN_PART, f"{IN_PART}{HANDLER}"),
+    "thread": Program(2, 0, 1, IN_PART, f"{IN_PART}{THREADS}"),
+    "event": Program(2, 0, 1, called="PMIx_Register_event_handler"),
+}
+SHIPPED = {**CASES, **DIRECT, **HIDDEN, **LUCK, **OTHERS, **OTHER_WAYS}
 
 
 def why_other_findings(program: str, plan: str, count: int) -> Optional[str]:

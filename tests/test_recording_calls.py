@@ -5,6 +5,7 @@ from dataclasses import dataclass
 from typing import Optional
 
 from tapes import Recorded, Tape, make_world, read_scripts, write_plan_of
+from wire_up_tools.record.planning import Choices
 from wire_up_tools.words import LEFT_OUT, MORE_ORDERED, OTHERWISE_AFTER
 
 PUT, COMMIT, FENCE = ("put global k text:v", "0"), ("commit", "0"), ("fence blocks all -", "0")
@@ -271,6 +272,46 @@ class CallsTest(unittest.TestCase):
                 plan = write_plan_of([first, second])
                 said = "1 processes that called from several threads" in plan
                 self.assertEqual(said, thread == 2)
+
+    def test_a_thread_without_a_call_of_its_own(self) -> None:
+        plan = write_plan_of([Tape(0).say("thread").say("thread")])
+        self.assertIn("#   1 processes that called from several threads", plan)
+
+    def test_calls_that_are_not_seen(self) -> None:
+        """Of a library elsewhere, of a child, of a handler: each is told, also without MPI."""
+        said = {
+            "namespace /lib/libmpi.so.40.1": "1 processes with libmpi in a namespace of its own",
+            "child fork": "1 processes of which a child called PMIx or MPI by fork",
+            "handler signal": "1 processes that called in a handler of a signal",
+        }
+        for what, told in said.items():
+            for choices in (Choices(), Choices(with_mpi=False)):
+                with self.subTest(what, with_mpi=choices.with_mpi):
+                    plan = write_plan_of([Tape(0).say(f"unseen {what}")], choices)
+                    self.assertIn(f"{MORE_ORDERED}\n#   {told}: ", plan)
+
+    def test_processes_without_a_recording(self) -> None:
+        """As many as the library says that the job has, and those that are started."""
+        missing = "1 processes of a job that left no recording: their calls aren't in the plan\n"
+        for size in (2, 3):
+            tapes = [Tape(rank).say(f"job {size}") for rank in range(2)]
+            self.assertEqual(missing in write_plan_of(tapes), size == 3)
+        started = "1 calls that started processes which left no recording: "
+        tape = Tape(0).say("other PMIx_Spawn")
+        self.assertIn(started, write_plan_of([tape]))
+        other = Tape(0, namespace="other", began=1700000001)
+        self.assertNotIn(started, write_plan_of([tape, other]))
+
+    def test_handlers_of_events(self) -> None:
+        plan = write_plan_of([Tape(0).say("others PMIx_Register_event_handler 2")])
+        self.assertIn(f"{OTHERWISE_AFTER}\n#   2 calls of PMIx_Register_event_handler\n", plan)
+
+    def test_polls_that_found_a_send(self) -> None:
+        """The last count of a process is that of all its polls by a function."""
+        tape = Tape(0).say("found MPI_Test 1").say("found MPI_Test 2")
+        plan = write_plan_of([tape, Tape(1).say("found MPI_Test 4")])
+        said = "6 calls of MPI_Test that found a send complete"
+        self.assertIn(f"{OTHERWISE_AFTER}\n#   {said}\n", plan)
 
     def test_polls_that_found_nothing(self) -> None:
         """The last count of a process is that of all its polls by a function."""

@@ -20,6 +20,7 @@ from live import ENVIRONMENT, LiveTest, mpirun
 from recorded import (
     CASES,
     DIRECT,
+    HIDDEN,
     IN_PART,
     LUCK,
     OTHER_WAYS,
@@ -281,6 +282,28 @@ class OtherWaysTest(LiveTest):
         self.assertEqual((ran.returncode, ran.stderr), (0, of.says_in_part))
         if self.program:
             self.assertIsNone(why_wrong(self.program, self.plan, self.answers, of.findings))
+
+    def test_hidden_calls(self) -> None:
+        """They are seen, or the recorder says that a verdict holds only in part."""
+        self.compile("liblookups.so")
+        path = self.compile("hidden")
+        for name, of in HIDDEN.items():
+            with self.subTest(name):
+                words = [self.compile(it) for it in of.words]
+                run = mpirun(of.processes, path, name, *words)
+                ran = self.record_alike(run, "--answers", self.answers)
+                said = of.says_in_part + of.says_otherwise()
+                self.assertEqual((ran.returncode, ran.stderr), (0, said))
+                if self.program:
+                    wrong = why_wrong(self.program, self.plan, self.answers, of.findings)
+                    self.assertIsNone(wrong)
+
+    def test_a_rank_without_the_recorder(self) -> None:
+        """A rank that left no recording is missed, also where MPI doesn't tell how many there are."""
+        path = self.compile("alone")
+        ran = self.record(*mpirun(2, path), ":", "-n", "1", "env", "-u", "LD_PRELOAD", path)
+        said = "1 processes of a job that left no recording: their calls aren't in the plan\n"
+        self.assertEqual((ran.returncode, ran.stderr), (0, f"wire_up-record: {IN_PART}{said}"))
 
     def test_other_names(self) -> None:
         self.hold("pmpi")

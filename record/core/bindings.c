@@ -9,8 +9,9 @@
 #include <stdint.h>
 #include <string.h>
 
-/* Where the tables of an object are. */
+/* Where the tables of an object are, and what else is known of it. */
 struct tables {
+    const struct dl_phdr_info *object;
     ElfW(Addr) base;
     const char *names;
     const ElfW(Sym) *symbols;
@@ -20,7 +21,7 @@ struct tables {
 
 static struct tables read_tables(const struct dl_phdr_info *object, const ElfW(Dyn) *it)
 {
-    struct tables found = {.base = object->dlpi_addr};
+    struct tables found = {.object = object, .base = object->dlpi_addr};
     for (; it->d_tag != DT_NULL; it++)
         switch (it->d_tag) {
         case DT_STRTAB: found.names = (const char *)it->d_un.d_ptr; break;
@@ -37,14 +38,38 @@ static struct tables read_tables(const struct dl_phdr_info *object, const ElfW(D
 /* What is noted of an object: the kind of its functions that aren't seen. */
 static const char of_mpi[] = "object", of_pmix[] = "pmix";
 
+/* Whether the constants of an object have a text. */
+static bool has_text(const struct dl_phdr_info *object, const char *text)
+{
+    bool is_there = false;
+    for (size_t n = 0; !is_there && n < object->dlpi_phnum; n++) {
+        const ElfW(Phdr) *it = &object->dlpi_phdr[n];
+        if (it->p_type == PT_LOAD && !(it->p_flags & PF_W))
+            is_there = memmem((const void *)(object->dlpi_addr + it->p_vaddr), it->p_memsz, text,
+                              strlen(text)) != NULL;
+    }
+    return is_there;
+}
+
+/* Finds which functions an object may look up by the system's own dlsym; null where it names none. */
+static const char *find_kind_of_names(const struct dl_phdr_info *object)
+{
+    if (has_text(object, "MPI_"))
+        return of_mpi;
+    return has_text(object, "PMIx_") ? of_pmix : NULL;
+}
+
 /* Finds whether a relocation has bound a function that the recorder has to the library's own, and
  * of which kind it is; null where it hasn't. */
 static const char *find_kind(const struct tables *of, const ElfW(Rela) *it)
 {
     const char *name = of->names + of->symbols[ELF64_R_SYM(it->r_info)].st_name;
-    if (!has_recorded_name(name))
+    bool is_lookup = !strcmp(name, "dlsym");
+    if (!is_lookup && !has_recorded_name(name))
         return NULL;
     enum owner owner = find_owner(*(const void *const *)(of->base + it->r_offset));
+    if (is_lookup)
+        return owner == OF_SYSTEM ? find_kind_of_names(of->object) : NULL;
     if ((owner != OF_MPI && owner != OF_PMIX) || !find_own(wire_up_dlsym(), name))
         return NULL;
     return owner == OF_MPI ? of_mpi : of_pmix;
@@ -58,17 +83,14 @@ static const char *find_kind_of_any(const struct tables *of, const ElfW(Rela) *l
     return found;
 }
 
-static void note_unseen(const char *kind, const char *which)
+/* Notes an object, once, by its dynamic section. */
+static void note_once(struct place *place, const char *kind)
 {
-    struct text what;
-    wire_up_text_open(&what);
-    wire_up_text_add(&what, "unseen %s ", kind);
-    wire_up_text_add_word(&what, which);
-    wire_up_write('=', 0, NULL, &what);
-    wire_up_text_close(&what);
+    if (!__atomic_exchange_n(&place->is_past, true, __ATOMIC_RELAXED))
+        wire_up_note_unseen(kind, place->module);
 }
 
-/* Notes an object of the program that has such a relocation, once, by its dynamic section. */
+/* Notes an object of the program that has such a relocation, by its dynamic section. */
 static void note_if_past(const struct dl_phdr_info *object, const ElfW(Dyn) *dynamic)
 {
     const struct tables of = read_tables(object, dynamic);
@@ -78,8 +100,8 @@ static void note_if_past(const struct dl_phdr_info *object, const ElfW(Dyn) *dyn
     const char *kind = find_kind_of_any(&of, of.data, of.data_size);
     if (!kind)
         kind = find_kind_of_any(&of, of.calls, of.calls_size);
-    if (kind && !__atomic_exchange_n(&place->is_past, true, __ATOMIC_RELAXED))
-        note_unseen(kind, place->module);
+    if (kind)
+        note_once(place, kind);
 }
 
 static int look_at(struct dl_phdr_info *object, size_t size, void *with)
@@ -94,10 +116,36 @@ static int look_at(struct dl_phdr_info *object, size_t size, void *with)
     return 0;
 }
 
+#if __GLIBC_PREREQ(2, 35)
+/* Notes the first library of MPI or PMIx in a namespace. */
+static void note_library(const struct link_map *it)
+{
+    struct place *place = NULL;
+    for (; it && !place; it = it->l_next) {
+        enum owner owner = find_owner(it->l_ld);
+        place = owner == OF_MPI || owner == OF_PMIX ? wire_up_place(it->l_ld) : NULL;
+    }
+    if (place)
+        note_once(place, "namespace");
+}
+
+/* Looks at all namespaces but the first. */
+static void look_at_namespaces(void)
+{
+    const struct r_debug_extended *it = (const struct r_debug_extended *)&_r_debug;
+    while (it->base.r_version > 1 && (it = it->r_next))
+        note_library(it->base.r_map);
+}
+#else
+static void look_at_namespaces(void) {}
+#endif
+
 void wire_up_note_past(void)
 {
-    if (wire_up_is_recording())
-        dl_iterate_phdr(look_at, NULL);
+    if (!wire_up_is_recording())
+        return;
+    dl_iterate_phdr(look_at, NULL);
+    look_at_namespaces();
 }
 
 /* Takes how many objects were loaded so far. */

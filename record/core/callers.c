@@ -2,6 +2,7 @@
  * thread keeps what it found, with the return addresses on its stack: where these are the same, the
  * frames are. */
 #include "core/places.h"
+#include "core/recording.h"
 
 #include <pthread.h>
 #include <stdint.h>
@@ -80,11 +81,21 @@ static _Unwind_Reason_Code take_frame(struct _Unwind_Context *frame, void *to)
     return keep_frame(frame, &it->found);
 }
 
+/* Notes once that a handler of a signal makes calls: where they stand is luck. */
+static void note_handler(void)
+{
+    static bool is_noted;
+    if (!__atomic_exchange_n(&is_noted, true, __ATOMIC_RELAXED))
+        wire_up_note_unseen("handler", "signal");
+}
+
 /* Walks the frames of a call that a place makes, which may itself be the program's. */
 static void walk_frames(struct walk *it, struct place *place)
 {
     it->is_kept = true;
     _Unwind_Backtrace(take_frame, it);
+    if (it->found.is_in_handler)
+        note_handler();
     it->place = join_frames(&it->found);
     if (!it->place && place->owner == OF_PROGRAM)
         it->place = place;
@@ -101,10 +112,11 @@ bool wire_up_recall_place(const void *caller, const void *frame, struct place **
 
 struct place *wire_up_place_called(struct place *place, const void *frame)
 {
-    bool is_known = place->owner == OF_PROGRAM;
+    bool is_known = walks && place->owner == OF_PROGRAM;
     if (is_known && __atomic_fetch_add(&walked, 1, __ATOMIC_RELAXED) > MOST_WALKS)
         return wire_up_in_python(place);
     struct walk it = {.caller = place->address, .frame = frame};
+    note_thread();
     note_past_if_loaded();
     walk_frames(&it, place);
     struct walk *kept = it.is_kept ? find_slot(it.caller, frame) : NULL;

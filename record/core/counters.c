@@ -60,15 +60,17 @@ static void open_poll(struct counter *of, const void *caller)
     open_at[open_polls - 1] = (struct open_poll){caller, of};
 }
 
-void wire_up_take_poll(struct counter *of, const void *caller, bool has_found)
+bool wire_up_take_poll(struct counter *of, const void *caller, bool has_found)
 {
     unsigned n = 0;
     while (n < open_polls && (open_at[n].caller != caller || open_at[n].of != of))
         n++;
-    if (has_found && n < open_polls)
+    bool is_first = n == open_polls;
+    if (has_found && !is_first)
         open_at[n] = open_at[--open_polls];
-    else if (!has_found && n == open_polls)
+    else if (!has_found && is_first)
         open_poll(of, caller);
+    return has_found && is_first;
 }
 
 void count_call(struct counter *of, write_count *write)

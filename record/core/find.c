@@ -1,6 +1,6 @@
 /* The library's own functions, behind those of the recorder. */
 #define _GNU_SOURCE
-#include "record.h"
+#include "core/symbols.h"
 
 #include <dlfcn.h>
 
@@ -17,8 +17,7 @@ static void *find_in(const char *object, const char *name)
     return loaded ? wire_up_dlsym()(loaded, name) : NULL;
 }
 
-/* Finds a function in the objects that the code at `caller` is linked to. */
-static void *find_for_caller(const char *name, void *caller)
+void *find_for_caller(const char *name, void *caller)
 {
     Dl_info it;
     if (!dladdr(caller, &it) || !it.dli_fname)

@@ -149,9 +149,16 @@ enum owner find_owner(const void *address)
 _Unwind_Reason_Code keep_frame(struct _Unwind_Context *frame, void *to)
 {
     struct frames *found = to;
-    struct place *it = wire_up_place((const void *)_Unwind_GetIP(frame));
-    if (!it || it->owner != OF_PROGRAM)
-        return found->count ? _URC_END_OF_STACK : _URC_NO_REASON;
+    int is_interrupted = 0;
+    const void *address = (const void *)_Unwind_GetIPInfo(frame, &is_interrupted);
+    found->is_in_handler = found->count && is_interrupted;
+    if (found->is_over || found->is_in_handler)
+        return _URC_END_OF_STACK;
+    struct place *it = wire_up_place(address);
+    if (!it || it->owner != OF_PROGRAM) {
+        found->is_over = found->count > 0;
+        return _URC_NO_REASON;
+    }
     found->at[found->count++] = it;
     return found->count < MOST_FRAMES && !it->is_mpi4py ? _URC_NO_REASON : _URC_END_OF_STACK;
 }

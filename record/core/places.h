@@ -17,9 +17,10 @@ enum owner find_owner(const void *address);
 struct frames {
     struct place *at[MOST_FRAMES];
     size_t count;
+    bool is_over, is_in_handler; /* whether a signal interrupted what was there before */
 };
 
-/* Keeps the place of a frame if it is the program's, and ends the walk where the program's end. */
+/* Keeps the place of a frame if it is the program's, and ends the walk behind the first that isn't. */
 _Unwind_Reason_Code keep_frame(struct _Unwind_Context *frame, void *to);
 
 /* The place of the first of these, called at those of the others; null where there are none. */

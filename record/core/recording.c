@@ -29,6 +29,7 @@ static struct {
     int file;      /* where the records go; -1 before it is opened and after a failed write */
     pid_t process; /* that opened it: a fork of it isn't the same process of the job */
     const volatile char *mark; /* set in that process, and zero in a fork of it; may be null */
+    volatile char *child;      /* set once a fork of it has called PMIx or MPI; may be null */
     dev_t device;
     ino_t inode;
     char path[PATH_MAX];
@@ -257,6 +258,16 @@ static int get_file(void)
 
 bool wire_up_is_recording(void) { return get_file() >= 0; }
 
+bool wire_up_takes_calls(void)
+{
+    if (__atomic_load_n(&recording.file, __ATOMIC_ACQUIRE) < 0)
+        return false;
+    bool is_own = is_own_process();
+    if (!is_own && recording.child)
+        *recording.child = 1;
+    return is_own;
+}
+
 /* Each thread takes some numbers at once. */
 #define NUMBERS_AT_ONCE 64
 static __thread unsigned long next_number, last_number;
@@ -426,10 +437,43 @@ static void write_counted(const struct counter *of, unsigned long count)
     wire_up_text_close(&what);
 }
 
+void wire_up_note_unseen(const char *kind, const char *which)
+{
+    struct text what;
+    wire_up_text_open(&what);
+    wire_up_text_add(&what, "unseen %s ", kind);
+    wire_up_text_add_word(&what, which);
+    wire_up_write('=', 0, NULL, &what);
+    wire_up_text_close(&what);
+}
+
+void note_thread(void)
+{
+    static __thread bool is_noted;
+    struct text what;
+    if (is_noted || get_file() < 0)
+        return;
+    is_noted = true;
+    if (number_thread() == 1)
+        return;
+    wire_up_text_open(&what);
+    wire_up_text_add(&what, "thread");
+    wire_up_write('=', 0, NULL, &what);
+    wire_up_text_close(&what);
+}
+
 void write_all_counts(void)
 {
+    if (recording.child && *recording.child)
+        wire_up_note_unseen("child", "fork");
     count_polls(write_counted);
     write_counts(write_counted);
+}
+
+void wire_up_count_alone(struct counter *of)
+{
+    if (get_file() >= 0)
+        count_call(of, write_counted);
 }
 
 void wire_up_count(struct counter *of)
@@ -548,13 +592,21 @@ static bool write_head(int file, const struct identity *me, const char *host)
     return is_written;
 }
 
+/* Maps a page, which forks share or copy; null where memory is refused. */
+static char *map_page(int sharing)
+{
+    size_t page = (size_t)sysconf(_SC_PAGESIZE);
+    char *made = mmap(NULL, page, PROT_READ | PROT_WRITE, sharing | MAP_ANONYMOUS, -1, 0);
+    return made == MAP_FAILED ? NULL : made;
+}
+
 /* Makes a mark that no fork of this process has; null where the system can't. */
 static const char *make_mark(void)
 {
 #ifdef MADV_WIPEONFORK
     size_t page = (size_t)sysconf(_SC_PAGESIZE);
-    char *made = mmap(NULL, page, PROT_READ | PROT_WRITE, MAP_PRIVATE | MAP_ANONYMOUS, -1, 0);
-    if (made == MAP_FAILED)
+    char *made = map_page(MAP_PRIVATE);
+    if (!made)
         return NULL;
     *made = 1;
     if (madvise(made, page, MADV_WIPEONFORK) == 0)
@@ -576,6 +628,7 @@ static void begin_file(int file, const struct identity *me, const char *host)
     recording.inode = it.st_ino;
     recording.process = getpid();
     recording.mark = make_mark();
+    recording.child = map_page(MAP_SHARED);
     clock_gettime(CLOCK, &recording.began);
     if (write_head(file, me, host)) {
         __atomic_store_n(&recording.file, file, __ATOMIC_RELEASE);

@@ -19,7 +19,10 @@ bool has_recording(void);
  * it is of. Says on standard error where this fails. */
 void open_recording(const struct identity *me);
 
-/* Writes how many calls of each function were counted. */
+/* Notes the first call of each thread but the first. */
+void note_thread(void);
+
+/* Writes how many calls of each function were counted, and whether a forked child made any. */
 void write_all_counts(void);
 
 /* Cuts the file behind what is written, until more comes. */

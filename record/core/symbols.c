@@ -6,6 +6,8 @@
 #include "core/text.h"
 
 #include <dlfcn.h>
+#include <link.h>
+#include <stdio.h>
 
 static wire_up_find_symbol *system_dlsym;
 
@@ -24,12 +26,9 @@ bool has_recorded_name(const char *name)
     return begins_with(name, "MPI_") || begins_with(name, "PMPI_") || begins_with(name, "PMIx_");
 }
 
-/* Whether the program is to get functions of the recorder: its libraries get their own. */
-static bool is_of_program(const void *caller)
-{
-    enum owner owner = find_owner(caller);
-    return owner == OF_PROGRAM || owner == OF_BINDINGS;
-}
+/* Whether a lookup may be the program's, which gets functions of the recorder: libraries get their
+ * own. */
+static bool is_of_program(const void *caller) { return find_owner(caller) <= OF_TOOL; }
 
 void *find_own(wire_up_find_symbol *find, const char *name)
 {
@@ -46,26 +45,68 @@ void *find_own(wire_up_find_symbol *find, const char *name)
     return found && find_owner(found) == OF_RECORDER ? found : NULL;
 }
 
-/* Answers what stands before a function that was found; the function itself where nothing does. */
-static void *find_before(wire_up_find_symbol *find, void *found, const char *name)
+/* Finds the recorder's function that calls on to one of a library. For MPI it is that with the second
+ * name: from there no call comes back to a tool, which may be what looks the function up. PMIx'
+ * functions have one name, so there is none where a tool stands before the library. */
+static void *find_before(wire_up_find_symbol *find, const char *name)
 {
-    enum owner owner = found ? find_owner(found) : OF_PROGRAM;
-    if (owner != OF_MPI && owner != OF_PMIX)
-        return found;
-    void *own = find_own(find, name);
-    if (!own)
-        dlerror(); /* the program's own lookup didn't fail */
-    return own ? own : found;
+    char second[128];
+    if (!begins_with(name, "MPI_")) {
+        bool is_next = find_owner(find(RTLD_NEXT, name)) != OF_PROGRAM;
+        return is_next || begins_with(name, "PMPI_") ? find_own(find, name) : NULL;
+    }
+    int length = snprintf(second, sizeof second, "P%s", name);
+    return length < (int)sizeof second ? find_own(find, second) : NULL;
 }
 
-/* A lookup in one object finds its functions past those that are preloaded. Any other is made by a
- * jump, as the optimizer writes such a call: what it finds depends on where it is made. */
+static bool is_of_library(const void *function)
+{
+    enum owner owner = function ? find_owner(function) : OF_PROGRAM;
+    return owner == OF_MPI || owner == OF_PMIX;
+}
+
+/* Finds the first function of a name behind the object of a caller, in the order in which objects were
+ * loaded. */
+static void *find_behind(wire_up_find_symbol *find, const char *name, const void *caller)
+{
+    Dl_info of;
+    struct link_map *it = NULL;
+    void *found = NULL;
+    if (!dladdr1(caller, &of, (void **)&it, RTLD_DL_LINKMAP) || !it)
+        return NULL;
+    while (!found && (it = it->l_next)) {
+        void *object = dlopen(it->l_name, RTLD_LAZY | RTLD_NOLOAD);
+        found = object ? find(object, name) : NULL;
+        if (object)
+            dlclose(object);
+        if (wire_up_base(found) != wire_up_base(it->l_ld))
+            found = NULL;
+    }
+    return found;
+}
+
+/* Finds the recorder's function for a lookup in an object, or behind that of a caller; null where the
+ * system's is to be found. */
+__attribute__((noinline)) static void *find_for_lookup(wire_up_find_symbol *find, void *object,
+                                                       const char *name, void *caller)
+{
+    void *found = object == RTLD_NEXT ? find_behind(find, name, caller) : find(object, name);
+    if (!found && object == RTLD_NEXT)
+        found = find_for_caller(name, caller);
+    void *own = is_of_library(found) ? find_before(find, name) : NULL;
+    dlerror(); /* the program's own lookup didn't fail */
+    return own;
+}
+
+/* A lookup in one object, or behind one, finds its functions past those that are preloaded. What the
+ * recorder doesn't answer is looked up by a jump, as the optimizer writes such a call: what is found can
+ * depend on where the lookup is made. */
 __attribute__((optimize("O2"))) EXPORTED void *dlsym(void *restrict object,
                                                       const char *restrict name)
 {
     wire_up_find_symbol *find = wire_up_dlsym();
-    if (object == RTLD_NEXT || object == RTLD_DEFAULT || !has_recorded_name(name) ||
-        !is_of_program(__builtin_return_address(0)))
-        return find(object, name);
-    return find_before(find, find(object, name), name);
+    void *caller = __builtin_return_address(0), *own = NULL;
+    if (object != RTLD_DEFAULT && has_recorded_name(name) && is_of_program(caller))
+        own = find_for_lookup(find, object, name, caller);
+    return own ? own : find(object, name);
 }

@@ -24,7 +24,7 @@ struct call enter_call(const char *function, const void *caller)
 {
     struct call call = {.function = function};
     const void *frame = __builtin_frame_address(0);
-    if (!is_mpi_found() || !wire_up_is_recording())
+    if (!is_mpi_found() || !wire_up_takes_calls())
         return call;
     call.is_noted = wire_up_recall_place(caller, frame, &call.place);
     if (!call.is_noted) {
@@ -66,19 +66,10 @@ void note_other(const char *function)
     write_plain(&what);
 }
 
-void note_unseen(const char *kind, const char *which)
-{
-    struct text what;
-    wire_up_text_open(&what);
-    wire_up_text_add(&what, "unseen %s ", kind);
-    wire_up_text_add_word(&what, which);
-    write_plain(&what);
-}
-
 void note_passed(const char *function, unsigned long before)
 {
     int error = errno;
     if (calls_made == before)
-        note_unseen("call", function);
+        wire_up_note_unseen("call", function);
     errno = error;
 }

@@ -28,9 +28,6 @@ void write_plain(struct text *what);
 /* Notes that a function was called that isn't understood: it is only counted. */
 void note_other(const char *function);
 
-/* Notes what goes past the recorder: of a kind, and which. Calls of it may lack in the recording. */
-void note_unseen(const char *kind, const char *which);
-
 /* How many calls of MPI's own functions this thread has made. */
 extern __thread unsigned long calls_made;
 

@@ -25,7 +25,10 @@ static int count_active(int count, const MPI_Request requests[])
 struct watch watch_requests(const struct call *call, int count, const MPI_Request requests[])
 {
     struct watch watch = {.is_on = false};
-    if (!call->is_noted || !requests || !has_open(count, requests))
+    if (!call->is_noted || !requests)
+        return watch;
+    watch.active = count_active(count, requests);
+    if (!has_open(count, requests))
         return watch;
     size_t size = (size_t)count * sizeof *requests;
     watch.requests = malloc(size);
@@ -33,7 +36,6 @@ struct watch watch_requests(const struct call *call, int count, const MPI_Reques
         return watch;
     memcpy(watch.requests, requests, size);
     watch.count = count;
-    watch.active = count_active(count, requests);
     watch.is_on = true;
     return watch;
 }
@@ -57,10 +59,15 @@ const char *name_poll(const struct watch *watch)
     return watch->active > 1 ? ONE_OF_SOME : POLLED;
 }
 
-bool are_sends(const struct call *call, const struct watch *watch, int count,
-               const MPI_Request requests[])
+bool are_sends(const struct watch *watch) { return !watch->is_on && watch->active > 0; }
+
+bool has_send(const struct watch *watch, int some, const int indices[])
 {
-    return call->is_noted && !watch->is_on && requests && count_active(count, requests) > 1;
+    bool has = are_sends(watch) && some > 0;
+    for (int n = 0; watch->is_on && n < some; n++)
+        has = has || (indices[n] >= 0 && indices[n] < watch->count &&
+                      is_active_send(watch->requests[indices[n]]));
+    return has;
 }
 
 /* --- what is complete --- */

@@ -8,7 +8,7 @@
  * no receive or collective is among them, or where memory is refused. */
 struct watch {
     bool is_on;
-    int count, active; /* how many requests are active: one alone is waited for */
+    int count, active; /* how many requests of a noted call are active: one alone is waited for */
     MPI_Request *requests;
     MPI_Status *own; /* statuses, where the program takes none */
 };
@@ -32,9 +32,12 @@ int note_some_complete(const struct watch *watch, int result, const int *ended, 
 void note_one_complete(const struct watch *watch, int result, const int *index,
                        const MPI_Status *status, const char *how);
 
-/* Whether a call that isn't watched has several active requests: sends, mostly. */
-bool are_sends(const struct call *call, const struct watch *watch, int count,
-               const MPI_Request requests[]);
+/* Whether a call has completed a send, as the indices of what it completed say: not a receive or a
+ * collective. It is asked before these are noted. */
+bool has_send(const struct watch *watch, int some, const int indices[]);
+
+/* The same of a call that completes all, or none. */
+bool are_sends(const struct watch *watch);
 
 /* Says how a wait for any of the requests ends. */
 const char *name_wait(const struct watch *watch);

@@ -108,6 +108,17 @@ bool is_open(MPI_Request request)
     return is_known;
 }
 
+bool is_active_send(MPI_Request request)
+{
+    if (request == mpi.no_request)
+        return false;
+    pthread_mutex_lock(&table);
+    const struct request *it = *find_slot(request);
+    bool is_send = !it || it->kind == PERSISTENT_SEND;
+    pthread_mutex_unlock(&table);
+    return is_send;
+}
+
 /* --- what is kept --- */
 
 void keep_receive(MPI_Request request, unsigned long number)

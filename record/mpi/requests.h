@@ -37,6 +37,9 @@ void note_starts(const struct call *call, int count, const MPI_Request requests[
 /* Whether a request has a receive, a collective or a new communicator open. */
 bool is_open(MPI_Request request);
 
+/* Whether a request that was active is that of a send, as far as is known. */
+bool is_active_send(MPI_Request request);
+
 /* Notes that a request is complete: it is its handle before. */
 void note_complete(MPI_Request request, int result, const MPI_Status *status, const char *how);
 

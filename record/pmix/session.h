@@ -9,6 +9,9 @@
 /* Begins the recording of this process, of which the code at `caller` is. */
 void enter_session(const pmix_proc_t *me, void *caller);
 
+/* Whether this process starts others, as a tool of PMIx. It is none of the program's. */
+bool is_launcher(void);
+
 /* Notes the last PMIx_Finalize of as many as PMIx_Init was called. */
 void leave_session(void);
 

@@ -8,12 +8,19 @@
 #include "pmix/session.h"
 
 #include <errno.h>
+#include <pmix_tool.h>
 #include <string.h>
 
 /* Whether a call is to be noted: what PMIx' own code calls isn't, on any thread. */
 static inline bool is_noted(const void *caller)
 {
-    return wire_up_is_recording() && !wire_up_is_own(wire_up_place(caller), OF_PMIX);
+    return wire_up_takes_calls() && !wire_up_is_own(wire_up_place(caller), OF_PMIX);
+}
+
+/* The same for a call that isn't made by a library of MPI. */
+static inline bool is_of_program(const void *caller)
+{
+    return is_noted(caller) && !wire_up_is_own(wire_up_place(caller), OF_MPI);
 }
 
 /* Whether a lookup found a name at least. Where it found some of several, OpenPMIx 5 answers with a

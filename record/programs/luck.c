@@ -6,6 +6,8 @@
  *   several          a receive from whom one of several requests was the first: the same
  *   asked            a request that the program asks about before it waits for it: the same
  *   nothing          a poll that finds nothing: another run may publish no name, and the head tells of that
+ *   sent, beside     a poll that finds a send complete, and a send that is over before a receive: another run may publish the name elsewhere,
+ *                    and the head tells of that
  *   once, brief      a name that goes away when it is read, and a wait for ten seconds at most: races that the plan doesn't have, and that its
  *                    head tells of
  */
@@ -143,6 +145,48 @@ static void nothing(void)
         look_up();
 }
 
+static void sent(void)
+{
+    MPI_Request request;
+    int is_over = 0;
+    if (rank == 0) {
+        MPI_Isend(&x, 1, MPI_INT, 1, 0, MPI_COMM_WORLD, &request);
+        MPI_Test(&request, &is_over, MPI_STATUS_IGNORE);
+        if (is_over)
+            publish();
+        else
+            MPI_Wait(&request, MPI_STATUS_IGNORE);
+    }
+    if (rank == 1)
+        MPI_Recv(&x, 1, MPI_INT, 0, 0, MPI_COMM_WORLD, MPI_STATUS_IGNORE);
+    MPI_Barrier(MPI_COMM_WORLD);
+    if (rank == 1)
+        look_up();
+}
+
+/* Process 1 is the slower one. */
+static void beside(void)
+{
+    MPI_Request requests[2];
+    int which;
+    if (rank == 0) {
+        MPI_Irecv(&x, 1, MPI_INT, 1, 0, MPI_COMM_WORLD, &requests[0]);
+        MPI_Isend(&x, 1, MPI_INT, 1, 0, MPI_COMM_WORLD, &requests[1]);
+        MPI_Waitany(2, requests, &which, MPI_STATUS_IGNORE);
+        if (which == 1)
+            publish();
+        MPI_Waitany(2, requests, &which, MPI_STATUS_IGNORE);
+    }
+    if (rank == 1) {
+        usleep(300000);
+        MPI_Recv(&x, 1, MPI_INT, 0, 0, MPI_COMM_WORLD, MPI_STATUS_IGNORE);
+        MPI_Send(&x, 1, MPI_INT, 0, 0, MPI_COMM_WORLD);
+    }
+    MPI_Barrier(MPI_COMM_WORLD);
+    if (rank == 1)
+        look_up();
+}
+
 /* Publishes the name so that the first lookup takes it away. */
 static void publish_once(void)
 {
@@ -197,6 +241,10 @@ int main(int count, char **words)
         asked();
     else if (!strcmp(which, "nothing"))
         nothing();
+    else if (!strcmp(which, "sent"))
+        sent();
+    else if (!strcmp(which, "beside"))
+        beside();
     else if (!strcmp(which, "once"))
         once();
     else if (!strcmp(which, "brief"))

@@ -17,16 +17,20 @@ from wire_up_tools.record.calls import (
 )
 from wire_up_tools.record.directives import KNOWN, find_ending, gives_up, stands_early
 from wire_up_tools.record.messages import Messages
+from wire_up_tools.record.processes import Processes
 from wire_up_tools.record.recordings import Recording
 from wire_up_tools.words import show
 
-# Functions of MPI whose result depends on which rank was faster, or behind which another rank's
-# memory is read. They order nothing.
+# Functions whose result depends on which rank was faster, or behind which another rank's memory is
+# read, or that say what is done when an event comes. They order nothing.
 OF_LUCK = re.compile(
     r"MPI_(Cancel( of a receive)?|Fetch_and_op|Compare_and_swap|(Get|Rget)_accumulate(_c)?"
     r"|File_i?(read|write)_shared(_c)?|File_get_position_shared|Parrived|Request_get_status_\w+"
     r"|Win_lock(_all)?|Win_shared_query(_c)?|Wait(any|some) of sends)"
+    r"|PMIx_Register_event_handler"
 )
+# Functions by which processes are started. A library of MPI calls them too.
+STARTING = ("PMIx_Spawn", "PMIx_Spawn_nb")
 
 
 @dataclass(frozen=True)
@@ -64,11 +68,27 @@ def note_recording(recording: Recording, notes: Notes) -> None:
         noted[f"calls of {name}"] += count
     for name, count in recording.polls.items():
         notes.of_luck[f"calls of {name} that found nothing"] += count
-    if len(recording.threads) > 1 or recording.awaited_elsewhere:
+    for name, count in recording.found.items():
+        notes.of_luck[f"calls of {name} that found a send complete"] += count
+    if len(recording.threads) > 1 or recording.by_threads:
         notes.more_ordered[
             "processes that called from several threads: "
             "their calls stand in the order in which they began"
         ] += 1
+
+
+def note_missing(processes: Processes, notes: Notes) -> None:
+    """Notes processes that were there, and left no recording."""
+    recordings = [it.recording for it in processes.all]
+    for job in processes.jobs.values():
+        size = max(it.recording.job_size or 0 for it in job.processes)
+        notes.more_ordered[
+            "processes of a job that left no recording: their calls aren't in the plan"
+        ] += max(0, size - len(job.processes))
+    if len(processes.jobs) == 1:
+        notes.more_ordered[
+            "calls that started processes which left no recording: their calls aren't in the plan"
+        ] += sum(it.others.get(name, 0) for it in recordings for name in STARTING)
 
 
 def note_directives(call: Call, notes: Notes) -> None:

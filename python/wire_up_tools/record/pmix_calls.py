@@ -30,6 +30,7 @@ from wire_up_tools.record.names import Spelling, is_reserved_by_pmix
 from wire_up_tools.record.notes import (
     Notes,
     note_directives,
+    note_missing,
     note_overlaps,
     note_recording,
     note_unawaited,
@@ -297,4 +298,5 @@ def make_lines(processes: Processes, spelling: Spelling, with_mpi: bool) -> Pmix
         note_overlaps(in_plan, messages, notes)
         note_unawaited(in_plan, messages, notes)
     note_names(part, notes)
+    note_missing(processes, notes)
     return PmixLines(part, notes)

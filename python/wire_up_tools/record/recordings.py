@@ -96,10 +96,11 @@ class Recording:
     `calls` are those of PMIx and the collectives of MPI, and `messages` its sends, receives and
     probes: both in the order in which they began.
     `others` counts the calls that are only counted, by their names; `polls` those that found
-    nothing before another call; `unseen` what called MPI past
-    the recorder, and `unseen_pmix` what called PMIx so, by what is said of it. `outer` has the
-    number of the place at which the function of a place was called; `awaited_elsewhere` counts the
-    calls of MPI that another thread waited for. A process that `has_finalized` has called nothing
+    nothing before another call, and `found` those that found a send complete; `unseen` what called
+    MPI past the recorder, and `unseen_pmix` what called PMIx so, by what is said of it. `outer` has
+    the number of the place at which the function of a place was called; `by_threads` counts the
+    other threads that called, and the calls of MPI that another thread waited for. The job has
+    `job_size` processes, if the library told that. A process that `has_finalized` has called nothing
     after PMIx_Finalize; the last line of a recording that `is_cut` was dropped.
     """
 
@@ -113,13 +114,15 @@ class Recording:
     messages: Messages
     others: Mapping[str, int]
     polls: Mapping[str, int]
+    found: Mapping[str, int]
     unseen: Mapping[str, int]
     unseen_pmix: Mapping[str, int]
+    job_size: Optional[int]
     world: Optional[World]
     communicators: Mapping[int, RecordedCommunicator]
     places: Mapping[str, Place]
     outer: Mapping[str, str]
-    awaited_elsewhere: int
+    by_threads: int
     has_finalized: bool
     is_cut: bool
 
@@ -150,7 +153,10 @@ PLAIN = {
     "other": re.compile(r"other (.+)"),
     "others": re.compile(r"others (\w+) (\d{1,18})"),
     "polled": re.compile(r"polled (MPI_\w+) (\d{1,18})"),
-    "unseen": re.compile(rf"unseen (call|object|pmix) ({WORD})"),
+    "found": re.compile(r"found (MPI_\w+) (\d{1,18})"),
+    "unseen": re.compile(rf"unseen (call|object|pmix|namespace|child|handler) ({WORD})"),
+    "thread": re.compile(r"thread"),
+    "job": re.compile(r"job (\d{1,9})"),
     "world": re.compile(r"world (\d{1,9}) (\d{1,9})"),
     "comm": re.compile(r"comm (\d{1,9}) (\d{1,9}) ([wcgvs]-?\d{1,18}) ([\d,-]+)"),
     "inter": re.compile(r"inter (\d{1,9}) (\d{1,9}) (c-?\d{1,18}) ([\d,-]+) ([\d,-]+)"),
@@ -171,18 +177,24 @@ def read_line(groups: Groups) -> Place:
     return f"{function} ({os.path.basename(file)}:{groups[2]})"
 
 
-# What is said of the process when something called MPI or PMIx past the recorder, by its kind.
-OF_PMIX = "pmix"
-UNSEEN = {
+# What is said of the process when something called MPI past the recorder, or PMIx too, by its kind.
+UNSEEN_MPI = {
     "call": "calls of {} that a library took elsewhere: what it called of MPI isn't seen",
     "object": "processes in which {} calls MPI past the recorder: its calls aren't seen",
-    OF_PMIX: "processes in which {} calls PMIx past the recorder: its calls aren't seen",
+}
+UNSEEN_PMIX = {
+    "pmix": "processes in which {} calls PMIx past the recorder: its calls aren't seen",
+    "namespace": "processes with {} in a namespace of its own: calls of it aren't seen",
+    "child": "processes of which a child called PMIx or MPI by {}: its calls aren't seen",
+    "handler": "processes that called in a handler of a {}: another run may call elsewhere",
 }
 
 
 def read_unseen(groups: Groups) -> str:
-    """What is said of something that called MPI past the recorder. Raises ValueError."""
-    return UNSEEN[groups[0]].format(make_printable(os.path.basename(decode_text(groups[1]))))
+    """What is said of something that called past the recorder, by its name without the version.
+    Raises ValueError."""
+    name = os.path.basename(decode_text(groups[1])).partition(".so.")[0]
+    return {**UNSEEN_MPI, **UNSEEN_PMIX}[groups[0]].format(make_printable(name))
 
 
 # --- files ---
@@ -208,13 +220,15 @@ class Records:
     others: Counter[str] = field(default_factory=Counter)
     counted: dict[str, int] = field(default_factory=dict)
     polls: dict[str, int] = field(default_factory=dict)
+    found: dict[str, int] = field(default_factory=dict)
     unseen: Counter[str] = field(default_factory=Counter)
     unseen_pmix: Counter[str] = field(default_factory=Counter)
+    job_size: Optional[int] = None
     world: Optional[World] = None
     communicators: dict[int, RecordedCommunicator] = field(default_factory=dict)
     places: dict[str, Place] = field(default_factory=dict)
     outer: dict[str, str] = field(default_factory=dict)
-    awaited_elsewhere: int = 0
+    by_threads: int = 0
     has_finalized: bool = False
 
     def read(self, number: int, line: str) -> None:
@@ -267,7 +281,7 @@ class Records:
         """Takes the end of a call of PMIx or of a collective. Raises ValueError."""
         opened.finish(number, read_end(opened.action.verb, text))
         if thread != opened.thread and not opened.is_of_pmix:
-            self.awaited_elsewhere += 1
+            self.by_threads += 1
 
     def end_message(self, index: int, number: int, thread: str, text: str) -> None:
         """Takes the end of a send, a receive or a probe. Raises ValueError."""
@@ -277,7 +291,7 @@ class Records:
         else:
             came = read_came(text)
             messages.finish(index, number, came, came is None)
-        self.awaited_elsewhere += not messages.is_of_thread(index, thread)
+        self.by_threads += not messages.is_of_thread(index, thread)
 
     def note(self, number: int, text: str) -> None:
         """Takes what isn't a call, of a line. Raises ValueError or KeyError."""
@@ -286,12 +300,16 @@ class Records:
         self.has_finalized = verb == "finalize"
         if verb == "other":
             self.others[groups[0]] += 1
-        elif verb in ("others", "polled"):
-            counts = self.counted if verb == "others" else self.polls
+        elif verb in ("others", "polled", "found"):
+            counts = {"others": self.counted, "polled": self.polls, "found": self.found}[verb]
             counts[groups[0]] = max(int(groups[1]), counts.get(groups[0], 0))
         elif verb == "unseen":
-            unseen = self.unseen_pmix if groups[0] == OF_PMIX else self.unseen
+            unseen = self.unseen_pmix if groups[0] in UNSEEN_PMIX else self.unseen
             unseen[read_unseen(groups)] += 1
+        elif verb == "thread":
+            self.by_threads += 1
+        elif verb == "job":
+            self.job_size = int(groups[0])
         elif verb == "world":
             self.world = World(int(groups[0]), int(groups[1]), number)
         elif verb in ("comm", "inter"):
@@ -362,13 +380,15 @@ def read_recording(path: str, data: bytes) -> Recording:
         messages=records.messages,
         others=records.others + Counter(records.counted),
         polls=records.polls,
+        found=records.found,
         unseen=records.unseen,
         unseen_pmix=records.unseen_pmix,
+        job_size=records.job_size,
         world=records.world,
         communicators=records.communicators,
         places=records.places,
         outer=records.outer,
-        awaited_elsewhere=records.awaited_elsewhere,
+        by_threads=records.by_threads,
         has_finalized=records.has_finalized,
         is_cut=end < len(data),
     )
