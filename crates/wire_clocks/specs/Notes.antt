@@ -51,7 +51,7 @@ pub record KeepsNotes (old new : List Note) : Type 0 where
   pub longer : length old ≤ length new
   pub same : (n : ℕ) → n < length old → slice_get new n ≡ slice_get old n
 
--- the clock with this root is the note, the last of the list
+-- the clock with this root is the note
 pub record IsNoted (old new : List Note) (note : Note) (root : ℕ) : Type 0 where
   pub odd : root % 2 ≡ 1
   pub there : slice_get new (root / 2) ≡ Some note

@@ -102,8 +102,9 @@ fn is_low(notes: &[Note], left: u32, root: u32) -> bool
     }
 }
 
-/// Whether a note of a process may stand above a clock, as its notes are of the same block of 16 processes: so all of
-/// them cost one path when they are put into the tree.
+/// Whether a note of a process may stand above a clock: fewer than 16 notes stand there, and the top one is of the same
+/// block of 16 processes. So are all below it, as each was added so, and together they cost one path when they are put
+/// into the tree.
 fn takes_note(notes: &[Note], root: u32, process: u32) -> bool
     ensures { IsTrue result → (rows : List (List ℕ)) → (height : ℕ) → clock_stands rows notes.now height 16 root ≡ true →
         clock_stands rows notes.now height 15 root ≡ true }

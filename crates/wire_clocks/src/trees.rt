@@ -150,6 +150,7 @@ impl ClockTrees {
         if self.get(root, process) >= number {
             return Ok(root);
         }
+        // A tree that was just joined is mostly joined again, which takes a tree.
         if self.is_newest(root) {
             return self.raise_tree(root, process, number);
         }

@@ -169,8 +169,8 @@ pub fn next_arrival(plan: &Plan, owner: Proc, key: u32, node: u32, from: u32) ->
     plan.next_delivery(owner, key, node, from)
 }
 
-/// Whether the last fence that brings data at which a live get's process has arrived before the get brings a
-/// key to its node, which is this one.
+/// Whether this node is that of a live get's process, and the last fence with data that the process has left
+/// before the get brings the key there. A test for speed alone: where it fails, all fences are looked at.
 fn own_fence_brings(marked: &MarkedPlan<'_>, asked: KeyRead, node: u32) -> bool
     requires live { Live (plan_of marked.now) (event_of asked.get_now) }
     requires once { IsPutOnce (plan_of marked.now) asked.owner.number asked.key }
@@ -202,8 +202,8 @@ fn first_fence_is_sure(marked: &MarkedPlan<'_>, asked: KeyRead, node: u32) -> bo
 }
 
 /// Whether a delivery of a key to a node by a fence comes before a get in every run. If any does, the
-/// first one does: all arrivals at its fence are before each later arrival of the owner. Mostly the fence that
-/// the get's own process left last is one that does, and that takes fewer lookups.
+/// first one does: all arrivals at its fence are before each later arrival of the owner. Mostly the last
+/// fence with data that the get's own process has left is one that does, and that takes fewer lookups.
 fn fence_comes_surely(marked: &MarkedPlan<'_>, asked: KeyRead, node: u32) -> bool
     requires live { Live (plan_of marked.now) (event_of asked.get_now) }
     requires once { IsPutOnce (plan_of marked.now) asked.owner.number asked.key }

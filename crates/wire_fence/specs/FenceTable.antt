@@ -19,8 +19,8 @@ pub record FenceInfo : Type 0 where
   pub full : Bool
   pub collects : Bool
 
--- the fences by number; for each call of each process the number of its fence, where it is a fence call; and each set
--- of processes, by its number, with each node that a member is on
+-- the fences by number; for each call of each process, up to its last fence call, the number of its fence, where it
+-- is a fence call; and each set of processes, by its number, with each node that a member is on
 pub record FenceTable : Type 0 where
   pub fences : List FenceInfo
   pub numbers : List (List (Option ℕ))

@@ -238,7 +238,7 @@ impl Clocks {
         Ok(raised)
     }
 
-    /// Adds the root of the base of the next event of a process, which changes no name.
+    /// Adds the root of the base of the next event of a process. No change of a name is noted.
     pub(crate) fn push(&mut self, proc: Proc, root: u32) -> Result<(), AllocError>
         requires { proc.number < length self.old.roots.items }
         ensures adds { OnOk result (Adds self.old self.new proc.number root) }

@@ -23,7 +23,7 @@ IsSaid words None = (said : Said) → Says words said → ⊥
 abbrev pub IsParsed : Statement → Parsed → Type 0
 IsParsed s p = (p.number ≡ s.0) × IsSaid s.1 p.said
 
--- statements in their order, and what they say: nothing is parsed behind a line that says nothing
+-- statements in their order, and what they say; what stands behind a line that says nothing may be left out
 abbrev pub AreParsed : List Statement → List Parsed → Type 0
 AreParsed [] [] = Unit {0}
 AreParsed [] (p ∷ ps) = ⊥
