@@ -208,6 +208,7 @@ def read_wanted(text: Optional[str], any_number: int) -> int:
     return any_number if text in ("any", None) else int(text or "")
 
 
+@functools.lru_cache(KEPT_RECORDS)
 def read_message(text: str) -> Optional[Begun]:
     """What a call that begins sends, receives or probes for; None of another call."""
     read = MESSAGE.fullmatch(text)
@@ -224,6 +225,7 @@ def read_message(text: str) -> Optional[Begun]:
     return RECEIVE if is_receive else PROBE, int(communicator), *wanted, -1
 
 
+@functools.lru_cache(KEPT_RECORDS)
 def read_came(text: str) -> Optional[Came]:
     """The message that a receive or a probe got; None where it failed."""
     if text == FAILED_MESSAGE_END:
