@@ -90,13 +90,11 @@ note_received(number, result, told, WAITED);
 def take_poll(is_watched: str, has_found: str = "*flag", is_send: str = "false") -> str:
     """C that takes what a poll has found, if it is to be noted, and counts a send that it found at
     once."""
-    take = (
-        f"{is_watched} && result == MPI_SUCCESS && wire_up_take_poll(&polls, caller, {has_found})"
-    )
+    take = f"result == MPI_SUCCESS && wire_up_take_poll(&polls, caller, {has_found})"
     return f"""\
 static struct counter polls = {{.what = POLLS_IN_VAIN, .function = "$function"}};
 static struct counter sends = {{.what = FOUND_SENDS, .function = "$function"}};
-if ({take} && {is_send})
+if ({is_watched} && {take} && {is_send})
     wire_up_count_alone(&sends);
 """
 

@@ -50,8 +50,8 @@ class Program:
     isn't its name. `luck` counts the ends that were left to luck, without which there is one more
     finding, `received` the receives that could have got another message, and `first` those that
     were the first of several requests; `poll` is the function by which one poll found nothing
-    before another call, and `called` another call whose result is luck. `is_replayed` says that the replay of the plan answers as the program was
-    answered."""
+    before another call, and `called` another call whose result is luck. `is_replayed` says that
+    the replay of the plan answers as the program was answered."""
 
     processes: int
     findings: int

@@ -299,11 +299,16 @@ class OtherWaysTest(LiveTest):
                     self.assertIsNone(wrong)
 
     def test_a_rank_without_the_recorder(self) -> None:
-        """A rank that left no recording is missed, also where MPI doesn't tell how many there are."""
+        """A rank that left no recording is missed, where MPI doesn't say how many there are."""
         path = self.compile("alone")
         ran = self.record(*mpirun(2, path), ":", "-n", "1", "env", "-u", "LD_PRELOAD", path)
         said = "1 processes of a job that left no recording: their calls aren't in the plan\n"
         self.assertEqual((ran.returncode, ran.stderr), (0, f"wire_up-record: {IN_PART}{said}"))
+
+    def test_a_tool_of_pmix(self) -> None:
+        ran = self.record(self.compile("alone"), "tool")
+        self.assertEqual((ran.returncode, ran.stderr), (0, ""))
+        self.assertEqual(read_scripts(read_file(self.plan)), [["put global key number:1"]])
 
     def test_other_names(self) -> None:
         self.hold("pmpi")

@@ -100,8 +100,8 @@ class Recording:
     MPI past the recorder, and `unseen_pmix` what called PMIx so, by what is said of it. `outer` has
     the number of the place at which the function of a place was called; `by_threads` counts the
     other threads that called, and the calls of MPI that another thread waited for. The job has
-    `job_size` processes, if the library told that. A process that `has_finalized` has called nothing
-    after PMIx_Finalize; the last line of a recording that `is_cut` was dropped.
+    `job_size` processes, if the library told that. A process that `has_finalized` has called
+    nothing after PMIx_Finalize; the last line of a recording that `is_cut` was dropped.
     """
 
     path: str
