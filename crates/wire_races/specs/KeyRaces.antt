@@ -1,13 +1,12 @@
 -- The races of a get that is answered at once: for the contracts of private functions.
-use Rattle.std.specs.Prelude.{◌≡◌, ◌≢◌, ◌⊎◌, ◌<◌, ◌*◌, ◌/◌, ◌-◌, ◌^◌, min, max, ℕ, List, false, Some}
-use Rattle.wire_runs.specs.Plan.{Plan, Event, GetNow, kind, event_total, process_count, node_of, same_node}
+use Rattle.std.specs.Prelude.{◌≡◌, ◌≢◌, ◌⊎◌, ◌<◌, ℕ, false, Some}
+use Rattle.wire_runs.specs.Plan.{Plan, Event, GetNow, kind, event_count, node_of, same_node}
 use Rattle.wire_runs.specs.Order.{Live}
 use Rattle.wire_runs.specs.Races.{IsPutOnce, ComesSurely}
 use Rattle.wire_runs.specs.EventLists.{IsLower}
 use Rattle.wire_plan.specs.Index.{IsDelivering}
 use Rattle.wire_runs.specs.Findings.{Finding, KeyRace, IsKeyRace}
-use Rattle.wire_findings.specs.declared.finding.Finding.{Finding as Told}
-use Rattle.wire_races.specs.Pieces.{ArePieces}
+use Rattle.wire_races.specs.Adding.{ToldIn}
 use Rattle.wire_fates.specs.Deliveries.{IsLate}
 
 -- the race of two events, the lower of them first
@@ -22,23 +21,9 @@ pub record IsKeyRaceBy (plan : Plan) (get : Event) (f : Finding) : Type 0 where
   pub race : IsKeyRace plan source get owner key
   pub is : IsRaceOf source get owner key f
 
--- how many processes a piece of the search has
-abbrev pub piece_size : Plan → ℕ
-piece_size plan = min (max (process_count plan * 4096 / max (event_total plan) 1) 1) (2 ^ 32 - 1)
-
--- there are so many pieces: each process is in one of them
-abbrev pub HasPieces : Plan → ℕ → Type 0
-HasPieces plan n = (p : ℕ) → p < process_count plan → p / piece_size plan < n
-
--- a race of a get of a process of the piece
-abbrev pub IsKeyRaceIn : Plan → ℕ → Finding → Type 0
-IsKeyRaceIn plan piece f = (y : Event) × IsKeyRaceBy plan y f × (y.proc / piece_size plan ≡ piece)
-
--- the pieces tell the races of all gets, each those of its processes
-pub record AreKeyPieces (plan : Plan) (pieces : List (List Told)) : Type 0 where
-  pub count : ℕ
-  pub enough : HasPieces plan count
-  pub are : ArePieces plan count (IsKeyRaceIn plan) pieces
+-- a race of a get of process p
+abbrev pub IsKeyRaceOf : Plan → ℕ → Finding → Type 0
+IsKeyRaceOf plan p = ToldIn (IsKeyRaceBy plan) p (event_count plan p)
 
 -- a live get, answered at once, of a key that another process puts once
 pub record IsOpen (plan : Plan) (get : Event) (owner key : ℕ) : Type 0 where

@@ -1,6 +1,6 @@
 //! Races on keys: a get that is answered at once, and the commit or the fence that brings the key.
 
-ghost use Rattle.std.specs.Prelude.{◌≡◌, ◌<◌, ◌≤◌, ◌*◌, ◌/◌, ℕ, max, Some, OnOk, IsTrue, IfOk, ◌↔◌, true, false};
+ghost use Rattle.std.specs.Prelude.{◌≡◌, ◌<◌, ◌*◌, ◌/◌, max, Some, OnOk, IsTrue, IfOk, ◌↔◌, true, false};
 ghost use Rattle.wire_runs.specs.Plan.{GetNow, event_of, process_count, event_count, event_total, kind, node_of};
 ghost use Rattle.wire_runs.specs.Plan.{same_node};
 ghost use Rattle.wire_content.specs.Planned.{plan_of};
@@ -12,10 +12,10 @@ ghost use Rattle.wire_findings.specs.Findings.{shown};
 ghost use Rattle.wire_findings.specs.Collected.{AreFound};
 ghost use Rattle.wire_fates.specs.Deliveries.{MayBeLate};
 ghost use Rattle.wire_races.specs.FindingKinds.{IsOfKey, AllAdded};
-ghost use Rattle.wire_races.specs.Adding.{Adds, ToldIn, ToldBetween};
-ghost use Rattle.wire_races.specs.Pieces.{IsPiece};
-ghost use Rattle.wire_races.specs.KeyRaces.{IsRaceOf, IsKeyRaceBy, IsOpen, IsLateBy, AreLateBelow};
-ghost use Rattle.wire_races.specs.KeyRaces.{IsUnsure, piece_size, HasPieces, IsKeyRaceIn, AreKeyPieces};
+ghost use Rattle.wire_races.specs.Adding.{Adds, ToldIn};
+ghost use Rattle.wire_races.specs.Pieces.{IsPiece, ArePieces};
+ghost use Rattle.wire_races.specs.KeyRaces.{IsRaceOf, IsKeyRaceBy, IsKeyRaceOf, IsOpen, IsLateBy, AreLateBelow};
+ghost use Rattle.wire_races.specs.KeyRaces.{IsUnsure};
 
 use crate::get_races::add_get_races;
 use crate::search_pieces::add_pieces;
@@ -228,21 +228,13 @@ fn add_process(marked: &MarkedPlan<'_>, found: &mut Found, proc: Proc) -> Result
     Ok(())
 }
 
-/// Adds the races of the gets of processes that stand side by side: from one up to the end.
-fn add_processes(
-    marked: &MarkedPlan<'_>,
-    found: &mut Found,
-    from: u32,
-    end: u32,
-) -> Result<(), AllocError>
-    requires order { from ≤ end }
-    requires found { AreFound (plan_of marked.now) found.old }
-    ensures { OnOk result (Adds (plan_of marked.now) found.old found.new (ToldBetween (IsKeyRaceBy (plan_of marked.now)) from end)) }
+/// The races of the gets of a process: a piece of the search.
+fn make_piece(alloc: Global, marked: &MarkedPlan<'_>, proc: Proc) -> Result<Found, AllocError>
+    ensures { IfOk result (IsPiece (plan_of marked.now) (IsKeyRaceOf (plan_of marked.now) proc.number)) }
 {
-    for number in from..end {
-        add_process(marked, found, Proc { number })?;
-    }
-    Ok(())
+    let mut found = Found::new(alloc);
+    add_process(marked, &mut found, proc)?;
+    Ok(found)
 }
 
 /// The least number of processes for a thread: as many as have some 4,096 events on average. To start a
@@ -253,60 +245,22 @@ pub fn least_processes(plan: &Plan) -> usize
     plan.process_count() as usize * 4096 / plan.event_total().max(1)
 }
 
-/// How many processes, side by side, a piece of the search has.
-fn piece_size(plan: &Plan) -> u32
-    ensures { result ≡ piece_size (plan_of plan.now) }
-{
-    least_processes(plan).max(1).min(u32::MAX as usize) as u32
-}
-
-/// How many pieces there are: one for each process at most.
-fn piece_count(plan: &Plan) -> u32
-    ensures { HasPieces (plan_of plan.now) result }
-{
-    match plan.process_count().checked_sub(1) {
-        Some(last) => last / piece_size(plan) + 1,
-        None => 0,
-    }
-}
-
-/// The first process of a piece of this size, and the one behind its last; the last piece may have fewer.
-fn processes_of(piece: u32, size: u32, count: u32) -> (u32, u32)
-    requires { 0 < size }
-    ensures order { result.0 ≤ result.1 }
-    ensures these { (p : ℕ) → p < count → (((result.0 ≤ p) × (p < result.1)) ↔ (p / size ≡ piece)) }
-{
-    let from = (piece as u64 * size as u64).min(count as u64);
-    let end = (from + size as u64).min(count as u64);
-    (from as u32, end as u32)
-}
-
-/// The races of the gets of the processes of a piece.
-fn make_piece(alloc: Global, marked: &MarkedPlan<'_>, piece: u32) -> Result<Found, AllocError>
-    ensures { IfOk result (IsPiece (plan_of marked.now) (IsKeyRaceIn (plan_of marked.now) piece)) }
-{
-    let plan = marked.plan();
-    let (from, end) = processes_of(piece, piece_size(plan), plan.process_count());
-    let mut found = Found::new(alloc);
-    add_processes(marked, &mut found, from, end)?;
-    Ok(found)
-}
-
-/// The pieces, in their order, made by several threads.
+/// A piece for each process, in their order, made by several threads.
 fn make_pieces(
     rt: &(impl Threads + Sync),
     alloc: Global,
     marked: &MarkedPlan<'_>,
 ) -> Result<Vec<Found>, AllocError>
-    ensures { IfOk result (λ pieces. AreKeyPieces (plan_of marked.now) pieces.items) }
+    ensures { IfOk result (λ pieces. ArePieces (plan_of marked.now) (process_count (plan_of marked.now)) (IsKeyRaceOf (plan_of marked.now)) pieces.items) }
 {
-    (0..piece_count(marked.plan()))
+    let plan = marked.plan();
+    (0..plan.process_count())
         .into_par_iter()
-        .with_min_len(1)
+        .with_min_len(least_processes(plan))
         .map(
             |number: u32| -> Result<Found, AllocError>
-                ensures { IfOk result (IsPiece (plan_of marked.entry.now) (IsKeyRaceIn (plan_of marked.entry.now) number)) }
-            { make_piece(alloc, marked, number) },
+                ensures { IfOk result (IsPiece (plan_of marked.entry.now) (IsKeyRaceOf (plan_of marked.entry.now) number)) }
+            { make_piece(alloc, marked, Proc { number }) },
         )
         .collect::<Result<Vec<_>, AllocError>>(rt, alloc)?
 }
