@@ -8,6 +8,8 @@ pub mod Lists
 pub mod Places
 pub mod Steps
 pub mod Targets
+pub mod NamedRanges
+pub mod NamedPlaces
 pub mod Notes
 pub mod Seen
 pub mod Tables
@@ -32,3 +34,4 @@ pub mod QuestionRead
 pub mod Parsing
 pub mod Cutting
 pub mod Declaring
+mod Onwards

@@ -1,18 +1,14 @@
 -- The numbers of the processes that pass a test.
-use Rattle.std.proofs.Common.{◌≡◌, ◌∙◌, ap, sym, subst, refl, ℕ, zero, suc, ◌+◌, ◌<◌, ◌≤◌, List, [], ◌∷◌, ◌++◌, Bool, true, false, Some, length, map, drop, get_or, arith, append_assoc, append-nil, if◌then◌else◌}
+use Rattle.std.proofs.Common.{◌≡◌, ◌∙◌, ap, sym, subst, refl, ℕ, zero, suc, ◌+◌, ◌<◌, ◌≤◌, List, [], ◌∷◌, Bool, true, false, Some, length, arith, if◌then◌else◌}
 use Rattle.std.specs.Prelude.{nat_lt, ◌==◌, ◌||◌, slice_get}
 use Rattle.std.specs.List.{list_all}
 use Rattle.std.proofs.lemmas.Bool.{lt-ltb}
-use Rattle.std.proofs.lemmas.List.{drop_all}
 use Rattle.std.proofs.Math.Bool.{or-true}
 use borrow.Author.Tests.{eq-eqb}
 use Rattle.wire_runs.specs.Plan.{with_member, set_of}
 use Rattle.wire_runs.specs.Fences.{is_member}
 use Rattle.wire_script.specs.FirstPass.{Started}
 use Rattle.wire_script.specs.Reads.{places_from}
-use Rattle.wire_script.specs.Drafted.{started_of}
-use Rattle.wire_script.specs.declared.draft.Started.{Started as Building}
-use Rattle.wire_script.proofs.Steps.{drop_at}
 
 -- two tests that agree
 pub places_same : (f g : Started → Bool) → ((p : Started) → f p ≡ g p) → (n : ℕ) (ps : List Started) → places_from f n ps ≡ places_from g n ps
@@ -65,29 +61,3 @@ places_hold f n (x ∷ ps) (suc i) p at h =
       | true ↦ subst (λ m. is_member (n ∷ places_from f (n + 1) ps) m ≡ true) (sym one) (ap (λ b. (n == n + 1 + i) || b) rest ∙ or-true (n == n + 1 + i))
       | false ↦ subst (λ m. is_member (places_from f (n + 1) ps) m ≡ true) (sym one) rest
     ]
-
--- the numbers that are found one process after another
-module _ (f : Started → Bool) (found now all : List ℕ) (n i : ℕ) (ps : List Building) where
-  opened : (x : Building) → i < length ps → x ≡ get_or ps i x → found ++ places_from f n (map started_of (drop i ps)) ≡ all
-      → found ++ places_from f n (started_of x ∷ map started_of (drop (i + 1) ps)) ≡ all
-  opened x lt is h = ap (λ l. found ++ places_from f n (map started_of l)) (sym (drop_at ps i x lt is)) ∙ h
-
-  pub place_found : (x : Building) → i < length ps → x ≡ get_or ps i x → f (started_of x) ≡ true → now ≡ found ++ n ∷ []
-      → found ++ places_from f n (map started_of (drop i ps)) ≡ all → now ++ places_from f (n + 1) (map started_of (drop (i + 1) ps)) ≡ all
-  place_found x lt is passes more h =
-      let rest = places_from f (n + 1) (map started_of (drop (i + 1) ps)) in
-      ap (λ l. l ++ rest) more
-      ∙ append_assoc found (n ∷ []) rest
-      ∙ ap (λ b. found ++ (if b then n ∷ rest else rest)) (sym passes)
-      ∙ opened x lt is h
-
-  pub place_passed : (x : Building) → i < length ps → x ≡ get_or ps i x → f (started_of x) ≡ false → now ≡ found
-      → found ++ places_from f n (map started_of (drop i ps)) ≡ all → now ++ places_from f (n + 1) (map started_of (drop (i + 1) ps)) ≡ all
-  place_passed x lt is fails same h =
-      let rest = places_from f (n + 1) (map started_of (drop (i + 1) ps)) in
-      ap (λ l. l ++ rest) same
-      ∙ ap (λ b. found ++ (if b then n ∷ rest else rest)) (sym fails)
-      ∙ opened x lt is h
-
-  pub places_over : length ps ≤ i → found ++ places_from f n (map started_of (drop i ps)) ≡ all → found ≡ all
-  places_over past h = sym (append-nil found) ∙ ap (λ l. found ++ places_from f n (map started_of l)) (sym (drop_all i ps past)) ∙ h

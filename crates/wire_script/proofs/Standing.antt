@@ -57,7 +57,7 @@ stands m n (x ∷ ps) (suc first) (suc k) p jobs ranks at below above =
     omega arith
 
 -- what a list holds, moved to what is seen of it
-seen_at : (bs : List Building) (k : ℕ) (p : Started) → slice_get (map started_of bs) k ≡ Some p → (k < length bs) × ((b : Building) → started_of (get_or bs k b) ≡ p)
+pub seen_at : (bs : List Building) (k : ℕ) (p : Started) → slice_get (map started_of bs) k ≡ Some p → (k < length bs) × ((b : Building) → started_of (get_or bs k b) ≡ p)
 seen_at [] k p at = absurd (cc)
 seen_at (x ∷ bs) zero p at = (omega arith, λ b. cc)
 seen_at (x ∷ bs) (suc k) p at = let r = seen_at bs k p at in (let s = r.0 in omega arith, r.1)

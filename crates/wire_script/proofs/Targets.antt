@@ -107,23 +107,3 @@ pub kept_next : (kept new ts : List Target) (i : ℕ) (d : Target) (p : Started)
     → is_any_target new p ≡ is_any_target (take (i + 1) ts) p
 kept_next kept new ts i d p lt is same =
     kept_on kept new (take i ts) (get_or ts i d) p is same ∙ ap (λ l. is_any_target l p) (sym (take_more ts i d lt))
-
--- a process is named by itself or with its job
-pub kept_named : (ts : List Target) (p : Started) → (list_any (same_target (One p.job p.rank)) ts || list_any (same_target (Every p.job)) ts) ≡ is_any_target ts p
-kept_named [] p = refl
-kept_named (t ∷ ts) p = first t ∙ ap (λ b. is_target t p || b) (kept_named ts p)
-  where
-    shuffle : (a b c d : Bool) → ((a || b) || (c || d)) ≡ ((a || c) || (b || d))
-    shuffle true b c d = refl
-    shuffle false true true d = refl
-    shuffle false true false d = refl
-    shuffle false false c d = refl
-
-    one : (u : Target) → (same_target (One p.job p.rank) u || same_target (Every p.job) u) ≡ is_target u p
-    one (One j r) = or-false ((p.job == j) && (p.rank == r))
-    one (Every j) = refl
-
-    first : (u : Target) → ((same_target (One p.job p.rank) u || list_any (same_target (One p.job p.rank)) ts) || (same_target (Every p.job) u || list_any (same_target (Every p.job)) ts))
-        ≡ (is_target u p || (list_any (same_target (One p.job p.rank)) ts || list_any (same_target (Every p.job)) ts))
-    first u = shuffle (same_target (One p.job p.rank) u) (list_any (same_target (One p.job p.rank)) ts) (same_target (Every p.job) u) (list_any (same_target (Every p.job)) ts)
-        ∙ ap (λ b. b || (list_any (same_target (One p.job p.rank)) ts || list_any (same_target (Every p.job)) ts)) (one u)

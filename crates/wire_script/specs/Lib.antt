@@ -14,3 +14,4 @@ pub mod Order
 pub mod Ranks
 pub mod Question
 pub mod Pieces
+pub mod Ahead

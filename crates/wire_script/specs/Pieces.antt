@@ -14,7 +14,7 @@ use Rattle.wire_script.specs.declared.pieces.Parsed.{Parsed}
 abbrev pub HasRoom : Cursor → Type 0
 HasRoom c = c.line + length c.rest.now < 2 ^ 64
 
--- the words say this line, or nothing
+-- the words say this line, or are no line of a plan
 abbrev pub IsSaid : List (List ℕ) → Option Line → Type 0
 IsSaid words (Some line) = Says words (said_by line)
 IsSaid words None = (said : Said) → Says words said → ⊥
@@ -23,7 +23,7 @@ IsSaid words None = (said : Said) → Says words said → ⊥
 abbrev pub IsParsed : Statement → Parsed → Type 0
 IsParsed s p = (p.number ≡ s.0) × IsSaid s.1 p.said
 
--- statements in their order, and what they say; what stands behind a line that says nothing may be left out
+-- statements in their order, and what they say; what stands behind one that is no line of a plan may be left out
 abbrev pub AreParsed : List Statement → List Parsed → Type 0
 AreParsed [] [] = Unit {0}
 AreParsed [] (p ∷ ps) = ⊥

@@ -1,6 +1,6 @@
 -- What the items of a set name, by number: for the contracts of private functions. What is read is said in Reads.
-use Rattle.std.specs.Prelude.{◌≡◌, ℕ, ◌==◌, Bool, true, nat_lt, List, length}
-use Rattle.std.specs.List.{All, list_any, position_or_len}
+use Rattle.std.specs.Prelude.{◌≡◌, ◌↔◌, ◌⊎◌, ℕ, zero, suc, ◌<◌, ◌≤◌, ◌==◌, Bool, true, false, nat_lt, List, [], ◌∷◌, length}
+use Rattle.std.specs.List.{All, Contains, list_any, position_or_len}
 use Rattle.wire_lines.specs.Said as said
 use Rattle.wire_script.specs.FirstPass.{is_among, number_or_count, Started, Declared}
 use Rattle.wire_script.specs.Reads.{is_proc, places_from}
@@ -30,6 +30,24 @@ is_declared_target d (Every job) = nat_lt job (length d.jobs)
 -- the members of the set of what is named
 abbrev pub named_in : Declared → List Target → List ℕ
 named_in d targets = places_from (is_any_target targets) 0 d.processes
+
+-- whether the process of a number passes a test
+abbrev pub passes_at : (Started → Bool) → List Started → ℕ → Bool
+passes_at test [] k = false
+passes_at test (p ∷ ps) zero = test p
+passes_at test (p ∷ ps) (suc k) = passes_at test ps k
+
+-- the processes that a target names are those from one number to below another
+abbrev pub IsRangeOf : Declared → Target → ℕ → ℕ → Type 0
+IsRangeOf d target first past = (k : ℕ) → ((first ≤ k) × (k < past)) ↔ (passes_at (is_target target) d.processes k ≡ true)
+
+-- the new list has what the old one has, and the numbers from the first to below the past one
+abbrev pub AddsRange : ℕ → ℕ → List ℕ → List ℕ → Type 0
+AddsRange first past old new = (k : ℕ) → Contains new k ↔ (Contains old k ⊎ ((first ≤ k) × (k < past)))
+
+-- the numbers of what is named, in whatever order, however often
+abbrev pub AreNamed : Declared → List Target → List ℕ → Type 0
+AreNamed d targets numbers = (k : ℕ) → Contains numbers k ↔ (passes_at (is_any_target targets) d.processes k ≡ true)
 
 -- what was named, with a number
 abbrev pub Note : Type 0

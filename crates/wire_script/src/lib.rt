@@ -21,6 +21,7 @@ mod ranks;
 mod reader;
 mod second_pass;
 mod shared_pass;
+mod tasks;
 
 pub use limits::{Limits, Size};
 pub use lines::{Cursor, Statement};

@@ -1,12 +1,13 @@
 //! The processes that a call names.
 
-ghost use Rattle.std.specs.Prelude.{◌≡◌, ◌+◌, ◌≤◌, ◌==◌, ℕ, Some, true, false, map, length, slice_get, IfOk, IfSome};
-ghost use Rattle.std.specs.Prelude.{IfNone};
+ghost use Rattle.std.specs.Prelude.{◌≡◌, ◌↔◌, ◌+◌, ◌≤◌, ◌<◌, ◌==◌, ℕ, Some, true, false, map, length, slice_get};
+ghost use Rattle.std.specs.Prelude.{IfOk, OnOk, IfSome, IfNone};
 ghost use Rattle.wire_lines.specs.Shown.{item_by};
 ghost use Rattle.wire_content.specs.Scripts.{numbers_of};
 ghost use Rattle.wire_script.specs.Reads as spec;
 ghost use Rattle.wire_script.specs.FirstPass as pass;
 ghost use Rattle.wire_script.specs.Targets.{is_target, is_any_target, is_declared_target, named_in, target_by};
+ghost use Rattle.wire_script.specs.Targets.{IsRangeOf, AddsRange, AreNamed};
 ghost use Rattle.wire_script.specs.Within.{IsWithinLimits, IsDeclared};
 ghost use Rattle.wire_script.specs.Drafted.{declared_of, started_of};
 ghost use Rattle.std.specs.List.{position_or_len, list_all};
@@ -37,6 +38,8 @@ fn count_before(draft: &Draft, job: u32) -> usize
     ensures within { result ≤ length draft.now.processes.items }
     ensures place { (k : ℕ) (p : pass.Started) → slice_get (map started_of draft.now.processes.items) k ≡ Some p
         → p.job ≡ job → result + p.rank ≡ k }
+    ensures those { (k : ℕ) (p : pass.Started) → slice_get (map started_of draft.now.processes.items) k ≡ Some p
+        → (k < result) ↔ (p.job < job) }
 {
     if job == 0 {
         return 0;
@@ -109,7 +112,7 @@ pub fn find_targets(alloc: Global, draft: &Draft, items: &[Item]) -> Result<Vec<
     Ok(targets)
 }
 
-/// Whether the target of a get is declared.
+/// Whether what an item of a set names is declared.
 fn is_declared(draft: &Draft, target: Target) -> bool
     requires within { IsWithinLimits (declared_of draft.now) }
     requires declared { IsDeclared (declared_of draft.now) }
@@ -135,7 +138,7 @@ pub fn are_declared(draft: &Draft, targets: &[Target]) -> bool
     true
 }
 
-/// Whether a process is the target of a get.
+/// Whether a process is what an item of a set names.
 fn is_target_of(target: Target, process: &Started) -> bool
     ensures { result ≡ is_target target (started_of process.now) }
 {
@@ -163,35 +166,81 @@ fn gather_distinct(alloc: Global, targets: &[Target]) -> Result<IndexSet<Target>
     Ok(kept)
 }
 
-/// Whether a process is one of those that are kept, by itself or with its job.
-fn is_kept(kept: &IndexSet<Target>, process: &Started) -> bool
-    ensures { result ≡ is_any_target kept.now.keys (started_of process.now) }
+/// How many processes stand before those of the next job.
+fn count_through(draft: &Draft, job: u32) -> usize
+    requires declared { IsDeclared (declared_of draft.now) }
+    ensures within { result ≤ length draft.now.processes.items }
+    ensures those { (k : ℕ) (p : pass.Started) → slice_get (map started_of draft.now.processes.items) k ≡ Some p
+        → (k < result) ↔ (p.job ≤ job) }
 {
-    let job = process.job;
-    let rank = process.rank;
-    let alone = kept.contains(&Target::One { job, rank });
-    let with_job = kept.contains(&Target::Every { job });
-    alone || with_job
+    draft
+        .processes
+        .partition_point(|process| process.job <= job)
 }
 
-/// The processes that are kept, each once, in process order.
-fn members_of(
-    alloc: Global,
-    draft: &Draft,
-    kept: &IndexSet<Target>,
-) -> Result<Vec<Proc>, AllocError>
-    requires { IsWithinLimits (declared_of draft.now) }
-    ensures { IfOk result (λ v. numbers_of v.items ≡ named_in (declared_of draft.now) kept.now.keys) }
+/// The processes that a target names, from the first number to below the second: they stand together.
+fn range_of(draft: &Draft, target: Target) -> (u32, u32)
+    requires within { IsWithinLimits (declared_of draft.now) }
+    requires declared { IsDeclared (declared_of draft.now) }
+    ensures { IsRangeOf (declared_of draft.now) target result.0 result.1 }
 {
-    let mut members = Vec::new(alloc);
-    let mut number = 0;
-    for process in &draft.processes {
-        if is_kept(kept, process) {
-            members.push(Proc::new(number))?;
+    match target {
+        Target::One { job, rank } => {
+            let place = place_of(draft, job, rank);
+            (place as u32, draft.processes.len().min(place + 1) as u32)
         }
-        number += 1;
+        Target::Every { job } => {
+            let first = count_before(draft, job);
+            (first as u32, count_through(draft, job) as u32)
+        }
     }
-    Ok(members)
+}
+
+/// Adds the numbers from one to below another.
+fn add_range(numbers: &mut Vec<u32>, first: u32, past: u32) -> Result<(), AllocError>
+    ensures { OnOk result (AddsRange first past numbers.old.items numbers.new.items) }
+{
+    for number in first..past {
+        numbers.push(number)?;
+    }
+    Ok(())
+}
+
+/// The numbers of the processes that are named, as they come.
+fn gather_numbers(alloc: Global, draft: &Draft, targets: &[Target]) -> Result<Vec<u32>, AllocError>
+    requires within { IsWithinLimits (declared_of draft.now) }
+    requires declared { IsDeclared (declared_of draft.now) }
+    ensures { IfOk result (λ v. AreNamed (declared_of draft.now) targets.now v.items) }
+{
+    let mut numbers = Vec::with_capacity(alloc, targets.len())?;
+    for target in targets {
+        let (first, past) = range_of(draft, *target);
+        add_range(&mut numbers, first, past)?;
+    }
+    Ok(numbers)
+}
+
+/// The numbers of the processes that are named, each once, in process order.
+fn sort_numbers(alloc: Global, draft: &Draft, targets: &[Target]) -> Result<Vec<u32>, AllocError>
+    requires within { IsWithinLimits (declared_of draft.now) }
+    requires declared { IsDeclared (declared_of draft.now) }
+    ensures { IfOk result (λ v. v.items ≡ named_in (declared_of draft.now) targets.now) }
+{
+    let mut numbers = gather_numbers(alloc, draft, targets)?;
+    numbers.sort_unstable();
+    numbers.dedup();
+    Ok(numbers)
+}
+
+/// The processes of these numbers.
+fn procs_of(alloc: Global, numbers: &[u32]) -> Result<Vec<Proc>, AllocError>
+    ensures { IfOk result (λ v. numbers_of v.items ≡ numbers.now) }
+{
+    let mut procs = Vec::with_capacity(alloc, numbers.len())?;
+    for number in numbers {
+        procs.push(Proc::new(*number))?;
+    }
+    Ok(procs)
 }
 
 /// The members of the set of what is named.
@@ -200,9 +249,11 @@ pub fn named_members(
     draft: &Draft,
     targets: &[Target],
 ) -> Result<Vec<Proc>, AllocError>
-    requires { IsWithinLimits (declared_of draft.now) }
+    requires within { IsWithinLimits (declared_of draft.now) }
+    requires declared { IsDeclared (declared_of draft.now) }
     ensures { IfOk result (λ v. numbers_of v.items ≡ named_in (declared_of draft.now) targets.now) }
 {
     let kept = gather_distinct(alloc, targets)?;
-    members_of(alloc, draft, &kept)
+    let numbers = sort_numbers(alloc, draft, kept.as_slice())?;
+    procs_of(alloc, &numbers)
 }

@@ -24,9 +24,9 @@ pub struct Parsed<'a> {
     pub said: Option<Line<'a>>,
 }
 
-/// How many pieces are cut off at once: what these 4 MiB say takes some 20 MiB, and at most 100 MiB where each line is
-/// as short as a line of a plan can be.
-const PIECES_AT_ONCE: usize = 16;
+/// How many pieces are cut off at once: what these 2 MiB say takes some 10 MiB, and at most 50 MiB where each line is
+/// as short as a line of a plan can be. Twice as much is held, since the next pieces are read while these are judged.
+const PIECES_AT_ONCE: usize = 8;
 
 /// Cuts the next pieces off what is left, and gives them in their order.
 pub fn cut_pieces<'a>(alloc: Global, left: &mut Cursor<'a>) -> Result<Vec<Cursor<'a>>, AllocError>
@@ -48,7 +48,7 @@ pub fn cut_pieces<'a>(alloc: Global, left: &mut Cursor<'a>) -> Result<Vec<Cursor
     Ok(pieces)
 }
 
-/// How many lines of a text say something, unless many are too short for any line of a plan.
+/// For how many lines to make room: all of a text, but no more than if each had six bytes.
 fn lines_at_most(bytes: &[u8]) -> usize
     ensures { result ≤ length (lines_of bytes.now) }
 {

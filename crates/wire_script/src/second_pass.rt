@@ -90,6 +90,7 @@ fn number_targets(
     targets: &[Target],
 ) -> Result<u32, AllocError>
     requires within { IsWithinLimits (declared_of draft.now) }
+    requires declared { IsDeclared (declared_of draft.now) }
     requires room { length numbering.old.tables.sets + 1 < 2 ^ 32 }
     requires noted { AreNoted (declared_of draft.now) numbering.old.tables.sets numbering.old.noted }
     ensures number { IfOk result (λ n. (later : List (List ℕ)) → GoesOn numbering.new.tables.sets later

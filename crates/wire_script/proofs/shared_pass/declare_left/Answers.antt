@@ -1,11 +1,13 @@
-use Rattle.std.proofs.Common.{Err, inl, inr}
+use Rattle.std.proofs.Common.{sym, ◌∙◌}
+use Rattle.std.proofs.lemmas.Bool.{eqb-true}
+use Rattle.std.proofs.lemmas.List.{nil_from_length}
+use Rattle.wire_script.proofs.Onwards.{ends_declared, ends_refused}
 use Rattle.wire_script.proofs.shared_pass.declare_left.Goals as goal
 
-pub groups-preserved : goal.groups-preserved
-groups-preserved g c = record { so_far = λ r more. c.groups.invariant.so_far r (c.in_default.ensures.ok r more); room = c.in_default.ensures.room }
+pub returns-clause-ok : goal.returns-clause-ok
+returns-clause-ok g c =
+    let none = nil_from_length c.groups.progress.left.rest.now (eqb-true _ _ (sym c.is_empty.ensures ∙ c.groups-test.false)) in
+    ends_declared c.args.first c.groups.progress c.groups.invariant.so_far c.declare_read.result none c.declare_read.ensures
 
-pub returns-in-Err-clause-err : goal.returns-in-Err-clause-err
-returns-in-Err-clause-err g c = elim c.in-Err.ensures.err [
-  | inl m ↦ inl m
-  | inr judged ↦ inr (c.groups.invariant.so_far (Err c.in-Err.fault) judged)
-]
+pub returns-clause-err : goal.returns-clause-err
+returns-clause-err g c = ends_refused c.args.first c.groups.progress c.groups.invariant.so_far c.declare_read.result c.declare_read.ensures
