@@ -9,7 +9,7 @@ use Rattle.std.proofs.lemmas.List.Sums.{AllPass-from_list_all, list_all-from_All
 use Rattle.std.proofs.lemmas.Option.{slice_get_past}
 use Rattle.wire_clocks.specs.declared.notes.Note.{Note}
 use Rattle.wire_clocks.specs.Rows.{entry, numbers_in, tree_says, is_tree, IsTree, IsZero, Keeps}
-use Rattle.wire_clocks.specs.Notes.{note_at, next_note, raised_at, says_of, stands_of, clock_number, clock_stands, is_top, KeepsNotes, IsNoted}
+use Rattle.wire_clocks.specs.Notes.{note_at, next_note, raised_at, number_by_note, stands_by_note, clock_number, clock_stands, is_top, KeepsNotes, IsNoted}
 use Rattle.wire_clocks.proofs.Growing.{says_kept, tree_kept, tree_of_zeros, keeps_itself}
 
 -- the test finds trees
@@ -78,15 +78,15 @@ unfolding clock_stands
 stands_kept old new ns ns' keeps keeps' z height zero root e = top_kept old new keeps z height root e
 stands_kept old new ns ns' keeps keeps' z height (suc k) root e = go (note_at ns root) refl e (stands_kept old new ns ns' keeps keeps' z height k)
   where
-    go : (o : Option Note) → note_at ns root ≡ o → stands_of o height (clock_stands old ns height k) (is_top old height root) ≡ true →
+    go : (o : Option Note) → note_at ns root ≡ o → stands_by_note o height (clock_stands old ns height k) (is_top old height root) ≡ true →
         ((r : ℕ) → clock_stands old ns height k r ≡ true → clock_stands new ns' height k r ≡ true) →
-        stands_of (note_at ns' root) height (clock_stands new ns' height k) (is_top new height root) ≡ true
-    go None is e ih = subst (λ o. stands_of o height (clock_stands new ns' height k) (is_top new height root) ≡ true) (sym (none_at ns' root (top_even old height root e)))
+        stands_by_note (note_at ns' root) height (clock_stands new ns' height k) (is_top new height root) ≡ true
+    go None is e ih = subst (λ o. stands_by_note o height (clock_stands new ns' height k) (is_top new height root) ≡ true) (sym (none_at ns' root (top_even old height root e)))
         (top_kept old new keeps z height root e)
     go (Some note) is e ih =
-        let both = and_parts (nat_lt note.process (16 ^ height)) (clock_stands old ns height k note.before) e in
-        subst (λ o. stands_of o height (clock_stands new ns' height k) (is_top new height root) ≡ true) (sym (note_kept ns ns' keeps' root note is))
-        (and_from (nat_lt note.process (16 ^ height)) (clock_stands new ns' height k note.before) both.0 (ih note.before both.1))
+        let both = and_parts (nat_lt note.process (16 ^ height)) (clock_stands old ns height k note.below) e in
+        subst (λ o. stands_by_note o height (clock_stands new ns' height k) (is_top new height root) ≡ true) (sym (note_kept ns ns' keeps' root note is))
+        (and_from (nat_lt note.process (16 ^ height)) (clock_stands new ns' height k note.below) both.0 (ih note.below both.1))
 
 -- and says what it said
 pub number_kept : (old new : List (List ℕ)) (ns ns' : List Note) → Keeps old new → KeepsNotes ns ns' → IsZero old → (height q k root : ℕ) → clock_stands old ns height k root ≡ true →
@@ -95,16 +95,16 @@ unfolding clock_stands clock_number
 number_kept old new ns ns' keeps keeps' z height q zero root e = says_kept old new keeps height (root / 2) (top_tree old z height root e) q
 number_kept old new ns ns' keeps keeps' z height q (suc k) root e = go (note_at ns root) refl e (number_kept old new ns ns' keeps keeps' z height q k)
   where
-    go : (o : Option Note) → note_at ns root ≡ o → stands_of o height (clock_stands old ns height k) (is_top old height root) ≡ true →
+    go : (o : Option Note) → note_at ns root ≡ o → stands_by_note o height (clock_stands old ns height k) (is_top old height root) ≡ true →
         ((r : ℕ) → clock_stands old ns height k r ≡ true → clock_number new ns' height k r q ≡ clock_number old ns height k r q) →
-        says_of (note_at ns' root) q (λ before. clock_number new ns' height k before q) (tree_says new height (root / 2) q)
-        ≡ says_of o q (λ before. clock_number old ns height k before q) (tree_says old height (root / 2) q)
-    go None is e ih = ap (λ o. says_of o q (λ before. clock_number new ns' height k before q) (tree_says new height (root / 2) q)) (none_at ns' root (top_even old height root e))
+        number_by_note (note_at ns' root) q (λ below. clock_number new ns' height k below q) (tree_says new height (root / 2) q)
+        ≡ number_by_note o q (λ below. clock_number old ns height k below q) (tree_says old height (root / 2) q)
+    go None is e ih = ap (λ o. number_by_note o q (λ below. clock_number new ns' height k below q) (tree_says new height (root / 2) q)) (none_at ns' root (top_even old height root e))
         ∙ says_kept old new keeps height (root / 2) (top_tree old z height root e) q
     go (Some note) is e ih =
-        let both = and_parts (nat_lt note.process (16 ^ height)) (clock_stands old ns height k note.before) e in
-        ap (λ o. says_of o q (λ before. clock_number new ns' height k before q) (tree_says new height (root / 2) q)) (note_kept ns ns' keeps' root note is)
-        ∙ ap (raised_at note.process note.number q) (ih note.before both.1)
+        let both = and_parts (nat_lt note.process (16 ^ height)) (clock_stands old ns height k note.below) e in
+        ap (λ o. number_by_note o q (λ below. clock_number new ns' height k below q) (tree_says new height (root / 2) q)) (note_kept ns ns' keeps' root note is)
+        ∙ ap (raised_at note.process note.number q) (ih note.below both.1)
 
 pub notes_stay : (notes : List Note) → KeepsNotes notes notes
 notes_stay notes = record { longer = omega arith; same = λ n lt. refl }
@@ -113,23 +113,23 @@ notes_stay notes = record { longer = omega arith; same = λ n lt. refl }
 pub tree_stands : (rows : List (List ℕ)) (notes : List Note) (height k root : ℕ) → note_at notes root ≡ None → clock_stands rows notes height k root ≡ is_top rows height root
 unfolding clock_stands
 tree_stands rows notes height zero root none = refl
-tree_stands rows notes height (suc k) root none = ap (λ o. stands_of o height (clock_stands rows notes height k) (is_top rows height root)) none
+tree_stands rows notes height (suc k) root none = ap (λ o. stands_by_note o height (clock_stands rows notes height k) (is_top rows height root)) none
 
 pub tree_number : (rows : List (List ℕ)) (notes : List Note) (height k root q : ℕ) → note_at notes root ≡ None → clock_number rows notes height k root q ≡ tree_says rows height (root / 2) q
 unfolding clock_number
 tree_number rows notes height zero root q none = refl
-tree_number rows notes height (suc k) root q none = ap (λ o. says_of o q (λ before. clock_number rows notes height k before q) (tree_says rows height (root / 2) q)) none
+tree_number rows notes height (suc k) root q none = ap (λ o. number_by_note o q (λ below. clock_number rows notes height k below q) (tree_says rows height (root / 2) q)) none
 
--- that of a note is the clock before it, raised
+-- that of a note is the clock below it, raised
 pub note_stands : (rows : List (List ℕ)) (notes : List Note) (height k root : ℕ) (note : Note) → note_at notes root ≡ Some note →
-    clock_stands rows notes height (suc k) root ≡ (nat_lt note.process (16 ^ height) && clock_stands rows notes height k note.before)
+    clock_stands rows notes height (suc k) root ≡ (nat_lt note.process (16 ^ height) && clock_stands rows notes height k note.below)
 unfolding clock_stands
-note_stands rows notes height k root note is = ap (λ o. stands_of o height (clock_stands rows notes height k) (is_top rows height root)) is
+note_stands rows notes height k root note is = ap (λ o. stands_by_note o height (clock_stands rows notes height k) (is_top rows height root)) is
 
 pub note_number : (rows : List (List ℕ)) (notes : List Note) (height k root q : ℕ) (note : Note) → note_at notes root ≡ Some note →
-    clock_number rows notes height (suc k) root q ≡ raised_at note.process note.number q (clock_number rows notes height k note.before q)
+    clock_number rows notes height (suc k) root q ≡ raised_at note.process note.number q (clock_number rows notes height k note.below q)
 unfolding clock_number
-note_number rows notes height k root q note is = ap (λ o. says_of o q (λ before. clock_number rows notes height k before q) (tree_says rows height (root / 2) q)) is
+note_number rows notes height k root q note is = ap (λ o. number_by_note o q (λ below. clock_number rows notes height k below q) (tree_says rows height (root / 2) q)) is
 
 -- where no note is left there is a tree
 pub end_stands : (rows : List (List ℕ)) (notes : List Note) (height k root : ℕ) → next_note notes k root ≡ None → clock_stands rows notes height k root ≡ is_top rows height root
@@ -148,80 +148,88 @@ next_left notes zero root note is = absurd (absent note is)
 next_left notes (suc k) root note is = omega arith
 
 pub next_stands : (rows : List (List ℕ)) (notes : List Note) (height k root : ℕ) (note : Note) → next_note notes k root ≡ Some note →
-    clock_stands rows notes height k root ≡ (nat_lt note.process (16 ^ height) && clock_stands rows notes height (k - 1) note.before)
+    clock_stands rows notes height k root ≡ (nat_lt note.process (16 ^ height) && clock_stands rows notes height (k - 1) note.below)
 next_stands rows notes height zero root note is = absurd (absent note is)
 next_stands rows notes height (suc k) root note is =
     let e : suc k - 1 ≡ k = omega arith in
-    subst (λ j. clock_stands rows notes height (suc k) root ≡ (nat_lt note.process (16 ^ height) && clock_stands rows notes height j note.before)) (sym e)
+    subst (λ j. clock_stands rows notes height (suc k) root ≡ (nat_lt note.process (16 ^ height) && clock_stands rows notes height j note.below)) (sym e)
     (note_stands rows notes height k root note is)
 
 pub next_number : (rows : List (List ℕ)) (notes : List Note) (height k root q : ℕ) (note : Note) → next_note notes k root ≡ Some note →
-    clock_number rows notes height k root q ≡ raised_at note.process note.number q (clock_number rows notes height (k - 1) note.before q)
+    clock_number rows notes height k root q ≡ raised_at note.process note.number q (clock_number rows notes height (k - 1) note.below q)
 next_number rows notes height zero root q note is = absurd (absent note is)
 next_number rows notes height (suc k) root q note is =
     let e : suc k - 1 ≡ k = omega arith in
-    subst (λ j. clock_number rows notes height (suc k) root q ≡ raised_at note.process note.number q (clock_number rows notes height j note.before q)) (sym e)
+    subst (λ j. clock_number rows notes height (suc k) root q ≡ raised_at note.process note.number q (clock_number rows notes height j note.below q)) (sym e)
     (note_number rows notes height k root q note is)
 
--- a clock before a note stands
+-- a clock below a note stands
 pub before_stands : (rows : List (List ℕ)) (notes : List Note) (height k root : ℕ) (note : Note) → next_note notes k root ≡ Some note → clock_stands rows notes height k root ≡ true →
-    (note.process < 16 ^ height) × (clock_stands rows notes height (k - 1) note.before ≡ true)
+    (note.process < 16 ^ height) × (clock_stands rows notes height (k - 1) note.below ≡ true)
 before_stands rows notes height k root note is stands =
-    let both = and_parts (nat_lt note.process (16 ^ height)) (clock_stands rows notes height (k - 1) note.before) (sym (next_stands rows notes height k root note is) ∙ stands) in
+    let both = and_parts (nat_lt note.process (16 ^ height)) (clock_stands rows notes height (k - 1) note.below) (sym (next_stands rows notes height k root note is) ∙ stands) in
     (ltb-true note.process (16 ^ height) both.0, both.1)
 
 -- the greater of what a note says and what was found above it
-raise_least : (here : Bool) (before number least : ℕ) → max before (if here then max least number else least) ≡ max (if here then max before number else before) least
-raise_least true before number least = omega arith
-raise_least false before number least = refl
+raise_least : (here : Bool) (below number least : ℕ) → max below (if here then max least number else least) ≡ max (if here then max below number else below) least
+raise_least true below number least = omega arith
+raise_least false below number least = refl
 
 pub went_down : (rows : List (List ℕ)) (notes : List Note) (height k root q least : ℕ) (note : Note) → next_note notes k root ≡ Some note →
-    max (clock_number rows notes height (k - 1) note.before q) (raised_at note.process note.number q least) ≡ max (clock_number rows notes height k root q) least
+    max (clock_number rows notes height (k - 1) note.below q) (raised_at note.process note.number q least) ≡ max (clock_number rows notes height k root q) least
 went_down rows notes height k root q least note is =
-    raise_least (q == note.process) (clock_number rows notes height (k - 1) note.before q) note.number least ∙ ap (λ n. max n least) (sym (next_number rows notes height k root q note is))
+    raise_least (q == note.process) (clock_number rows notes height (k - 1) note.below q) note.number least ∙ ap (λ n. max n least) (sym (next_number rows notes height k root q note is))
 
 -- where a test finds that fewer notes stand
 pub none_low : (rows : List (List ℕ)) (notes : List Note) (height k root : ℕ) → note_at notes root ≡ None → clock_stands rows notes height (suc k) root ≡ true →
     clock_stands rows notes height k root ≡ true
 none_low rows notes height k root none stands = tree_stands rows notes height k root none ∙ sym (tree_stands rows notes height (suc k) root none) ∙ stands
 
-pub some_low : (rows : List (List ℕ)) (notes : List Note) (height k root : ℕ) (note : Note) → note_at notes root ≡ Some note → 0 < k →
-    (clock_stands rows notes height (suc (k - 1)) note.before ≡ true → clock_stands rows notes height (k - 1) note.before ≡ true) → clock_stands rows notes height (suc k) root ≡ true →
-    clock_stands rows notes height k root ≡ true
-some_low rows notes height zero root note is lt low stands = absurd (omega (arith, lt))
-some_low rows notes height (suc k) root note is lt low stands =
+pub some_low : (rows : List (List ℕ)) (notes : List Note) (height k root : ℕ) (note : Note) (result : Bool) → note_at notes root ≡ Some note → 0 < k →
+    (clock_stands rows notes height (suc (k - 1)) note.below ≡ true → result ≡ clock_stands rows notes height (k - 1) note.below) → clock_stands rows notes height (suc k) root ≡ true →
+    result ≡ clock_stands rows notes height k root
+some_low rows notes height zero root note result is lt low stands = absurd (omega (arith, lt))
+some_low rows notes height (suc k) root note result is lt low stands =
     let e : suc k - 1 ≡ k = omega arith in
-    let low' = subst (λ j. clock_stands rows notes height (suc j) note.before ≡ true → clock_stands rows notes height j note.before ≡ true) e low in
-    let both = and_parts (nat_lt note.process (16 ^ height)) (clock_stands rows notes height (suc k) note.before) (sym (note_stands rows notes height (suc k) root note is) ∙ stands) in
-    note_stands rows notes height k root note is ∙ and_from (nat_lt note.process (16 ^ height)) (clock_stands rows notes height k note.before) both.0 (low' both.1)
+    let low' = subst (λ j. clock_stands rows notes height (suc j) note.below ≡ true → result ≡ clock_stands rows notes height j note.below) e low in
+    let both = and_parts (nat_lt note.process (16 ^ height)) (clock_stands rows notes height (suc k) note.below) (sym (note_stands rows notes height (suc k) root note is) ∙ stands) in
+    low' both.1 ∙ sym (note_stands rows notes height k root note is ∙ ap (λ b. b && clock_stands rows notes height k note.below) both.0)
+
+-- no tree has a note's root
+pub none_left : (rows : List (List ℕ)) (notes : List Note) (height k root : ℕ) (note : Note) → note_at notes root ≡ Some note → k ≤ 0 → nat_lt 0 k ≡ clock_stands rows notes height k root
+unfolding clock_stands
+none_left rows notes height zero root note is none =
+    let odd : root % 2 ≡ 0 → ⊥ = λ even. absent note (sym (none_at notes root even) ∙ is) in
+    sym (ap (λ b. b && is_tree rows height (root / 2)) (ne_eqb (root % 2) 0 odd))
+none_left rows notes height (suc k) root note is none = absurd (omega (arith, none))
 
 -- one more note may stand where fewer do
 pub low_number : (rows : List (List ℕ)) (notes : List Note) (height q k root : ℕ) → clock_stands rows notes height k root ≡ true →
     clock_number rows notes height (suc k) root q ≡ clock_number rows notes height k root q
 unfolding clock_stands clock_number
-low_number rows notes height q zero root e = ap (λ o. says_of o q (λ before. tree_says rows height (before / 2) q) (tree_says rows height (root / 2) q)) (none_at notes root (top_even rows height root e))
+low_number rows notes height q zero root e = ap (λ o. number_by_note o q (λ below. tree_says rows height (below / 2) q) (tree_says rows height (root / 2) q)) (none_at notes root (top_even rows height root e))
 low_number rows notes height q (suc k) root e = go (note_at notes root) e (low_number rows notes height q k)
   where
-    go : (o : Option Note) → stands_of o height (clock_stands rows notes height k) (is_top rows height root) ≡ true →
+    go : (o : Option Note) → stands_by_note o height (clock_stands rows notes height k) (is_top rows height root) ≡ true →
         ((r : ℕ) → clock_stands rows notes height k r ≡ true → clock_number rows notes height (suc k) r q ≡ clock_number rows notes height k r q) →
-        says_of o q (λ before. clock_number rows notes height (suc k) before q) (tree_says rows height (root / 2) q)
-        ≡ says_of o q (λ before. clock_number rows notes height k before q) (tree_says rows height (root / 2) q)
+        number_by_note o q (λ below. clock_number rows notes height (suc k) below q) (tree_says rows height (root / 2) q)
+        ≡ number_by_note o q (λ below. clock_number rows notes height k below q) (tree_says rows height (root / 2) q)
     go None e ih = refl
-    go (Some note) e ih = ap (raised_at note.process note.number q) (ih note.before (and_parts (nat_lt note.process (16 ^ height)) (clock_stands rows notes height k note.before) e).1)
+    go (Some note) e ih = ap (raised_at note.process note.number q) (ih note.below (and_parts (nat_lt note.process (16 ^ height)) (clock_stands rows notes height k note.below) e).1)
 
 -- the clock of a note that was added
 noted_at : (old new : List Note) (note : Note) (root : ℕ) → IsNoted old new note root → note_at new root ≡ Some note
 noted_at old new note root noted = odd_at new root (λ e. omega (arith, e, noted.odd)) ∙ noted.there
 
 pub noted_stands : (rows : List (List ℕ)) (ns ns' : List Note) (height root : ℕ) (note : Note) → IsZero rows → KeepsNotes ns ns' → IsNoted ns ns' note root → note.process < 16 ^ height →
-    clock_stands rows ns height 15 note.before ≡ true → clock_stands rows ns' height 16 root ≡ true
+    clock_stands rows ns height 15 note.below ≡ true → clock_stands rows ns' height 16 root ≡ true
 noted_stands rows ns ns' height root note z keeps noted low stands =
     note_stands rows ns' height 15 root note (noted_at ns ns' note root noted)
-    ∙ and_from (nat_lt note.process (16 ^ height)) (clock_stands rows ns' height 15 note.before) (lt-ltb note.process (16 ^ height) low)
-    (stands_kept rows rows ns ns' (keeps_itself rows) keeps z height 15 note.before stands)
+    ∙ and_from (nat_lt note.process (16 ^ height)) (clock_stands rows ns' height 15 note.below) (lt-ltb note.process (16 ^ height) low)
+    (stands_kept rows rows ns ns' (keeps_itself rows) keeps z height 15 note.below stands)
 
 pub noted_number : (rows : List (List ℕ)) (ns ns' : List Note) (height root q : ℕ) (note : Note) → IsZero rows → KeepsNotes ns ns' → IsNoted ns ns' note root →
-    clock_stands rows ns height 15 note.before ≡ true → clock_number rows ns' height 16 root q ≡ raised_at note.process note.number q (clock_number rows ns height 15 note.before q)
+    clock_stands rows ns height 15 note.below ≡ true → clock_number rows ns' height 16 root q ≡ raised_at note.process note.number q (clock_number rows ns height 15 note.below q)
 noted_number rows ns ns' height root q note z keeps noted stands =
     note_number rows ns' height 15 root q note (noted_at ns ns' note root noted)
-    ∙ ap (raised_at note.process note.number q) (number_kept rows rows ns ns' (keeps_itself rows) keeps z height q 15 note.before stands)
+    ∙ ap (raised_at note.process note.number q) (number_kept rows rows ns ns' (keeps_itself rows) keeps z height q 15 note.below stands)

@@ -4,6 +4,7 @@ ghost use Rattle.std.specs.Prelude.{◌≡◌, ◌<◌, ◌≤◌, ◌*◌, ◌/
 ghost use Rattle.wire_clocks.specs.ClockTrees.{says, IsRoot, Holds, Keeps};
 ghost use Rattle.wire_clocks.specs.Rising.{rising_says, IsRising};
 
+use crate::rows::BLOCK;
 use crate::trees::ClockTrees;
 use std::alloc::AllocError;
 use std::marker::Model;
@@ -87,8 +88,8 @@ impl Rising {
         ensures raised { OnOk result ((q : ℕ) → rising_says trees.new self.new q ≡
             (if q == process then max (rising_says trees.old self.old q) number else rising_says trees.old self.old q)) }
     {
-        self.turn_to(trees, process / 16)?;
-        let place = (process % 16) as usize;
+        self.turn_to(trees, process / BLOCK)?;
+        let place = (process % BLOCK) as usize;
         self.least[place] = self.least[place].max(number);
         Ok(())
     }

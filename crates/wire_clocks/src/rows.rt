@@ -1,11 +1,15 @@
 //! Trees of fan-out 16 in one list of rows. A tree of height 0 is a number, and the numbers of a row are
 //! its subtrees. Rows are added, and never changed. Row 0 is all zeros, and is a tree of each height.
 
-ghost use Rattle.std.specs.Prelude.{◌≡◌, ◌<◌, ◌≤◌, ◌+◌, ◌-◌, ◌*◌, ◌/◌, ◌%◌, ◌^◌, ◌↔◌, ◌==◌, ℕ, IsTrue, IfOk, length};
+ghost use Rattle.std.specs.Prelude.{◌≡◌, ◌<◌, ◌≤◌, ◌+◌, ◌-◌, ◌*◌, ◌/◌};
+ghost use Rattle.std.specs.Prelude.{◌%◌, ◌^◌, ◌↔◌, ◌==◌, ℕ, IsTrue, IfOk, length};
 ghost use Rattle.std.specs.Prelude.{slice_index, max, if◌then◌else◌};
 ghost use Rattle.wire_clocks.specs.Rows.{entry, tree_says, IsTree, IsZero, Keeps};
 
 use std::alloc::AllocError;
+
+/// How many processes are in a block: as many as a row has numbers.
+pub(crate) const BLOCK: u32 = 16;
 
 /// Which subtree of a tree is a process's, where the subtrees have this height.
 pub(crate) fn place(process: u32, level: u32) -> usize

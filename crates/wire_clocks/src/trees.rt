@@ -109,7 +109,8 @@ impl ClockTrees {
         requires lower { says self.old root process < number }
         ensures keeps { Keeps self.old self.new }
         ensures root { IfOk result (λ r. IsRoot self.new r) }
-        ensures says { IfOk result (λ r. (q : ℕ) → says self.new r q ≡ (if q == process then max (says self.old root q) number else says self.old root q)) }
+        ensures says { IfOk result (λ r. (q : ℕ) → says self.new r q
+            ≡ (if q == process then max (says self.old root q) number else says self.old root q)) }
     {
         let tree = put(&mut self.rows, self.levels, root / 2, process, number)?;
         root_of(tree)
@@ -121,18 +122,20 @@ impl ClockTrees {
         requires root { IsRoot self.old root }
         ensures keeps { Keeps self.old self.new }
         ensures root { IfOk result (λ r. IsRoot self.new r) }
-        ensures says { IfOk result (λ r. (q : ℕ) → says self.new r q ≡ (if q == process then max (says self.old root q) number else says self.old root q)) }
+        ensures says { IfOk result (λ r. (q : ℕ) → says self.new r q
+            ≡ (if q == process then max (says self.old root q) number else says self.old root q)) }
     {
-        let before = shorten(&mut self.rows, &self.notes, self.levels, root, process)?;
+        let below = shorten(&mut self.rows, &self.notes, self.levels, root, process)?;
         let note = Note {
-            before,
+            below,
             process,
             number,
         };
         add_note(&mut self.notes, note)
     }
 
-    /// Whether the root is that of the tree whose top row was added last.
+    /// Whether the root is that of the tree whose top row was added last. It promises only that such a root is a
+    /// tree's, and nothing where the answer is no.
     fn is_newest(&self, root: u32) -> bool
         ensures { IsTrue result → root % 2 ≡ 0 }
     {
@@ -145,7 +148,8 @@ impl ClockTrees {
         requires root { IsRoot self.old root }
         ensures keeps { Keeps self.old self.new }
         ensures root { IfOk result (λ r. IsRoot self.new r) }
-        ensures says { IfOk result (λ r. (q : ℕ) → says self.new r q ≡ (if q == process then max (says self.old root q) number else says self.old root q)) }
+        ensures says { IfOk result (λ r. (q : ℕ) → says self.new r q
+            ≡ (if q == process then max (says self.old root q) number else says self.old root q)) }
     {
         if self.get(root, process) >= number {
             return Ok(root);

@@ -1,5 +1,5 @@
 -- What fences have brought of a process's data to a node.
-use Rattle.std.proofs.Common.{◌≡◌, ◌∙◌, ap, sym, refl, subst, ℕ, zero, suc, ◌+◌, ◌-◌, ◌≤◌, List, Bool, true, false, cond, ◌&&◌, Option, Some, None, inl, inr, arith}
+use Rattle.std.proofs.Common.{◌≡◌, ◌∙◌, ap, sym, refl, subst, ℕ, zero, suc, ◌+◌, ◌-◌, ◌≤◌, ◌<◌, List, Bool, true, false, cond, ◌&&◌, Option, Some, None, inl, inr, arith}
 use Rattle.std.specs.Prelude.{slice_set}
 use Rattle.wire_types.specs.declared.Proc.{Proc}
 use Rattle.wire_runs.specs.State.{start}
@@ -92,18 +92,22 @@ may_not s table p at number node members collect fences is m none cut =
     ∙ and-false complete
 
 -- where no event brings anything, what was delivered stays
-pub delivered_still : (plan : Plan) (cut : ℕ → ℕ) (p node key from to : ℕ) → BringNothing plan p node from to → from ≤ to → delivered plan cut p node key to ≡ delivered plan cut p node key from
-delivered_still plan cut p node key from zero none le = let same : 0 ≡ from = omega (arith, le) in ap (delivered plan cut p node key) same
-delivered_still plan cut p node key from (suc to) none le = step (delivered_still plan cut p node key from to (λ n ge lt. none n ge (omega (arith, lt))))
+pub delivered_idle : (plan : Plan) (cut : ℕ → ℕ) (p node key from to : ℕ) → ((n : ℕ) → from ≤ n → n < to → brings_at plan cut p node n ≡ false) → from ≤ to →
+    delivered plan cut p node key to ≡ delivered plan cut p node key from
+delivered_idle plan cut p node key from zero none le = let same : 0 ≡ from = omega (arith, le) in ap (delivered plan cut p node key) same
+delivered_idle plan cut p node key from (suc to) none le = step (delivered_idle plan cut p node key from to (λ n ge lt. none n ge (omega (arith, lt))))
   where
     step : (from ≤ to → delivered plan cut p node key to ≡ delivered plan cut p node key from) → delivered plan cut p node key (suc to) ≡ delivered plan cut p node key from
     step before = elim (cases_lt to from) [
       | inl lt ↦ let same : suc to ≡ from = omega (arith, lt, le) in ap (delivered plan cut p node key) same
       | inr ge ↦
           delivered_more plan cut p node key to
-          ∙ ap (λ b. cond b (stored plan p key to) (delivered plan cut p node key to)) (none to ge (omega arith) cut)
+          ∙ ap (λ b. cond b (stored plan p key to) (delivered plan cut p node key to)) (none to ge (omega arith))
           ∙ before ge
     ]
+
+pub delivered_still : (plan : Plan) (cut : ℕ → ℕ) (p node key from to : ℕ) → BringNothing plan p node from to → from ≤ to → delivered plan cut p node key to ≡ delivered plan cut p node key from
+delivered_still plan cut p node key from to none le = delivered_idle plan cut p node key from to (λ n ge lt. none n ge lt cut) le
 
 -- a look with no event
 pub look_none : (plan : Plan) (look : Look) → look.seen ≡ 0 → look.last ≡ 0 → look.before ≡ 0 → IsLook plan look

@@ -8,3 +8,4 @@ pub mod Gains
 pub mod Steps
 pub mod Following
 pub mod Limits
+pub mod Newest

@@ -1,5 +1,5 @@
 -- What gets have brought to nodes, where the plan keeps it: for the contracts of private functions.
-use Rattle.std.specs.Prelude.{◌≡◌, ◌≢◌, ℕ, ◌+◌, ◌≤◌, ◌&&◌, List, Bool, true, false, ◌==◌, nat_lt, Option, Some, None}
+use Rattle.std.specs.Prelude.{◌≡◌, ◌≢◌, ℕ, ◌+◌, ◌≤◌, ◌&&◌, Bool, true, false, ◌==◌, nat_lt, Option, Some, None}
 use Rattle.std.specs.Prelude.{MatchOption, length, if◌then◌else◌}
 use Rattle.std.specs.HashMap.{get, spare}
 use Rattle.wire_runs.specs.Plan.{Plan, Get, event_total, node_of, admits}

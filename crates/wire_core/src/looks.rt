@@ -4,6 +4,7 @@ ghost use Rattle.std.specs.Prelude.{◌≡◌, ◌+◌, ◌*◌, ◌-◌, ◌<�
 ghost use Rattle.std.specs.Prelude.{IfOk};
 ghost use Rattle.std.specs.Prelude.{IfErr, IfSome, if◌then◌else◌};
 ghost use Rattle.wire_runs.specs.Plan.{Plan as ThePlan, event_count, process_count};
+ghost use Rattle.wire_runs.specs.Puts.{stored};
 ghost use Rattle.wire_runs.specs.Sight.{delivered};
 ghost use Rattle.wire_content.specs.Planned.{plan_of};
 ghost use Rattle.wire_fence.specs.FenceTable.{AreFencesOf};
@@ -163,7 +164,8 @@ impl<'a> Core<'a> {
     }
 
     /// Where the next event of a process is a get that is answered at once, looks through the events of
-    /// its owner.
+    /// its owner, unless `newest_bringing_arrival` answers it. For speed alone: what is kept of a look changes no
+    /// answer.
     pub(crate) fn look_back(&mut self, proc: Proc)
         requires { proc.number < process_count (plan_in self.old) }
         ensures { self.new ≡ self.old }
@@ -171,7 +173,14 @@ impl<'a> Core<'a> {
         let Some(Kind::GetNow { owner, .. }) = self.next_kind(proc) else {
             return;
         };
-        let look = self.look_on(owner, self.plan.node_of(proc));
+        let node = self.plan.node_of(proc);
+        if self
+            .newest_bringing_arrival(owner, node, self.done(owner))
+            .is_some()
+        {
+            return;
+        }
+        let look = self.look_on(owner, node);
         self.looks.put(look);
     }
 
@@ -180,7 +189,8 @@ impl<'a> Core<'a> {
     fn last_between(&self, owner: Proc, node: u32, from: u32, to: u32) -> Option<u32>
         requires order { from ≤ to }
         requires within { to ≤ event_count (plan_in self.now) owner.number }
-        ensures told { (key : ℕ) → delivered (plan_in self.now) (state_of self.now).done owner.number node key to ≡ stored_or (plan_in self.now) owner.number
+        ensures told { (key : ℕ) → delivered (plan_in self.now) (state_of self.now).done owner.number node key to
+            ≡ stored_or (plan_in self.now) owner.number
             key result (delivered (plan_in self.now) (state_of self.now).done owner.number node key from) }
         ensures below { IfSome result (λ at. at < to) }
     {
@@ -198,6 +208,27 @@ impl<'a> Core<'a> {
             }
         }
         None
+    }
+
+    /// Of the arrivals of a process, so many of whose events are done, the last at a fence that brings data, where it
+    /// has brought that of the process to a node. A test for speed alone: where nothing is found, nothing is promised,
+    /// and the events are looked through.
+    fn newest_bringing_arrival(&self, owner: Proc, node: u32, done: u32) -> Option<u32>
+        requires { done ≡ (state_of self.now).done owner.number }
+        ensures told { IfSome result (λ at. (key : ℕ) → delivered (plan_in self.now) (state_of self.now).done owner.number node key done
+            ≡ stored (plan_in self.now) owner.number key at) }
+        ensures done { IfSome result (λ at. at < done) }
+    {
+        // The steps so far are an interleaving, so no more events are done than there are.
+        let _ = self.history();
+        let Some(arrival) = self.plan().last_bringing_arrival(Event {
+            proc: owner,
+            at: done,
+        })
+        else {
+            return None;
+        };
+        self.last_between(owner, node, arrival.at, arrival.at + 1)
     }
 
     /// The look that is kept for a process and a node, where it saw no more than so many events.
@@ -225,6 +256,9 @@ impl<'a> Core<'a> {
     {
         // The steps so far are an interleaving, so no more events are done than there are.
         let _ = self.history();
+        if let Some(at) = self.newest_bringing_arrival(owner, node, done) {
+            return Some(at);
+        }
         let look = self.look_to(owner, node, done);
         if let Some(at) = self.last_between(owner, node, look.seen, done) {
             return Some(at);

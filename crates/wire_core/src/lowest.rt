@@ -30,7 +30,8 @@ impl<'a> Core<'a> {
 
     /// The lowest process that is ready. Notes what the processes below it wait for.
     pub(crate) fn next_lowest(&mut self) -> Option<Proc>
-        ensures lowest { option_map (λ p. p.number) result ≡ lowest (plan_of self.old.scripts) (state_of self.old) (process_count (plan_of self.old.scripts)) }
+        ensures lowest { option_map (λ p. p.number) result
+            ≡ lowest (plan_of self.old.scripts) (state_of self.old) (process_count (plan_of self.old.scripts)) }
         ensures same { self.new ≡ self.old }
     {
         for number in self.waits.lowest()..self.plan.process_count() {

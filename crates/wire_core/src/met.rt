@@ -60,7 +60,8 @@ pub(crate) fn brings(
 ) -> bool
     requires fences { AreFencesOf plan.now fences.now }
     requires there { event.at < event_count (plan_of plan.now) event.proc.number }
-    ensures { (cut : ℕ → ℕ) → TellsMissing plan.now cut fences.now arrivals.now → result ≡ brings_at (plan_of plan.now) cut event.proc.number node event.at }
+    ensures { (cut : ℕ → ℕ) → TellsMissing plan.now cut fences.now arrivals.now →
+        result ≡ brings_at (plan_of plan.now) cut event.proc.number node event.at }
 {
     match plan.kind(event) {
         Kind::Arrive { .. } => {

@@ -11,7 +11,7 @@ use Rattle.wire_plan.specs.Index.{AreArrivals}
 use Rattle.wire_runs.proofs.Basics.{arrivals_rise, arrivals_step}
 use Rattle.wire_fates.proofs.First.{members_in}
 use Rattle.wire_fates.proofs.Sooner.{sooner_live, sooner_before}
-use Rattle.wire_fates.specs.Deliveries.{Arrives, IsBehindOwn, IsSure, MayBeLate, IsLate, AllLive, NoneAfter, AreBefore, IsLateAt, IsFirstLate}
+use Rattle.wire_fates.specs.Deliveries.{Arrives, AreOfRising, IsBehindOwn, IsSure, MayBeLate, IsLate, AllLive, NoneAfter, AreBefore, IsLateAt, IsFirstLate}
 
 -- an arrival is at one fence
 pub same_fence : (plan : Plan) (z : Event) (m n : List ℕ) (j k : ℕ) → IsArrival plan m j z → IsArrival plan n k z → (m ≡ n) × (j ≡ k)
@@ -33,7 +33,7 @@ earlier_arrival plan x y members j same a b lt =
     omega (arith, rise, step, one, two)
 
 -- a process arrives at a fence once
-arrives_once : (plan : Plan) (x y : Event) (members : List ℕ) (j : ℕ) → x.proc ≡ y.proc → IsArrival plan members j x → IsArrival plan members j y → x ≡ y
+pub arrives_once : (plan : Plan) (x y : Event) (members : List ℕ) (j : ℕ) → x.proc ≡ y.proc → IsArrival plan members j x → IsArrival plan members j y → x ≡ y
 arrives_once plan x y members j same a b = elim (cases_lt x.at y.at) [
   | inl lt ↦ absurd (earlier_arrival plan x y members j same a b lt)
   | inr ge ↦ elim (cases_lt y.at x.at) [
@@ -78,6 +78,13 @@ module _ (plan : Plan) (get arrival : Event) (fence : Arrives plan arrival) (pla
 
   index_of : (members : List ℕ) (j : ℕ) → IsArrival plan members j arrival → (z : Event) → IsArrival plan members j z → (k : ℕ) × (slice_get places k ≡ Some z)
   index_of members j a z h = (those members j a).all z h
+
+  -- one of each process, the lower first
+  pub of_rising : AreOfRising places
+  of_rising k l y z lt at_y at_z = elim (are.rising k l y z lt at_y at_z) [
+    | inl lower ↦ lower
+    | inr same ↦ absurd (earlier_arrival plan y z fence.members fence.j same.0 (are.only k y at_y) (are.only l z at_z) same.1)
+  ]
 
   -- a sure fence, by the list of its arrivals
   pub sure_there : AllLive plan places → AreBefore plan get places (length places) → IsSure plan get arrival

@@ -1,6 +1,7 @@
 pub mod First
 pub mod Sooner
 pub mod Arrivals
+pub mod OwnArrivals
 pub mod OwnFences
 pub mod Surely
 pub mod Places

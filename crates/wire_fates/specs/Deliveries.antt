@@ -1,10 +1,10 @@
 -- What brings a key to a node before a get that is answered at once, or may bring it later.
 use Rattle.std.specs.Prelude.{◌≡◌, ◌≢◌, ◌<◌, ◌≤◌, ℕ, List, Option, Some, MatchOption, length, slice_get}
-use Rattle.wire_runs.specs.Plan.{Plan, Event, event_count, event_of}
+use Rattle.wire_runs.specs.Plan.{Plan, Event, event_count, event_of, node_of}
 use Rattle.wire_types.specs.declared.place.Event.{Event as CodeEvent}
 use Rattle.wire_runs.specs.Order.{IsArrival, Live, Before}
 use Rattle.wire_runs.specs.Races.{GetDelivers}
-use Rattle.wire_plan.specs.Index.{IsDelivering}
+use Rattle.wire_plan.specs.Index.{IsDelivering, BringsDataBefore, IsSent}
 
 -- z is an arrival at a fence
 pub record Arrives (plan : Plan) (z : Event) : Type 0 where
@@ -17,6 +17,14 @@ pub record IsAmong (p : ℕ) (event : Event) (places : List Event) : Type 0 wher
   pub k : ℕ
   pub is : slice_get places k ≡ Some event
   pub proc : event.proc ≡ p
+
+-- each of these events is of a higher process than those in front of it, so each process has one at most
+abbrev pub AreOfRising : List Event → Type 0
+AreOfRising places = (k l : ℕ) (y z : Event) → k < l → slice_get places k ≡ Some y → slice_get places l ≡ Some z → y.proc < z.proc
+
+-- what is found is the event of the process p among these, and where nothing is found there is none
+abbrev pub IsFoundAmong : ℕ → List Event → Option CodeEvent → Type 0
+IsFoundAmong p places found = MatchOption found ((x : Event) → IsAmong p x places → ⊥) (λ x. IsAmong p (event_of x) places)
 
 -- one of these events is earlier in the event's own process
 pub record IsBehindOwn (event : Event) (places : List Event) : Type 0 where
@@ -35,6 +43,18 @@ pub record IsSure (plan : Plan) (get arrival : Event) : Type 0 where
 -- a fence that brings p's key to the node is complete before the get, told by p's arrival at it
 abbrev pub IsSureByFence : Plan → ℕ → ℕ → ℕ → Event → Type 0
 IsSureByFence plan p key node get = (at : ℕ) × IsDelivering plan p key node at × IsSure plan get (record { proc = p; at = at })
+
+-- the node is the get's own, and the last fence with data that the get's process has left before the get brings p's key
+-- there: p has sent the key before its arrival at that fence
+pub record IsSureByOwnFence (plan : Plan) (p key node : ℕ) (get : Event) : Type 0 where
+  pub on_node : node_of plan get.proc ≡ node
+  pub own : Event
+  pub brings : BringsDataBefore plan get own
+  pub last : (z : Event) → BringsDataBefore plan get z → z.at ≤ own.at
+  pub arrival : Event
+  pub proc : arrival.proc ≡ p
+  pub of_it : IsArrival plan brings.brings.members brings.brings.j arrival
+  pub sent : IsSent plan p key arrival.at
 
 -- all arrivals at the fence of this arrival are live, and the get is before none of them
 pub record MayBeLate (plan : Plan) (get arrival : Event) : Type 0 where

@@ -1,14 +1,14 @@
 //! Deliveries of a key to a node by fences, and what comes before a get that is answered at once.
 
-ghost use Rattle.std.specs.Prelude.{◌≡◌, ℕ, List, suc, Some, IsTrue, MatchOption, ◌↔◌, map, IfSome};
+ghost use Rattle.std.specs.Prelude.{◌≡◌, ℕ, List, suc, Some, IsTrue, MatchOption, ◌↔◌, map};
 ghost use Rattle.wire_runs.specs.Plan.{Leave, event_of, kind};
 ghost use Rattle.wire_runs.specs.Plan as runs;
 ghost use Rattle.wire_content.specs.Planned.{plan_of};
 ghost use Rattle.wire_runs.specs.Order.{IsArrival, Live};
 ghost use Rattle.wire_runs.specs.Races.{IsPutOnce, ComesSurely};
 ghost use Rattle.wire_plan.specs.Index.{AreArrivals};
-ghost use Rattle.wire_fates.specs.Deliveries.{Arrives, IsAmong, IsBehindOwn, IsSure, IsSureByFence, MayBeLate, IsLate, AllLive};
-ghost use Rattle.wire_fates.specs.Deliveries.{NoneAfter, IsFirstLate, IsNextArrival};
+ghost use Rattle.wire_fates.specs.Deliveries.{Arrives, AreOfRising, IsFoundAmong, IsBehindOwn, IsSure, IsSureByFence, IsSureByOwnFence};
+ghost use Rattle.wire_fates.specs.Deliveries.{MayBeLate, IsLate, AllLive, NoneAfter, IsFirstLate, IsNextArrival};
 
 use crate::get_deliveries::get_comes_surely;
 use wire_marks::MarkedPlan;
@@ -84,9 +84,11 @@ fn first_not_before(marked: &MarkedPlan<'_>, events: &[Event], get_now: Event) -
     None
 }
 
-/// The arrival of a process among these, which are in process order, if it is found by bisection.
+/// The arrival of a process among these, which are in process order and one of each process, by bisection;
+/// `None` where the process has none.
 fn bisect_arrival(arrivals: &[Event], proc: Proc) -> Option<Event>
-    ensures { IfSome result (λ e. IsAmong proc.number (event_of e) (map event_of arrivals.now)) }
+    requires { AreOfRising (map event_of arrivals.now) }
+    ensures { IsFoundAmong proc.number (map event_of arrivals.now) result }
 {
     let mut low = 0;
     let mut high = arrivals.len();
@@ -105,10 +107,11 @@ fn bisect_arrival(arrivals: &[Event], proc: Proc) -> Option<Event>
     None
 }
 
-/// The arrival of a process among these, which are in process order, if it is found. At a fence of all
-/// processes it stands at the number of the process.
+/// The arrival of a process among these, which are in process order and one of each process; `None` where
+/// the process has none. At a fence of all processes it stands at the number of the process.
 fn find_arrival(arrivals: &[Event], proc: Proc) -> Option<Event>
-    ensures { IfSome result (λ e. IsAmong proc.number (event_of e) (map event_of arrivals.now)) }
+    requires { AreOfRising (map event_of arrivals.now) }
+    ensures { IsFoundAmong proc.number (map event_of arrivals.now) result }
 {
     match arrivals.get(proc.index()) {
         Some(arrival) if arrival.proc.number == proc.number => Some(*arrival),
@@ -117,9 +120,10 @@ fn find_arrival(arrivals: &[Event], proc: Proc) -> Option<Event>
 }
 
 /// Whether an event stands behind an arrival of its own process among these, which are in process
-/// order.
+/// order and one of each process.
 fn is_behind_own(arrivals: &[Event], event: Event) -> bool
-    ensures { IsTrue result → IsBehindOwn (event_of event) (map event_of arrivals.now) }
+    requires { AreOfRising (map event_of arrivals.now) }
+    ensures { IsTrue result ↔ IsBehindOwn (event_of event) (map event_of arrivals.now) }
 {
     match find_arrival(arrivals, event.proc) {
         Some(own) => own.at < event.at,
@@ -170,17 +174,19 @@ pub fn next_arrival(plan: &Plan, owner: Proc, key: u32, node: u32, from: u32) ->
 }
 
 /// Whether this node is that of a live get's process, and the last fence with data that the process has left
-/// before the get brings the key there. A test for speed alone: where it fails, all fences are looked at.
+/// before the get brings the key there. A test for speed alone: where it fails, the first fence that brings the key is
+/// looked at.
 fn own_fence_brings(marked: &MarkedPlan<'_>, asked: KeyRead, node: u32) -> bool
     requires live { Live (plan_of marked.now) (event_of asked.get_now) }
     requires once { IsPutOnce (plan_of marked.now) asked.owner.number asked.key }
-    ensures { IsTrue result → IsSureByFence (plan_of marked.now) asked.owner.number asked.key node (event_of asked.get_now) }
+    ensures exactly { IsTrue result ↔ IsSureByOwnFence (plan_of marked.now) asked.owner.number asked.key node (event_of asked.get_now) }
+    ensures sure { IsTrue result → IsSureByFence (plan_of marked.now) asked.owner.number asked.key node (event_of asked.get_now) }
 {
     let plan = marked.plan();
     if plan.node_of(asked.get_now.proc) != node {
         return false;
     }
-    let Some(own) = plan.last_bringing(asked.get_now) else {
+    let Some(own) = plan.last_bringing_arrival(asked.get_now) else {
         return false;
     };
     match find_arrival(all_arrivals(plan, own), asked.owner) {

@@ -33,8 +33,8 @@ pub fn process_end(gets: &[Event], place: usize) -> usize
     low
 }
 
-/// Where the gets of a process begin among gets in process order: the first place at which to look. By
-/// bisection.
+/// Where the gets of a process begin among gets in process order, by bisection: the first place at which to
+/// look. The contract promises no more than a place among them, since what stands there is looked at.
 fn own_place(gets: &[Event], proc: Proc) -> usize
     ensures { result ≤ length gets.now }
 {
@@ -42,7 +42,8 @@ fn own_place(gets: &[Event], proc: Proc) -> usize
 }
 
 /// Whether the get with which the caller's own process brought the key comes before a get. Most often it is
-/// there, and then no other needs to be looked for.
+/// there, and then no other needs to be looked for. A test for speed alone: where it is true, a get comes
+/// before; where it is false, nothing is promised, and the gets are looked at.
 fn own_is_before(marked: &MarkedPlan<'_>, gets: &[Event], get_now: Event) -> bool
     ensures { (p key node : ℕ) → AreGetDeliveries (plan_of marked.now) p key node (map event_of gets.now) → IsTrue result →
         IsSureByGet (plan_of marked.now) p key node (event_of get_now) }

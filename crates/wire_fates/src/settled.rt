@@ -106,7 +106,8 @@ impl Settled {
     /// Two processes that are both enabled in a state that a run can reach don't disturb each other: each
     /// stays enabled after the other's step, and both orders lead to the same state.
     pub fn enabled_commute(&self)
-        ensures { let plan = plan_of self.now in (s : State) (p q : ℕ) → IsReachable plan s → p ≢ q → is_enabled plan s p ≡ true → is_enabled plan s q ≡ true →
+        ensures { let plan = plan_of self.now in (s : State) (p q : ℕ) → IsReachable plan s → p ≢ q →
+            is_enabled plan s p ≡ true → is_enabled plan s q ≡ true →
             Commute plan s p q }
     {
         let _ = &self.plan;
@@ -115,8 +116,8 @@ impl Settled {
     /// Every interleaving that can't go on ends in one state, with the same replies, the same names and
     /// the same processes waiting: that of the plain run.
     pub fn one_end(&self)
-        ensures one { let plan = plan_of self.now in (v w : List ℕ) → IsInterleaving plan start v → IsInterleaving plan start w → IsEnd plan (run plan v) →
-            IsEnd plan (run plan w) → run plan v ≡ run plan w }
+        ensures one { let plan = plan_of self.now in (v w : List ℕ) → IsInterleaving plan start v →
+            IsInterleaving plan start w → IsEnd plan (run plan v) → IsEnd plan (run plan w) → run plan v ≡ run plan w }
         ensures plain { HasOneEnd (plan_of self.now) }
     {
         let _ = &self.plan;
@@ -142,7 +143,8 @@ impl Settled {
     /// of them waits. And a run can reach each sound cut.
     pub fn sound_is_reached(&self)
         ensures sound { let plan = plan_of self.now in (s : State) → IsReachable plan s → IsSoundCut plan s.done }
-        ensures reached { let plan = plan_of self.now in (cut : ℕ → ℕ) → IsSoundCut plan cut → (s : State) × IsReachable plan s × ((p : ℕ) → s.done p ≡ cut p) }
+        ensures reached { let plan = plan_of self.now in (cut : ℕ → ℕ) → IsSoundCut plan cut →
+            (s : State) × IsReachable plan s × ((p : ℕ) → s.done p ≡ cut p) }
     {
         let _ = &self.plan;
     }

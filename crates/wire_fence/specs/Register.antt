@@ -82,11 +82,12 @@ pub record AreNumbers (rows : List FenceDraft) (calls : List Call) (numbers : Li
   pub count : length numbers ≡ n
   pub each : (c : ℕ) → c < n → IsNumber rows calls c (slice_get calls c) (slice_index_or numbers c None)
 
--- what is kept of a call is the number of its fence, or 2 ^ 32 - 1, which no fence has
+-- how numbers are packed, for the contracts of private functions: what is kept of a call is the number of its fence, or
+-- 2 ^ 32 - 1, which no fence has
 abbrev pub number_kept : ℕ → Option ℕ
 number_kept kept = if kept == 4294967295 then None else Some kept
 
--- the last of the first n of these is that of no fence
+-- of packed numbers, for the contracts of private functions: the last of the first n of these is that of no fence
 abbrev pub EndsBare : List ℕ → ℕ → Type 0
 EndsBare kept n = (0 < n) × (slice_index_or kept (n - 1) 0 ≡ 4294967295)
 

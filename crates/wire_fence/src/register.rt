@@ -1,8 +1,7 @@
 //! The fences as calls are read: a row for each, by number.
 
 ghost use Rattle.std.specs.Prelude.{◌≡◌, ◌+◌, ◌<◌, ◌≤◌, ◌^◌, [], ℕ, map, length, replicate, slice_get, slice_index_or};
-ghost use Rattle.std.specs.Prelude.{OnOk, IfOk, Some, None};
-ghost use Rattle.std.specs.Bool.{OnTrue};
+ghost use Rattle.std.specs.Prelude.{◌↔◌, IsTrue, OnOk, IfOk, Some, None};
 ghost use Rattle.wire_types.specs.declared.Call.TheVariants.{Fence as TheFence};
 ghost use Rattle.wire_runs.specs.Plan.{update};
 ghost use Rattle.wire_content.specs.Scripts.{Scripts, IsSound, IsCounted, numbers_of, call_at, set_at};
@@ -76,7 +75,7 @@ fn forget(counts: &mut Vec<usize>, calls: &[Call])
 /// Whether the last of the first so many numbers is that of no fence.
 fn ends_bare(numbers: &[u32], count: usize) -> bool
     requires { count ≤ length numbers.now }
-    ensures { OnTrue result (EndsBare numbers.now count) }
+    ensures { IsTrue result ↔ EndsBare numbers.now count }
 {
     if count == 0 {
         return false;
@@ -86,7 +85,8 @@ fn ends_bare(numbers: &[u32], count: usize) -> bool
 
 /// The numbers kept of calls, up to the last fence call among them.
 fn up_to_last(alloc: Global, mut numbers: Vec<u32>) -> Result<Vec<u32>, AllocError>
-    ensures { IfOk result (λ kept. (c : ℕ) → slice_index_or (map number_kept kept.items) c None ≡ slice_index_or (map number_kept numbers.items) c None) }
+    ensures { IfOk result (λ kept. (c : ℕ) → slice_index_or (map number_kept kept.items) c None
+        ≡ slice_index_or (map number_kept numbers.items) c None) }
 {
     let mut count = numbers.len();
     'back: while ends_bare(&numbers, count) {
@@ -112,7 +112,7 @@ impl Register {
 
     /// Whether the row of this number is that of the nth fence over a set.
     fn is_row(&self, number: usize, set: u32, nth: usize) -> bool
-        ensures { OnTrue result (HasRow self.now.rows.items number set nth) }
+        ensures { IsTrue result ↔ HasRow self.now.rows.items number set nth }
     {
         let Some(row) = self.rows.get(number) else {
             return false;
@@ -282,7 +282,8 @@ pub(crate) fn read_rows(
 ) -> Result<(Vec<FenceDraft>, Vec<Vec<u32>>), AllocError>
     requires counted { IsCounted processes.now }
     requires within { (p c set : ℕ) (collect : _) → call_at processes.now p c ≡ Some (TheFence set collect) → set < length sets.now }
-    ensures numbers { IfOk result (λ made. AreAllNumbers made.0.items processes.now (map (λ v. map number_kept v.items) made.1.items) (length processes.now)) }
+    ensures numbers { IfOk result (λ made. AreAllNumbers made.0.items processes.now
+        (map (λ v. map number_kept v.items) made.1.items) (length processes.now)) }
     ensures read { IfOk result (λ made. (s : Scripts) → IsSound s → map (λ v. numbers_of v.items) sets.now ≡ s.sets → processes.now ≡ s.processes
         → AreRead s (read_to s (length processes.now)) made.0.items) }
 {

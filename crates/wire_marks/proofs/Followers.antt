@@ -1,11 +1,10 @@
 -- An event that waits for nothing but the event before it has the base of that event.
-use Rattle.std.proofs.Common.{◌≡◌, inl, ℕ, zero, suc, ◌<◌, ◌^◌, List, [], ◌++◌, true, Option, Some, None, length, refl, sym, ap, ◌∙◌, subst, arith, add-one}
+use Rattle.std.proofs.Common.{◌≡◌, inl, ℕ, zero, suc, ◌<◌, ◌^◌, List, [], ◌++◌, Option, Some, None, length, refl, sym, ap, ◌∙◌, subst, arith, add-one}
 use Rattle.std.specs.Prelude.{slice_get, option_map, option_to_list}
-use Rattle.std.proofs.lemmas.Bool.{true≢false}
 use Rattle.std.proofs.lemmas.List.{length-map, length_push}
 use Rattle.std.proofs.lemmas.Option.{same_Some, slice_get-map, slice_get_within}
-use Rattle.wire_runs.specs.Plan.{Plan, Event, Kind, Put, Commit, Arrive, Leave, Get, GetNow, Publish, Lookup, LookupWait, Unpublish, UnpublishAll, Fixed, kind, kind_at, event_count, process_count}
-use Rattle.wire_runs.specs.Order.{Edge, Follows, Meets, Feeds, Announces, may_come}
+use Rattle.wire_runs.specs.Plan.{Plan, Event, Kind, kind, kind_at, event_count, process_count}
+use Rattle.wire_runs.specs.Order.{Edge, Follows, may_come}
 use Rattle.wire_runs.specs.Step.{name_after}
 use Rattle.wire_runs.proofs.Lists.{slice_get_push_last}
 use Rattle.wire_content.specs.Scripts.{Scripts, call_count}
@@ -20,44 +19,10 @@ use Rattle.wire_marks.specs.Clocks.{Clocks, marked_count, root_at, base_at, item
 use Rattle.wire_marks.specs.Updates.{updates_at, IsNoted}
 use Rattle.wire_marks.specs.Marking.{AreClocks, next_of, IsNextBase, IsGrown, Adds, Notes, IsRaised, root_before, root_or_zero, unmarked}
 use Rattle.wire_marks.specs.Meeting.{AreMeetings}
-use Rattle.wire_marks.specs.Following.{only_follows, AreKindsOf, last_root}
+use Rattle.wire_marks.specs.Following.{OnlyFollows, AreKindsOf, last_root}
 use Rattle.wire_marks.proofs.Noting.{nothing_noted}
 use Rattle.wire_marks.proofs.Growing.{left_falls, next_there}
 use Rattle.wire_marks.proofs.Joining.{before_fits, growing_added, next_unmet}
-
--- what such a kind is not
-abbrev IsPlain : Option Kind → Type 0
-IsPlain o = only_follows o ≡ true
-
-comes : (plan : Plan) (y : Event) (o : Option Kind) → only_follows o ≡ true → may_come plan y o ≡ true
-comes plan y None h = absurd (true≢false (sym h))
-comes plan y (Some (Put key scope)) h = refl
-comes plan y (Some Commit) h = refl
-comes plan y (Some (Arrive members collect)) h = refl
-comes plan y (Some (Leave members)) h = absurd (true≢false (sym h))
-comes plan y (Some (Get owner key)) h = absurd (true≢false (sym h))
-comes plan y (Some (GetNow owner key)) h = refl
-comes plan y (Some (Publish name)) h = refl
-comes plan y (Some (Lookup name)) h = refl
-comes plan y (Some (LookupWait name)) h = refl
-comes plan y (Some (Unpublish name)) h = refl
-comes plan y (Some UnpublishAll) h = refl
-comes plan y (Some (Fixed reply)) h = refl
-
-keeps_names : (z : Event) (o : Option Kind) → only_follows o ≡ true → (m : ℕ) (before : Option Event) → name_after before z o m ≡ before
-keeps_names z None h m before = refl
-keeps_names z (Some (Put key scope)) h m before = refl
-keeps_names z (Some Commit) h m before = refl
-keeps_names z (Some (Arrive members collect)) h m before = refl
-keeps_names z (Some (Leave members)) h m before = refl
-keeps_names z (Some (Get owner key)) h m before = refl
-keeps_names z (Some (GetNow owner key)) h m before = refl
-keeps_names z (Some (Publish name)) h m before = absurd (true≢false (sym h))
-keeps_names z (Some (Lookup name)) h m before = refl
-keeps_names z (Some (LookupWait name)) h m before = refl
-keeps_names z (Some (Unpublish name)) h m before = absurd (true≢false (sym h))
-keeps_names z (Some UnpublishAll) h m before = absurd (true≢false (sym h))
-keeps_names z (Some (Fixed reply)) h m before = refl
 
 follows_is : (z y : Event) → z.proc ≡ y.proc → suc z.at ≡ y.at → previous_of y ≡ Some z
 follows_is z y same next =
@@ -79,16 +44,10 @@ only_one (Some v) zero z e = e
 only_one (Some v) (suc k) z e = absurd (cc)
 
 -- its one source is the event before it
-follower_source : (plan : Plan) (y z : Event) → IsPlain (kind plan y) → Edge plan z y → previous_of y ≡ Some z
-follower_source plan y z h (Follows same next) = follows_is z y same next
-follower_source plan y z h (Meets members is arrival) = absurd (true≢false (sym h ∙ ap only_follows is))
-follower_source plan y z h (Feeds key is other once stores) = absurd (true≢false (sym h ∙ ap only_follows is))
-follower_source plan y z h (Announces name is once) = absurd (true≢false (sym h ∙ ap only_follows is))
-
-follower_sources : (plan : Plan) (y : Event) → IsPlain (kind plan y) → AreSources plan y (option_to_list (previous_of y) ++ (option_to_list None ++ []))
-follower_sources plan y h = record {
-  only = λ k z e. before_edge plan y z y.at refl (only_one (previous_of y) k z e);
-  all = λ z e. single (previous_of y) z (follower_source plan y z h e);
+follower_sources : (plan : Plan) (y : Event) (k : Kind) → kind plan y ≡ Some k → OnlyFollows k → AreSources plan y (option_to_list (previous_of y) ++ (option_to_list None ++ []))
+follower_sources plan y k is follows = record {
+  only = λ j z e. before_edge plan y z y.at refl (only_one (previous_of y) j z e);
+  all = λ z e. single (previous_of y) z (follows.alone plan z y is e);
 }
 
 grown_none : (clocks : Clocks) → IsGrown clocks clocks
@@ -102,12 +61,12 @@ raised_none clocks previous = record {
 }
 
 -- the root of the event before is one of a base for it
-pub follower_base : (plan : Plan) (clocks : Clocks) (p : ℕ) → AreClocks plan clocks → IsPlain (kind plan (next_of clocks p)) → suc (marked_count clocks p) < 2 ^ 32 →
+pub follower_base : (plan : Plan) (clocks : Clocks) (p : ℕ) (k : Kind) → AreClocks plan clocks → kind plan (next_of clocks p) ≡ Some k → OnlyFollows k → suc (marked_count clocks p) < 2 ^ 32 →
     IsNextBase plan clocks p (last_root clocks p)
-follower_base plan clocks p sound h few =
+follower_base plan clocks p k sound is follows few =
     next_unmet plan clocks clocks p (last_root clocks p) (previous_of (next_of clocks p)) None sound
-    (comes plan (next_of clocks p) (kind plan (next_of clocks p)) h)
-    (follower_sources plan (next_of clocks p) h)
+    (ap (may_come plan (next_of clocks p)) is ∙ follows.comes plan (next_of clocks p))
+    (follower_sources plan (next_of clocks p) k is follows)
     refl
     (λ z e. absurd (cc))
     few
@@ -116,18 +75,17 @@ follower_base plan clocks p sound h few =
     (raised_none clocks (previous_of (next_of clocks p)))
 
 -- it is noted under no name
-pub follower_noted : (plan : Plan) (z : Event) (old new : Clocks) → IsPlain (kind plan z) → new.updates ≡ old.updates → Notes plan z old new
-follower_noted plan z old new h same =
+pub follower_noted : (plan : Plan) (z : Event) (k : Kind) (old new : Clocks) → kind plan z ≡ Some k → OnlyFollows k → new.updates ≡ old.updates → Notes plan z old new
+follower_noted plan z k old new is follows same =
     subst (λ lists. (name : ℕ) → IsNoted plan z name (updates_at old.updates name) (updates_at lists name)) (sym same)
-    (nothing_noted plan z (updates_at old.updates) (keeps_names z (kind plan z) h))
+    (nothing_noted plan z (updates_at old.updates) (λ name published. ap (λ o. name_after published z o name) is ∙ follows.keeps z name published))
 
 -- the next event of the process, where it only follows the one before it, is marked with the root of that one
 module _ (s : Scripts) (old : Clocks) (p root : ℕ) (list : List CodeKind) (k : CodeKind) (sound : AreClocks (plan_of s) old) (are : AreKindsOf s p list) (counted : call_count s.processes < 2 ^ 31)
-    (item : slice_get list (marked_count old p) ≡ Some k) (h : only_follows (Some (kind_of s.sets k)) ≡ true) (is : root ≡ last_root old p) where
-  next_plain : IsPlain (kind (plan_of s) (next_of old p))
+    (item : slice_get list (marked_count old p) ≡ Some k) (follows : OnlyFollows (kind_of s.sets k)) (is : root ≡ last_root old p) where
+  next_kind : kind (plan_of s) (next_of old p) ≡ Some (kind_of s.sets k)
   unfolding kind_at
-  next_plain = rw (← are) (ap only_follows (slice_get-map (kind_of s.sets) list (marked_count old p)
-      ∙ ap (option_map (kind_of s.sets)) item) ∙ h)
+  next_kind = rw (← are) (slice_get-map (kind_of s.sets) list (marked_count old p) ∙ ap (option_map (kind_of s.sets)) item)
 
   next_few : suc (marked_count old p) < 2 ^ 32
   unfolding event_count
@@ -138,7 +96,7 @@ module _ (s : Scripts) (old : Clocks) (p root : ℕ) (list : List CodeKind) (k :
       omega (arith, low, same, fits)
 
   next : IsNextBase (plan_of s) old p root
-  next = subst (λ n. IsNextBase (plan_of s) old p n) (sym is) (follower_base (plan_of s) old p sound next_plain next_few)
+  next = subst (λ n. IsNextBase (plan_of s) old p n) (sym is) (follower_base (plan_of s) old p (kind_of s.sets k) sound next_kind follows next_few)
 
   there : p < process_count (plan_of s)
   there = next_there (plan_of s) old p root next
@@ -149,7 +107,7 @@ module _ (s : Scripts) (old : Clocks) (p root : ℕ) (list : List CodeKind) (k :
   module _ (new : Clocks) (adds : Adds old new p root) (same : new.updates ≡ old.updates) where
     pub follower_growing : (table : FenceTable) (meetings : List Meeting) → AreMeetings (plan_of s) table old meetings → AreClocks (plan_of s) new × AreMeetings (plan_of s) table new meetings
     follower_growing table meetings kept =
-        growing_added (plan_of s) table old new meetings p root there sound kept next adds (follower_noted (plan_of s) (next_of old p) old new next_plain same)
+        growing_added (plan_of s) table old new meetings p root there sound kept next adds (follower_noted (plan_of s) (next_of old p) (kind_of s.sets k) old new next_kind follows same)
 
     pub follower_falls : unmarked (plan_of s) new < unmarked (plan_of s) old
     follower_falls = left_falls (plan_of s) old new p root there sound next adds

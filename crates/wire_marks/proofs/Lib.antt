@@ -10,3 +10,4 @@ pub mod Leaving
 pub mod Joining
 pub mod Back
 pub mod Followers
+pub mod Unfollowing

@@ -1,23 +1,22 @@
 -- Events that wait for nothing but the event before them: for the contracts of private functions.
-use Rattle.std.specs.Prelude.{◌≡◌, ℕ, List, Bool, true, false, Option, Some, map}
-use Rattle.wire_runs.specs.Plan.{Kind, Put, Commit, Arrive, GetNow, Lookup, Fixed, kinds}
+use Rattle.std.specs.Prelude.{◌≡◌, ℕ, List, true, Option, Some, map}
+use Rattle.wire_runs.specs.Plan.{Plan, Event, Kind, kind, kinds}
+use Rattle.wire_runs.specs.Order.{Edge, may_come}
+use Rattle.wire_runs.specs.Step.{name_after}
 use Rattle.wire_content.specs.Scripts.{Scripts}
 use Rattle.wire_content.specs.Planned.{plan_of}
-use Rattle.wire_plan.specs.Index.{previous_at}
+use Rattle.wire_plan.specs.Index.{previous_at, previous_of}
 use Rattle.wire_plan.specs.Kinds.{kind_of}
 use Rattle.wire_plan.specs.declared.kind.Kind.{Kind as CodeKind}
 use Rattle.wire_marks.specs.Clocks.{Clocks, marked_count}
 use Rattle.wire_marks.specs.Marking.{root_before}
 
--- whether an event of this kind waits for nothing but the event before it, is never ruled out, and changes no name
-abbrev pub only_follows : Option Kind → Bool
-only_follows (Some (Put key scope)) = true
-only_follows (Some Commit) = true
-only_follows (Some (Arrive members collect)) = true
-only_follows (Some (GetNow owner key)) = true
-only_follows (Some (Lookup name)) = true
-only_follows (Some (Fixed reply)) = true
-only_follows _ = false
+-- in every plan an event of this kind may come, its one source is the event before it in its process, and it changes
+-- no name
+pub record OnlyFollows (k : Kind) : Type 0 where
+  pub comes : (plan : Plan) (y : Event) → may_come plan y (Some k) ≡ true
+  pub alone : (plan : Plan) (x y : Event) → kind plan y ≡ Some k → Edge plan x y → previous_of y ≡ Some x
+  pub keeps : (y : Event) (name : ℕ) (published : Option Event) → name_after published y (Some k) name ≡ published
 
 -- these are what the process's events are
 abbrev pub AreKindsOf : Scripts → ℕ → List CodeKind → Type 0

@@ -1,20 +1,20 @@
 //! Runs of events that wait for nothing but the event before them: each has the base of that event.
 
-ghost use Rattle.std.specs.Prelude.{◌≡◌, ◌<◌, ◌≤◌, ℕ, List, Some, IfOk, OnOk};
+ghost use Rattle.std.specs.Prelude.{◌≡◌, ◌<◌, ◌≤◌, ◌↔◌, ℕ, List, IsTrue, IfOk, OnOk};
 ghost use Rattle.std.specs.Bool.{OnTrue, OnFalse};
 ghost use Rattle.wire_plan.specs.Kinds.{kind_of};
 ghost use Rattle.wire_marks.specs.Meeting.{left_in, IsGrowing};
-ghost use Rattle.wire_marks.specs.Following.{AreKindsOf, last_root};
-ghost use Rattle.wire_marks.specs.Following as spec;
+ghost use Rattle.wire_marks.specs.Following.{OnlyFollows, AreKindsOf, last_root};
 
 use crate::joins::Growth;
 use std::alloc::AllocError;
 use wire_plan::Kind;
 use wire_types::Proc;
 
-/// Whether an event waits for nothing but the event before it, is never ruled out, and changes no name.
+/// Whether an event of this kind waits for nothing but the event before it, is never ruled out, and changes no name:
+/// in every plan, whatever set the kind's number stands for.
 fn only_follows(kind: &Kind) -> bool
-    ensures { (sets : List (List ℕ)) → result ≡ spec.only_follows (Some (kind_of sets kind.now)) }
+    ensures { IsTrue result ↔ ((sets : List (List ℕ)) → OnlyFollows (kind_of sets kind.now)) }
 {
     match kind {
         Kind::Put { .. } => true,

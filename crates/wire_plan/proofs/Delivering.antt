@@ -43,22 +43,25 @@ sent_there plan p key node at d =
 
 -- a delivering arrival brings data to the node
 pub brings_there : (plan : Plan) (p key node at : ℕ) → IsDelivering plan p key node at → BringsTo plan node (here p at)
-brings_there plan p key node at d = record { members = d.members; j = d.j; arrival = d.arrival; full = d.brings.away.full; collecting = d.brings.away.collecting; reaches = d.brings.reaches }
+brings_there plan p key node at d = record {
+  brings = record { members = d.members; j = d.j; arrival = d.arrival; full = d.brings.away.full; collecting = d.brings.away.collecting };
+  reaches = d.brings.reaches;
+}
 
 -- and an arrival that brings data brings what was stored before it
 pub delivers_there : (plan : Plan) (p key node at : ℕ) → BringsTo plan node (here p at) → IsSent plan p key at → IsDelivering plan p key node at
 delivers_there plan p key node at b sent = record {
-  members = b.members;
-  j = b.j;
-  arrival = b.arrival;
+  members = b.brings.members;
+  j = b.brings.j;
+  arrival = b.brings.arrival;
   brings = record {
     away = record {
-      full = b.full;
-      collecting = b.collecting;
-      member = b.arrival.member;
+      full = b.brings.full;
+      collecting = b.brings.collecting;
+      member = b.brings.arrival.member;
       at = at;
       put = sent.put;
-      arrival = b.arrival;
+      arrival = b.brings.arrival;
       committed = sent.committed;
       admitted = sent.admitted;
     };
@@ -79,8 +82,8 @@ module _ (plan : Plan) (p key node from c start : ℕ) (sent : (at : ℕ) → Is
   later : (at : ℕ) → start ≤ at → BringsTo plan node (here p at) → IsDelivering plan p key node at
   later at le b = delivers_there plan p key node at b ((sent at).1 (elim (cases_eq c at) [
     | inl same ↦
-        let is = subst (λ n. kind_at plan p n ≡ Some (Arrive b.members b.arrival.collect)) (sym same) b.arrival.is in
-        let before = (sent c).0 (arrival_stores_nothing plan p key c b.members b.arrival.collect is ((sent (suc c)).1 (omega arith))) in
+        let is = subst (λ n. kind_at plan p n ≡ Some (Arrive b.brings.members b.brings.arrival.collect)) (sym same) b.brings.arrival.is in
+        let before = (sent c).0 (arrival_stores_nothing plan p key c b.brings.members b.brings.arrival.collect is ((sent (suc c)).1 (omega arith))) in
         absurd (omega (arith, before))
     | inr other ↦ omega (arith, le, second, other)
   ]))

@@ -9,21 +9,12 @@ use Rattle.std.specs.Ordering.{nat_cmp, is_lt, is_some_and, partial_ordering_the
 use Rattle.std.proofs.lemmas.List.{map-append}
 use Rattle.std.proofs.lemmas.Option.{slice_get-get_or, slice_get-map, slice_get_within, same_Some, none-some}
 use Rattle.wire_runs.specs.Plan.{Plan, Event, event_of, event_count, process_count}
-use Rattle.wire_runs.specs.Fences.{has_node}
 use Rattle.wire_runs.specs.EventLists.{IsLower, AreAll}
 use Rattle.wire_types.specs.declared.Event.{Event as CodeEvent}
 use Rattle.wire_plan.specs.Index.{BringsData}
 use Rattle.wire_plan.specs.Bringing.{BringsTo, NoneInFront, IsFirstFrom, IsRising, is_below}
 use Rattle.wire_runs.proofs.Basics.{event_within, process_within}
 use Rattle.wire_plan.proofs.Grown.{place, Earlier, one_more, whole_process, whole_plan}
-
--- what brings data to a node brings data
-pub its_fence : (plan : Plan) (node : ℕ) (x : Event) → BringsTo plan node x → BringsData plan x
-its_fence plan node x b = record { members = b.members; j = b.j; arrival = b.arrival; full = b.full; collecting = b.collecting }
-
--- and what brings data brings it to the nodes that its fence reaches
-pub to_node : (plan : Plan) (node : ℕ) (x : Event) → (b : BringsData plan x) → has_node plan b.members node ≡ true → BringsTo plan node x
-to_node plan node x b reached = record { members = b.members; j = b.j; arrival = b.arrival; full = b.full; collecting = b.collecting; reaches = reached }
 
 -- an event that brings data
 pub arrival_added : (plan : Plan) (e : CodeEvent) (xs ys : List CodeEvent) → ys ≡ xs ++ e ∷ [] → BringsData plan (event_of e)
@@ -120,7 +111,7 @@ module _ (plan : Plan) (p node from : ℕ) (xs : List Event) (are : AreAll (Brin
       brings = brings;
     },
     λ y a.
-        let found = are.all y (its_fence plan node y a.brings) in
+        let found = are.all y a.brings.brings in
         elim (cases_lt found.0 k) [
           | inl lt ↦ absurd (none found.0 y lt found.1 a)
           | inr ge ↦ elim (cases_eq k found.0) [
@@ -139,7 +130,7 @@ module _ (plan : Plan) (p node from : ℕ) (xs : List Event) (are : AreAll (Brin
   -- else there is none
   pub none_of_process : (k : ℕ) (e : CodeEvent) → n ≤ k → NoneInFront plan p node from xs k → slice_get xs k ≡ Some (event_of e) → e.proc.number ≢ p → IsFirstFrom plan p node from None
   none_of_process k e above none is other = λ y a.
-      let found = are.all y (its_fence plan node y a.brings) in
+      let found = are.all y a.brings.brings in
       elim (cases_lt found.0 k) [
         | inl lt ↦ none found.0 y lt found.1 a
         | inr ge ↦ elim (cases_eq k found.0) [
@@ -153,6 +144,6 @@ module _ (plan : Plan) (p node from : ℕ) (xs : List Event) (are : AreAll (Brin
 
   pub none_left : (k : ℕ) → length xs ≤ k → NoneInFront plan p node from xs k → IsFirstFrom plan p node from None
   none_left k past none = λ y a.
-      let found = are.all y (its_fence plan node y a.brings) in
+      let found = are.all y a.brings.brings in
       let within = slice_get_within xs found.0 y found.1 in
       none found.0 y (omega (arith, within, past)) found.1 a

@@ -12,6 +12,6 @@ pub mod Wired
 pub mod Awaited
 pub mod Delivering
 pub mod FirstBringing
-pub mod LastBringing
+pub mod LastBringingArrival
 pub mod Building
 pub mod KeptGets

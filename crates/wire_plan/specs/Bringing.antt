@@ -2,8 +2,7 @@
 use Rattle.std.specs.Prelude.{◌≡◌, ◌↔◌, ℕ, ◌<◌, ◌≤◌, List, Bool, true, ◌&&◌, ◌||◌, ◌==◌, nat_lt, Option, Some}
 use Rattle.std.specs.Prelude.{MatchOption, map, slice_get}
 use Rattle.wire_runs.specs.Plan.{Plan, Event, event_of}
-use Rattle.wire_runs.specs.Fences.{is_full, is_collecting, has_node}
-use Rattle.wire_runs.specs.Order.{IsArrival}
+use Rattle.wire_runs.specs.Fences.{has_node}
 use Rattle.wire_runs.specs.EventLists.{IsLower, AreAll}
 use Rattle.wire_types.specs.declared.Event.{Event as CodeEvent}
 use Rattle.wire_plan.specs.Index.{BringsData, IsSent}
@@ -11,12 +10,8 @@ use Rattle.wire_plan.specs.declared.bringing.BringingArrivals.{BringingArrivals}
 
 -- x is an arrival at a fence that brings data, with a member on the node
 pub record BringsTo (plan : Plan) (node : ℕ) (x : Event) : Type 0 where
-  pub members : List ℕ
-  pub j : ℕ
-  pub arrival : IsArrival plan members j x
-  pub full : is_full plan members j ≡ true
-  pub collecting : is_collecting plan members j ≡ true
-  pub reaches : has_node plan members node ≡ true
+  pub brings : BringsData plan x
+  pub reaches : has_node plan brings.members node ≡ true
 
 -- the table has the arrivals at fences that bring data
 abbrev pub AreBringing : Plan → BringingArrivals → Type 0

@@ -109,8 +109,8 @@ pub record BringsDataBefore (plan : Plan) (y x : Event) : Type 0 where
   pub earlier : x.at < y.at
 
 -- what is found, if anything, is the last of them
-abbrev pub IsLastBringing : Plan → Event → Option Event → Type 0
-IsLastBringing plan y found =
+abbrev pub IsLastBringingArrival : Plan → Event → Option Event → Type 0
+IsLastBringingArrival plan y found =
     MatchOption found
     ((x : Event) → BringsDataBefore plan y x → ⊥)
     (λ x. BringsDataBefore plan y x × ((z : Event) → BringsDataBefore plan y z → z.at ≤ x.at))

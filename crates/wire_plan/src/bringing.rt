@@ -5,7 +5,7 @@ ghost use Rattle.wire_runs.specs.Plan.{event_of, event_count};
 ghost use Rattle.wire_runs.specs.Plan as runs;
 ghost use Rattle.wire_content.specs.Planned.{plan_of};
 ghost use Rattle.wire_fence.specs.FenceTable.{AreFencesOf, fence_at as the_fence_at, full_in, collects_in};
-ghost use Rattle.wire_plan.specs.Index.{IsLastBringing};
+ghost use Rattle.wire_plan.specs.Index.{IsLastBringingArrival};
 ghost use Rattle.wire_plan.specs.Bringing.{AreBringing, AreBringingTo, IsFirstFrom, IsRising, is_below};
 
 use crate::events::Events;
@@ -127,7 +127,7 @@ impl BringingArrivals {
 
     /// The last arrival of an event's process before it at a fence that brings data, by bisection.
     pub(crate) fn last_before(&self, event: Event) -> Option<Event>
-        ensures { (plan : runs.Plan) → AreBringing plan self.now → IsLastBringing plan (event_of event) (option_map event_of result) }
+        ensures { (plan : runs.Plan) → AreBringing plan self.now → IsLastBringingArrival plan (event_of event) (option_map event_of result) }
     {
         let list = self.arrivals.as_slice();
         let lower = count_lower(list, event);

@@ -51,7 +51,8 @@ impl Scan {
     /// Takes the event before those that were taken.
     fn take(&mut self, kind: Kind, at: u32) -> Result<(), AllocError>
         requires { (key : ℕ) → puts_in (get nat_cmp self.old.rows key) + 1 < 2 ^ 32 }
-        ensures { OnOk result ((events : ℕ → Option runs.Kind) (sets : List (List ℕ)) (end : ℕ) → events at ≡ Some (kind_of sets kind) → at < end →
+        ensures { OnOk result ((events : ℕ → Option runs.Kind) (sets : List (List ℕ)) (end : ℕ) →
+            events at ≡ Some (kind_of sets kind) → at < end →
             AreRowsFrom events (suc at) end (get nat_cmp self.old.rows) self.old.commit →
             AreRowsFrom events at end (get nat_cmp self.new.rows) self.new.commit) }
     {
@@ -167,7 +168,8 @@ impl KeyTable {
     /// `None` where none does (PMIx Standard 5.0, Posting Key-Value Pairs).
     pub(crate) fn store_of(&self, owner: Proc, key: u32) -> Option<Event>
         ensures { (plan : Plan) → AreKeysOf plan self.now →
-            MatchOption result ((x : runs.Event) → x.proc ≡ owner.number → Stores plan x key → ⊥) (λ x. (x.proc ≡ owner) × Stores plan (event_of x) key) }
+            MatchOption result ((x : runs.Event) → x.proc ≡ owner.number → Stores plan x key → ⊥)
+            (λ x. (x.proc ≡ owner) × Stores plan (event_of x) key) }
     {
         match self.store(owner, key) {
             Some(at) => Some(Event { proc: owner, at }),

@@ -46,7 +46,8 @@ impl Model for Meetings {
 /// Makes a list for the fence of this number, and for those below.
 fn make_room(lists: &mut Vec<Vec<Event>>, alloc: Global, number: usize) -> Result<(), AllocError>
     ensures room { OnOk result (number < length lists.new.items) }
-    ensures same { OnOk result ((n : ℕ) → arrivals_in (map_list (λ v. v.items) lists.new.items) n ≡ arrivals_in (map_list (λ v. v.items) lists.old.items) n) }
+    ensures same { OnOk result ((n : ℕ) → arrivals_in (map_list (λ v. v.items) lists.new.items) n
+        ≡ arrivals_in (map_list (λ v. v.items) lists.old.items) n) }
 {
     'lists: while lists.len() <= number {
         lists.push(Vec::new(alloc))?;
@@ -125,7 +126,8 @@ impl Meetings {
 
     /// The arrivals at a fence, in process order.
     pub(crate) fn arrivals(&self, fence: FenceId) -> &[Event]
-        ensures { (s : TheScripts) (table : FenceTable) (info : FenceInfo) → AreArrivalLists s table self.now → the_fence_at table fence.number ≡ Some info →
+        ensures { (s : TheScripts) (table : FenceTable) (info : FenceInfo) → AreArrivalLists s table self.now →
+            the_fence_at table fence.number ≡ Some info →
             AreArrivals (plan_of s) info.members info.nth (map_list event_of result.now) }
     {
         match self.arrivals.get(fence.number as usize) {

@@ -16,7 +16,7 @@ ghost use Rattle.wire_runs.specs.Plan.{event_total};
 ghost use Rattle.wire_runs.specs.Order.{may_come, Stores, PublishesOnce};
 ghost use Rattle.wire_runs.specs.Races.{IsPutOnce};
 ghost use Rattle.wire_plan.specs.Index.{AreSources, AreArrivals, AreNameCalls, ArePublishes, AreSweeps};
-ghost use Rattle.wire_plan.specs.Index.{AreGetDeliveries, IsLastBringing, IsSent};
+ghost use Rattle.wire_plan.specs.Index.{AreGetDeliveries, IsLastBringingArrival, IsSent};
 ghost use Rattle.wire_plan.specs.Index.{IsAwaited, IsFirstPut, IsNextDelivery, source_list, previous_of};
 ghost use Rattle.wire_plan.specs.Indexed.{IsIndexed};
 ghost use Rattle.wire_plan.specs.Meetings.{is_of_fence, IsMet};
@@ -325,8 +325,8 @@ impl Plan {
 
     /// The last arrival of an event's process before it at a fence that brings data: one that each member
     /// calls, each with data collection (PMIx Standard 5.0, PMIx_Fence with PMIX_COLLECT_DATA).
-    pub fn last_bringing(&self, event: Event) -> Option<Event>
-        ensures { IsLastBringing (plan_of self.now) (event_of event) (option_map event_of result) }
+    pub fn last_bringing_arrival(&self, event: Event) -> Option<Event>
+        ensures { IsLastBringingArrival (plan_of self.now) (event_of event) (option_map event_of result) }
     {
         self.tables.index.bringing.last_before(event)
     }

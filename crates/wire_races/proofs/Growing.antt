@@ -1,12 +1,12 @@
 -- How the list of findings grows, event by event.
-use Rattle.std.proofs.Common.{◌≡◌, ◌⊎◌, inl, inr, ⊎_elim, ℕ, suc, ◌<◌, List, refl, sym, subst, arith}
+use Rattle.std.proofs.Common.{◌≡◌, ◌⊎◌, inl, inr, ⊎_elim, ℕ, suc, ◌<◌, ◌≤◌, List, refl, sym, subst, arith}
 use Rattle.std.proofs.lemmas.Bool.{cases_eq}
 use Rattle.wire_runs.specs.Plan.{Plan, Event, process_count, event_count}
 use Rattle.wire_runs.specs.Findings.{Finding, IsFound}
 use Rattle.wire_findings.specs.declared.finding.Finding.{Finding as Told}
 use Rattle.wire_findings.specs.Collected.{AreFound, IsAdded}
 use Rattle.wire_races.specs.FindingKinds.{AllAdded}
-use Rattle.wire_races.specs.Adding.{Adds, OfKind, ToldIn, ToldBelow}
+use Rattle.wire_races.specs.Adding.{Adds, OfKind, ToldIn, ToldBetween, ToldBelow}
 
 -- nothing is there to add
 pub adds_none : (plan : Plan) (found : List Told) (those : Finding → Type 0) → AreFound plan found → ((f : Finding) → those f → ⊥) → Adds plan found found those
@@ -79,6 +79,19 @@ module _ (plan : Plan) (tells : Event → Finding → Type 0) where
       (λ f t. elim (cases_eq t.0.proc n) [
         | inl same ↦ inr (t.0, t.1, same, subst (λ q. t.0.at < event_count plan q) same (within t.0 f t.1))
         | inr other ↦ let lt = t.2 in inl (t.0, t.1, omega (arith, lt, one, other))
+      ])
+      first second
+
+  -- one process more, behind those from one on
+  pub one_beside : ((y : Event) (f : Finding) → tells y f → y.at < event_count plan y.proc) → (old mid new : List Told) (from n m : ℕ) → m ≡ suc n → from ≤ n →
+      Adds plan old mid (ToldBetween tells from n) → Adds plan mid new (ToldIn tells n (event_count plan n)) → Adds plan old new (ToldBetween tells from m)
+  one_beside within old mid new from n m one le first second =
+      adds_both plan old mid new (ToldBetween tells from n) (ToldIn tells n (event_count plan n)) (ToldBetween tells from m)
+      (λ f t. let lt = t.3 in (t.0, t.1, t.2, omega (arith, lt, one)))
+      (λ f t. let is = t.2 in (t.0, t.1, omega (arith, is, le), omega (arith, is, one)))
+      (λ f t. elim (cases_eq t.0.proc n) [
+        | inl same ↦ inr (t.0, t.1, same, subst (λ q. t.0.at < event_count plan q) same (within t.0 f t.1))
+        | inr other ↦ let lt = t.3 in inl (t.0, t.1, t.2, omega (arith, lt, one, other))
       ])
       first second
 

@@ -1,11 +1,11 @@
 -- The pieces of the search together are the whole search.
-use Rattle.std.proofs.Common.{◌≡◌, sym, subst, ℕ, ◌<◌, List, [], ◌∷◌, ◌++◌, length, map, Some, Ok, Err, inl, inr, arith, refl}
+use Rattle.std.proofs.Common.{◌≡◌, ◌/◌, sym, subst, ℕ, ◌<◌, List, [], ◌∷◌, ◌++◌, length, map, Some, Ok, Err, inl, inr, arith, refl}
 use Rattle.std.specs.Prelude.{slice_get, Vec, Result, MatchResult, IfOk}
 use Rattle.std.specs.declared.alloc.Global.{Global}
 use Rattle.std.specs.List.{AllZip, Contains, range_with_len}
 use Rattle.std.specs.declared.alloc.AllocError.{AllocError}
 use Rattle.std.proofs.lemmas.Option.{slice_get_within, slice_get_cases}
-use Rattle.wire_runs.specs.Plan.{Plan, process_count}
+use Rattle.wire_runs.specs.Plan.{Plan}
 use Rattle.wire_content.specs.Scripts.{Scripts, IsSound}
 use Rattle.wire_content.specs.Planned.{plan_of}
 use Rattle.wire_runs.specs.Findings.{Finding, IsFound}
@@ -13,7 +13,7 @@ use Rattle.wire_findings.specs.declared.finding.Finding.{Finding as Told}
 use Rattle.wire_findings.specs.Collected.{Tells, AreFound}
 use Rattle.wire_races.specs.FindingKinds.{AllAdded, IsOfKey, IsOfName}
 use Rattle.wire_races.specs.Adding.{Adds, OfKind}
-use Rattle.wire_races.specs.KeyRaces.{IsKeyRaceOf}
+use Rattle.wire_races.specs.KeyRaces.{IsKeyRaceIn, AreKeyPieces}
 use Rattle.wire_races.specs.NameRaces.{IsRaceOn}
 use Rattle.wire_races.specs.SweepRaces.{IsSweepRace}
 use Rattle.wire_races.specs.Pieces.{IsPiece, ArePieces, IsInSome, AreAllFound}
@@ -22,7 +22,7 @@ use Rattle.wire_races.proofs.Growing.{adds_none, adds_both, adds_same, all_added
 use Rattle.wire_races.proofs.Names.{named_within}
 use Rattle.wire_races.proofs.NameRaces.{low_calls, on_name, race_on}
 use Rattle.wire_races.proofs.Gathered.{gathered}
-use Rattle.wire_races.proofs.Deliveries.{race_within, race_below, race_told, race_by}
+use Rattle.wire_races.proofs.Deliveries.{race_below, race_told, race_by}
 
 -- what is added to nothing is a piece
 pub piece_of : (plan : Plan) (those : Finding → Type 0) (old new : List Told) → old ≡ [] → Adds plan old new those → IsPiece plan those new
@@ -78,14 +78,14 @@ pieces_added plan n those kind pieces old new there back are h =
     h)
 
 -- the pieces of the processes tell all races on keys
-pub key_pieces_added : (plan : Plan) (pieces : List (List Told)) (old new : List Told) → ArePieces plan (process_count plan) (IsKeyRaceOf plan) pieces → Adds plan old new (IsInSome plan pieces) →
-    AllAdded plan IsOfKey old new
-key_pieces_added plan pieces old new =
-    pieces_added plan (process_count plan) (IsKeyRaceOf plan) IsOfKey pieces old new
+pub key_pieces_added : (plan : Plan) (pieces : List (List Told)) (old new : List Told) → AreKeyPieces plan pieces → Adds plan old new (IsInSome plan pieces) → AllAdded plan IsOfKey old new
+key_pieces_added plan pieces old new are =
+    pieces_added plan are.count (IsKeyRaceIn plan are.size) IsOfKey pieces old new
     (λ k f t. race_told plan t.0 f t.1)
     (λ f o.
     let by = race_by plan f o in
-    (by.0.proc, race_below plan by.0 f by.1, (by.0, by.1, refl, race_within plan by.0 f by.1)))
+    (by.0.proc / are.size, are.enough by.0.proc (race_below plan by.0 f by.1), (by.0, by.1, refl)))
+    are.are
 
 -- the pieces of the names, and then the races between sweeps, tell all races on names
 pub names_and_sweeps : (s : Scripts) → IsSound s → (pieces : List (List Told)) (old now new : List Told) → ArePieces (plan_of s) (length s.names) (IsRaceOn (plan_of s)) pieces →

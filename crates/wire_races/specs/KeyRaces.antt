@@ -1,12 +1,13 @@
 -- The races of a get that is answered at once: for the contracts of private functions.
-use Rattle.std.specs.Prelude.{◌≡◌, ◌≢◌, ◌⊎◌, ◌<◌, ℕ, false, Some}
-use Rattle.wire_runs.specs.Plan.{Plan, Event, GetNow, kind, event_count, node_of, same_node}
+use Rattle.std.specs.Prelude.{◌≡◌, ◌≢◌, ◌⊎◌, ◌<◌, ◌/◌, ℕ, List, false, Some}
+use Rattle.wire_runs.specs.Plan.{Plan, Event, GetNow, kind, process_count, node_of, same_node}
 use Rattle.wire_runs.specs.Order.{Live}
 use Rattle.wire_runs.specs.Races.{IsPutOnce, ComesSurely}
 use Rattle.wire_runs.specs.EventLists.{IsLower}
 use Rattle.wire_plan.specs.Index.{IsDelivering}
 use Rattle.wire_runs.specs.Findings.{Finding, KeyRace, IsKeyRace}
-use Rattle.wire_races.specs.Adding.{ToldIn}
+use Rattle.wire_findings.specs.declared.finding.Finding.{Finding as Told}
+use Rattle.wire_races.specs.Pieces.{ArePieces}
 use Rattle.wire_fates.specs.Deliveries.{IsLate}
 
 -- the race of two events, the lower of them first
@@ -21,9 +22,20 @@ pub record IsKeyRaceBy (plan : Plan) (get : Event) (f : Finding) : Type 0 where
   pub race : IsKeyRace plan source get owner key
   pub is : IsRaceOf source get owner key f
 
--- a race of a get of process p
-abbrev pub IsKeyRaceOf : Plan → ℕ → Finding → Type 0
-IsKeyRaceOf plan p = ToldIn (IsKeyRaceBy plan) p (event_count plan p)
+-- n pieces of this size hold all processes
+abbrev pub HasPieces : Plan → ℕ → ℕ → Type 0
+HasPieces plan size n = (p : ℕ) → p < process_count plan → p / size < n
+
+-- a race of a get of a process of the piece
+abbrev pub IsKeyRaceIn : Plan → ℕ → ℕ → Finding → Type 0
+IsKeyRaceIn plan size piece f = (y : Event) × IsKeyRaceBy plan y f × (y.proc / size ≡ piece)
+
+-- the pieces tell the races of all gets, each those of its processes
+pub record AreKeyPieces (plan : Plan) (pieces : List (List Told)) : Type 0 where
+  pub size : ℕ
+  pub count : ℕ
+  pub enough : HasPieces plan size count
+  pub are : ArePieces plan count (IsKeyRaceIn plan size) pieces
 
 -- a live get, answered at once, of a key that another process puts once
 pub record IsOpen (plan : Plan) (get : Event) (owner key : ℕ) : Type 0 where

@@ -1,6 +1,6 @@
 //! Races on keys: a get that is answered at once, and the commit or the fence that brings the key.
 
-ghost use Rattle.std.specs.Prelude.{◌≡◌, ◌<◌, ◌*◌, ◌/◌, max, Some, OnOk, IsTrue, IfOk, ◌↔◌, true, false};
+ghost use Rattle.std.specs.Prelude.{◌≡◌, ◌<◌, ◌≤◌, ◌*◌, ◌/◌, ℕ, max, Some, OnOk, IsTrue, IfOk, ◌↔◌, true, false};
 ghost use Rattle.wire_runs.specs.Plan.{GetNow, event_of, process_count, event_count, event_total, kind, node_of};
 ghost use Rattle.wire_runs.specs.Plan.{same_node};
 ghost use Rattle.wire_content.specs.Planned.{plan_of};
@@ -12,10 +12,10 @@ ghost use Rattle.wire_findings.specs.Findings.{shown};
 ghost use Rattle.wire_findings.specs.Collected.{AreFound};
 ghost use Rattle.wire_fates.specs.Deliveries.{MayBeLate};
 ghost use Rattle.wire_races.specs.FindingKinds.{IsOfKey, AllAdded};
-ghost use Rattle.wire_races.specs.Adding.{Adds, ToldIn};
-ghost use Rattle.wire_races.specs.Pieces.{IsPiece, ArePieces};
-ghost use Rattle.wire_races.specs.KeyRaces.{IsRaceOf, IsKeyRaceBy, IsKeyRaceOf, IsOpen, IsLateBy, AreLateBelow};
-ghost use Rattle.wire_races.specs.KeyRaces.{IsUnsure};
+ghost use Rattle.wire_races.specs.Adding.{Adds, ToldIn, ToldBetween};
+ghost use Rattle.wire_races.specs.Pieces.{IsPiece};
+ghost use Rattle.wire_races.specs.KeyRaces.{IsRaceOf, IsKeyRaceBy, IsOpen, IsLateBy, AreLateBelow};
+ghost use Rattle.wire_races.specs.KeyRaces.{IsUnsure, HasPieces, IsKeyRaceIn, AreKeyPieces};
 
 use crate::get_races::add_get_races;
 use crate::search_pieces::add_pieces;
@@ -228,39 +228,97 @@ fn add_process(marked: &MarkedPlan<'_>, found: &mut Found, proc: Proc) -> Result
     Ok(())
 }
 
-/// The races of the gets of a process: a piece of the search.
-fn make_piece(alloc: Global, marked: &MarkedPlan<'_>, proc: Proc) -> Result<Found, AllocError>
-    ensures { IfOk result (IsPiece (plan_of marked.now) (IsKeyRaceOf (plan_of marked.now) proc.number)) }
+/// Adds the races of the gets of processes that stand side by side: from one to below the end.
+fn add_processes(
+    marked: &MarkedPlan<'_>,
+    found: &mut Found,
+    from: u32,
+    end: u32,
+) -> Result<(), AllocError>
+    requires order { from ≤ end }
+    requires found { AreFound (plan_of marked.now) found.old }
+    ensures { OnOk result (Adds (plan_of marked.now) found.old found.new (ToldBetween (IsKeyRaceBy (plan_of marked.now)) from end)) }
 {
-    let mut found = Found::new(alloc);
-    add_process(marked, &mut found, proc)?;
-    Ok(found)
+    for number in from..end {
+        add_process(marked, found, Proc { number })?;
+    }
+    Ok(())
 }
 
-/// The least number of processes for a thread: as many as have some 4,096 events on average. To start a
-/// thread takes as long as to look at several hundred gets.
+/// How many processes have some 4,096 events on average. A piece of the search isn't worth a thread with fewer: to start
+/// one takes as long as to look at several hundred gets.
 pub fn least_processes(plan: &Plan) -> usize
     ensures { result ≡ process_count (plan_of plan.now) * 4096 / max (event_total (plan_of plan.now)) 1 }
 {
     plan.process_count() as usize * 4096 / plan.event_total().max(1)
 }
 
-/// A piece for each process, in their order, made by several threads.
+/// How many processes, side by side, a piece of the search has.
+fn piece_size(plan: &Plan) -> u32
+    ensures { 0 < result }
+{
+    least_processes(plan).max(1).min(u32::MAX as usize) as u32
+}
+
+/// How many pieces of this size there are: one for each process at most.
+fn piece_count(plan: &Plan, size: u32) -> u32
+    requires { 0 < size }
+    ensures enough { HasPieces (plan_of plan.now) size result }
+    ensures most { result ≤ process_count (plan_of plan.now) }
+{
+    match plan.process_count().checked_sub(1) {
+        Some(last) => last / size + 1,
+        None => 0,
+    }
+}
+
+/// Of so many processes the first of a piece of this size, and the one behind its last; the last piece may have fewer.
+fn processes_of(piece: u32, size: u32, count: u32) -> (u32, u32)
+    requires { 0 < size }
+    ensures order { result.0 ≤ result.1 }
+    ensures within { result.1 ≤ count }
+    ensures these { (p : ℕ) → p < count → (((result.0 ≤ p) × (p < result.1)) ↔ (p / size ≡ piece)) }
+{
+    let from = (piece as u64 * size as u64).min(count as u64);
+    let end = (from + size as u64).min(count as u64);
+    (from as u32, end as u32)
+}
+
+/// The races of the gets of the processes of a piece of this size.
+fn make_piece(
+    alloc: Global,
+    marked: &MarkedPlan<'_>,
+    size: u32,
+    piece: u32,
+) -> Result<Found, AllocError>
+    requires { 0 < size }
+    ensures { IfOk result (IsPiece (plan_of marked.now) (IsKeyRaceIn (plan_of marked.now) size piece)) }
+{
+    let (from, end) = processes_of(piece, size, marked.plan().process_count());
+    let mut found = Found::new(alloc);
+    add_processes(marked, &mut found, from, end)?;
+    Ok(found)
+}
+
+/// The pieces of the search, in their order, made by several threads. Each has so many processes; the last may have
+/// fewer.
 fn make_pieces(
     rt: &(impl Threads + Sync),
     alloc: Global,
     marked: &MarkedPlan<'_>,
+    size: u32,
 ) -> Result<Vec<Found>, AllocError>
-    ensures { IfOk result (λ pieces. ArePieces (plan_of marked.now) (process_count (plan_of marked.now)) (IsKeyRaceOf (plan_of marked.now)) pieces.items) }
+    requires { 0 < size }
+    ensures { IfOk result (λ pieces. AreKeyPieces (plan_of marked.now) pieces.items) }
 {
-    let plan = marked.plan();
-    (0..plan.process_count())
+    (0..piece_count(marked.plan(), size))
         .into_par_iter()
-        .with_min_len(least_processes(plan))
+        .with_min_len(1)
         .map(
             |number: u32| -> Result<Found, AllocError>
-                ensures { IfOk result (IsPiece (plan_of marked.entry.now) (IsKeyRaceOf (plan_of marked.entry.now) number)) }
-            { make_piece(alloc, marked, Proc { number }) },
+                requires { 0 < size }
+                ensures { IfOk result (IsPiece (plan_of marked.entry.now) (IsKeyRaceIn (plan_of marked.entry.now) size number)) }
+            { make_piece(alloc, marked, size, number) },
         )
         .collect::<Result<Vec<_>, AllocError>>(rt, alloc)?
 }
@@ -279,6 +337,7 @@ pub(crate) fn add_key_races(
     ensures found { OnOk result (AreFound (plan_of marked.now) found.new) }
     ensures all { OnOk result (AllAdded (plan_of marked.now) IsOfKey found.old found.new) }
 {
-    let pieces = make_pieces(rt, alloc, marked)?;
+    let size = piece_size(marked.plan());
+    let pieces = make_pieces(rt, alloc, marked, size)?;
     add_pieces(found, pieces)
 }

@@ -80,8 +80,8 @@ fn stretch_length(calls: &[Event], proc: Proc) -> usize
     ensures within { result ≤ length calls.now }
     ensures stretch { (plan : runs.Plan) (name : ℕ) (x : Event) → AreCallsOn plan name (map event_of calls.now) → slice_get calls.now 0 ≡ Some x →
         x.proc ≡ proc → AreOf proc.number (map event_of (take result calls.now)) }
-    ensures more { (plan : runs.Plan) (name : ℕ) (x : Event) → AreCallsOn plan name (map event_of calls.now) → slice_get calls.now 0 ≡ Some x → x.proc ≡ proc →
-        0 < result }
+    ensures more { (plan : runs.Plan) (name : ℕ) (x : Event) → AreCallsOn plan name (map event_of calls.now) →
+        slice_get calls.now 0 ≡ Some x → x.proc ≡ proc → 0 < result }
 {
     count_upto(calls, proc)
 }

@@ -9,7 +9,7 @@ down-preserved c =
     let notes = c.args.notes.now in
     let note = c.in-Some.note in
     let process = c.args.process in
-    ap (max (clock_number rows notes c.args.levels (c.down.left - 1) note.before process)) c.raise_number-least.ensures
+    ap (max (clock_number rows notes c.args.levels (c.down.left - 1) note.below process)) c.raise_number-least.ensures
     ∙ went_down rows notes c.args.levels c.down.left c.down.at process c.down.least note (sym c.next_note.ensures ∙ c.in-Some.is) ∙ c.down.invariant
 
 pub returns : goal.returns

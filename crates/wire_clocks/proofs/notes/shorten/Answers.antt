@@ -1,15 +1,19 @@
 use Rattle.std.proofs.Common.{◌≡◌, ◌∙◌, ◌<◌, ◌^◌, ℕ, sym, ap, subst}
 use Rattle.std.specs.Prelude.{true}
+use Rattle.std.proofs.lemmas.Bool.{and_parts}
 use Rattle.std.proofs.lemmas.Result.{IfOk-weaker}
 use Rattle.wire_clocks.specs.Rows.{tree_says, IsTree}
-use Rattle.wire_clocks.specs.Notes.{clock_number, clock_stands, IsTopOf}
+use Rattle.wire_clocks.specs.Notes.{most_below, note_at, is_near, clock_number, clock_stands, IsTopOf}
 use Rattle.wire_clocks.proofs.Noting.{none_at, tree_stands, tree_number, tree_top, low_number}
 use Rattle.wire_clocks.proofs.notes.shorten.Goals as goal
 
 pub returns-then-takes_note-clause-says : goal.returns-then-takes_note-clause-says
 returns-then-takes_note-clause-says c = λ q low.
     let rows = c.args.rows.now.items in
-    sym (low_number rows c.args.notes.now c.args.levels q 15 c.args.root (c.takes_note.ensures c.if-takes_note.true rows c.args.levels c.requires.root))
+    let notes = c.args.notes.now in
+    let height = c.args.levels in
+    let takes = sym (c.takes_note.ensures rows height c.requires.root) ∙ c.if-takes_note.true in
+    sym (low_number rows notes height q most_below c.args.root (and_parts (is_near c.args.process (note_at notes c.args.root)) (clock_stands rows notes height most_below c.args.root) takes).1)
 
 pub returns-clause-stands : goal.returns-clause-stands
 returns-clause-stands c =

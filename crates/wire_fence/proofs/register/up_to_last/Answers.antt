@@ -1,12 +1,11 @@
 use Rattle.std.proofs.Common.{◌∙◌, ap, subst, map, get_or, None, arith}
-use Rattle.std.proofs.lemmas.Bool.{OnTrue_at}
 use Rattle.wire_fence.specs.Register.{EndsBare, number_kept}
 use Rattle.wire_fence.proofs.Kept.{bare_more, take_bare}
 use Rattle.wire_fence.proofs.register.up_to_last.Goals as goal
 
 pub back-preserved : goal.back-preserved
 back-preserved c =
-    let ends = subst (λ xs. EndsBare xs c.back.count) c.deref.ensures.value (OnTrue_at c.back-test.true c.ends_bare.ensures) in
+    let ends = subst (λ xs. EndsBare xs c.back.count) c.deref.ensures.value (c.ends_bare.ensures.0 c.back-test.true) in
     let some = ends.0 in
     let within = c.back.invariant.within in
     record {

@@ -15,14 +15,14 @@ shorten-requires-clause-root c =
     subst (λ notes. clock_stands c.self.inside.rows.items notes c.self.inside.levels 16 c.args.root ≡ true) (sym c.deref.ensures.value)
     (clock_given c.self.inside.rows.items c.self.inside.notes.items c.self.inside.levels c.args.root c.args.self.now c.self.view_is c.requires.root)
 
-pub returns-in_err-before-clause-keeps : goal.returns-in_err-before-clause-keeps
-returns-in_err-before-clause-keeps c =
-    given_stay c.self.inside.rows.items c.shorten.new.rows.items c.self.inside.notes.items c.self.inside.levels c.args.self.now c.self.invariant c.self.view_is c.in_err-before.ensures.keeps
+pub returns-in_err-below-clause-keeps : goal.returns-in_err-below-clause-keeps
+returns-in_err-below-clause-keeps c =
+    given_stay c.self.inside.rows.items c.shorten.new.rows.items c.self.inside.notes.items c.self.inside.levels c.args.self.now c.self.invariant c.self.view_is c.in_err-below.ensures.keeps
 
 pub returns-clause-keeps : goal.returns-clause-keeps
 returns-clause-keeps c =
     given_keep c.self.inside.rows.items c.shorten.new.rows.items c.self.inside.notes.items c.add_note.new.notes.items c.self.inside.levels c.args.self.now c.self.invariant c.self.view_is
-    c.in_ok-before.ensures.keeps c.add_note.ensures.keeps
+    c.in_ok-below.ensures.keeps c.add_note.ensures.keeps
 
 pub returns-clause-root : goal.returns-clause-root
 returns-clause-root c =
@@ -30,10 +30,10 @@ returns-clause-root c =
     let ns = c.self.inside.notes.items in
     let ns' = c.add_note.new.notes.items in
     let height = c.self.inside.levels in
-    let note : Note = record { before = c.in_ok-before.before; process = c.args.process; number = c.args.number } in
-    let are = trees_kept c.self.inside.rows.items new height c.self.invariant c.in_ok-before.ensures.keeps in
+    let note : Note = record { below = c.in_ok-below.below; process = c.args.process; number = c.args.number } in
+    let are = trees_kept c.self.inside.rows.items new height c.self.invariant c.in_ok-below.ensures.keeps in
     let low = subst (λ clocks. Holds clocks c.args.process) (sym c.self.view_is) c.requires.process in
-    let stands = subst (λ notes. clock_stands new notes height 15 c.in_ok-before.before ≡ true) c.deref.ensures.value c.in_ok-before.ensures.stands in
+    let stands = subst (λ notes. clock_stands new notes height 15 c.in_ok-below.below ≡ true) c.deref.ensures.value c.in_ok-below.ensures.stands in
     IfOk-weaker c.add_note.result (IsNoted ns ns' note) (λ r. IsRoot (clocks_of new ns' height) r)
     (λ r noted. root_of_clock new ns' height r are (noted_stands new ns ns' height r note are.zero c.add_note.ensures.keeps noted low stands)) c.add_note.ensures.noted
 
@@ -47,13 +47,13 @@ returns-clause-says c =
     let root = c.args.root in
     let process = c.args.process in
     let number = c.args.number in
-    let before = c.in_ok-before.before in
-    let note : Note = record { before = c.in_ok-before.before; process = c.args.process; number = c.args.number } in
-    let are = trees_kept c.self.inside.rows.items new height c.self.invariant c.in_ok-before.ensures.keeps in
+    let below = c.in_ok-below.below in
+    let note : Note = record { below = c.in_ok-below.below; process = c.args.process; number = c.args.number } in
+    let are = trees_kept c.self.inside.rows.items new height c.self.invariant c.in_ok-below.ensures.keeps in
     let low = subst (λ clocks. Holds clocks c.args.process) (sym c.self.view_is) c.requires.process in
-    let stands = subst (λ notes. clock_stands new notes height 15 c.in_ok-before.before ≡ true) c.deref.ensures.value c.in_ok-before.ensures.stands in
-    let each : (q : ℕ) → q < 16 ^ height → clock_number new ns height 15 before q ≡ clock_number old ns height 16 root q = λ q inside.
-    subst (λ notes. clock_number new notes height 15 before q ≡ clock_number old notes height 16 root q) c.deref.ensures.value (c.in_ok-before.ensures.says q inside) in
+    let stands = subst (λ notes. clock_stands new notes height 15 c.in_ok-below.below ≡ true) c.deref.ensures.value c.in_ok-below.ensures.stands in
+    let each : (q : ℕ) → q < 16 ^ height → clock_number new ns height 15 below q ≡ clock_number old ns height 16 root q = λ q inside.
+    subst (λ notes. clock_number new notes height 15 below q ≡ clock_number old notes height 16 root q) c.deref.ensures.value (c.in_ok-below.ensures.says q inside) in
     subst (λ clocks. IfOk c.add_note.result (λ r. (q : ℕ) → says (clocks_of new ns' height) r q ≡ (if q == process then max (says clocks root q) number else says clocks root q))) c.self.view_is
     (IfOk-weaker c.add_note.result (IsNoted ns ns' note) (λ r. (q : ℕ) → says (clocks_of new ns' height) r q
     ≡ (if q == process then max (says (clocks_of old ns height) root q) number else says (clocks_of old ns height) root q))

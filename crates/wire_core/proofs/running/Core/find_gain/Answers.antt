@@ -1,4 +1,3 @@
-use Rattle.wire_content.specs.Planned.{plan_of}
 use Rattle.wire_runs.proofs.Basics.{process_within}
 use Rattle.wire_core.specs.Course.{state_of, plan_in}
 use Rattle.wire_core.proofs.running.Core.find_gain.Goals as goal

@@ -45,12 +45,22 @@ returns-in-Some-last_between-clause-told c key =
     let w = c.args.self.now.history in
     let cut = (run plan w).done in
     let p = c.args.owner.number in
+    let done = c.requires in
+    let told = (c.in-Some-last_between.ensures.told key) in
+    (delivered_done plan cut p c.args.node key (event_count plan p) (done_within plan w p c.history.ensures.legal) ∙ ap (delivered plan cut p c.args.node key) (sym done) ∙ told)
+
+pub returns-in-Some-last_between-2-clause-told : goal.returns-in-Some-last_between-2-clause-told
+returns-in-Some-last_between-2-clause-told c key =
+    let plan = plan_in c.args.self.now in
+    let w = c.args.self.now.history in
+    let cut = (run plan w).done in
+    let p = c.args.owner.number in
     let look = c.look_to-look.result in
     let is = c.look_to-look.ensures.look in
     let idle = look_of plan look c.args.owner c.args.node is c.look_to-look.ensures.owner c.look_to-look.ensures.node in
     let done = c.requires in
-    let first = (c.in_default.ensures.told key) in
-    let second = (c.in-Some-last_between.ensures.told key) in
+    let first = (c.in_default-last_between.ensures.told key) in
+    let second = (c.in-Some-last_between-2.ensures.told key) in
     (delivered_done plan cut p c.args.node key (event_count plan p) (done_within plan w p c.history.ensures.legal) ∙ ap (delivered plan cut p c.args.node key) (sym done) ∙ first
     ∙ delivered_still plan cut p c.args.node key look.last look.seen idle.0 is.last_seen ∙ second)
 
@@ -64,8 +74,8 @@ returns-clause-told c key =
     let is = c.look_to-look.ensures.look in
     let idle = look_of plan look c.args.owner c.args.node is c.look_to-look.ensures.owner c.look_to-look.ensures.node in
     let done = c.requires in
-    let first = (c.in_default.ensures.told key) in
-    let second = (c.in_default-last_between.ensures.told key) in
+    let first = (c.in_default-last_between.ensures.told key) in
+    let second = (c.in_default-last_between-2.ensures.told key) in
     let third = (c.last_between-3.ensures.told key) in
     (delivered_done plan cut p c.args.node key (event_count plan p) (done_within plan w p c.history.ensures.legal) ∙ ap (delivered plan cut p c.args.node key) (sym done) ∙ first
     ∙ delivered_still plan cut p c.args.node key look.last look.seen idle.0 is.last_seen ∙ second

@@ -1,7 +1,5 @@
-use Rattle.std.proofs.Common.{◌≡◌, ◌∙◌, ap, sym, subst, length, Some, true, is_some}
+use Rattle.std.proofs.Common.{◌≡◌, ◌∙◌, ap, sym, subst, length, true, is_some}
 use Rattle.std.proofs.lemmas.Bool.{true≢false}
-use Rattle.wire_runs.specs.Plan.{admits}
-use Rattle.wire_runs.specs.Puts.{scope_of}
 use Rattle.wire_runs.specs.Sight.{held, for_others, greater, kept}
 use Rattle.wire_core.specs.Course.{plan_in, state_of}
 use Rattle.wire_core.specs.Seeing.{seen_as, is_something}

@@ -1,6 +1,5 @@
-use Rattle.std.proofs.Common.{◌≤◌, ◌∙◌, map, refl, sym, ap, arith, eq-eqb}
-use Rattle.std.proofs.lemmas.Bool.{true≢false}
-use Rattle.wire_runs.specs.Plan.{process_count, node_of}
+use Rattle.std.proofs.Common.{◌≤◌, map, sym, arith}
+use Rattle.wire_runs.specs.Plan.{process_count}
 use Rattle.wire_content.specs.Planned.{plan_of}
 use Rattle.wire_runs.specs.Step.{run}
 use Rattle.wire_core.specs.Keeping.{count_in}

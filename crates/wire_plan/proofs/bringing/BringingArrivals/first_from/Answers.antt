@@ -9,7 +9,7 @@ use Rattle.wire_types.specs.declared.Event.{Event as CodeEvent}
 use Rattle.wire_plan.specs.Index.{BringsData}
 use Rattle.wire_plan.specs.Meetings.{is_of_fence}
 use Rattle.wire_plan.proofs.Delivering.{reached_where}
-use Rattle.wire_plan.proofs.FirstBringing.{shown, to_node, none_at_first, none_in_front, first_found, none_of_process, none_left}
+use Rattle.wire_plan.proofs.FirstBringing.{shown, none_at_first, none_in_front, first_found, none_of_process, none_left}
 use Rattle.wire_plan.proofs.bringing.BringingArrivals.first_from.Goals as goal
 
 abbrev nothing : CodeEvent
@@ -59,7 +59,7 @@ returns-then-reaches-clause-first c =
     first_found plan c.args.from.proc.number c.args.node c.args.from.at (map event_of list) are c.count_lower-first.result (c.count_lower-first.ensures.exactly are.rising)
     c.loop-place.place e c.loop-place.invariant.above c.loop-place.invariant.none is
     (eqb-true e.proc.number c.args.from.proc.number (not-false _ (sym c.ne.ensures ∙ c.if-ne.false)))
-    (to_node plan c.args.node (event_of e) brings (sym reached ∙ sym c.reaches.ensures.told ∙ c.if-reaches.true))
+    (record { brings = brings; reaches = sym reached ∙ sym c.reaches.ensures.told ∙ c.if-reaches.true })
 
 pub loop-place-preserved : goal.loop-place-preserved
 loop-place-preserved c =
@@ -75,8 +75,8 @@ loop-place-preserved c =
       none = none_in_front plan c.args.from.proc.number c.args.node c.args.from.at (map event_of list) are c.count_lower-first.result (c.count_lower-first.ensures.exactly are.rising)
           c.loop-place.place (event_of e) is
           (λ b.
-          let reached = reached_where c.args.events.now c.args.fences.now c.requires.fences e.proc.number e.at c.fence_at.result.number c.args.node b.members b.arrival.collect b.arrival.is
-          c.fence_at.ensures b.members b.arrival.collect b.arrival.is in
+          let reached = reached_where c.args.events.now c.args.fences.now c.requires.fences e.proc.number e.at c.fence_at.result.number c.args.node b.brings.members b.brings.arrival.collect b.brings.arrival.is
+          c.fence_at.ensures b.brings.members b.brings.arrival.collect b.brings.arrival.is in
           true≢false (sym (c.reaches.ensures.told ∙ reached ∙ b.reaches) ∙ c.if-reaches.false))
           c.loop-place.invariant.none;
     }

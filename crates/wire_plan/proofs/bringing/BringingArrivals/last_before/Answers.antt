@@ -3,7 +3,7 @@ use Rattle.wire_runs.specs.Plan.{event_of}
 use Rattle.wire_runs.specs.EventLists.{AreAll}
 use Rattle.wire_plan.specs.Index.{BringsData}
 use Rattle.wire_plan.proofs.FirstBringing.{shown}
-use Rattle.wire_plan.proofs.LastBringing.{none_first, last_found, none_of_other}
+use Rattle.wire_plan.proofs.LastBringingArrival.{none_first, last_found, none_of_other}
 use Rattle.wire_plan.proofs.bringing.BringingArrivals.last_before.Goals as goal
 
 pub returns-then-lower-eq0 : goal.returns-then-lower-eq0

@@ -5,7 +5,7 @@ use Rattle.std.proofs.lemmas.Bool.{cases_eq, lt-ltb, ltb-true}
 use Rattle.std.proofs.lemmas.Option.{same_Some}
 use Rattle.wire_runs.specs.Plan.{Plan, Event}
 use Rattle.wire_runs.specs.EventLists.{IsLower, AreAll}
-use Rattle.wire_plan.specs.Index.{BringsData, BringsDataBefore, IsLastBringing}
+use Rattle.wire_plan.specs.Index.{BringsData, BringsDataBefore, IsLastBringingArrival}
 use Rattle.wire_plan.specs.Bringing.{is_below}
 use Rattle.wire_plan.proofs.FirstBringing.{below_lower, lower_below}
 
@@ -18,7 +18,7 @@ module _ (plan : Plan) (y : Event) (xs : List Event) (are : AreAll (BringsData p
       (found.0, ltb-true found.0 n (sym (exactly found.0 z found.1) ∙ lower_below z y (inr (b.same, b.earlier))), found.1)
 
   -- so there is none at the first place
-  pub none_first : n ≡ 0 → IsLastBringing plan y None
+  pub none_first : n ≡ 0 → IsLastBringingArrival plan y None
   none_first zero z b = let k = stands_below z b in let lt = k.1 in omega (arith, zero, lt)
 
   -- one that stands there is not above the one in front of the place
@@ -32,7 +32,7 @@ module _ (plan : Plan) (y : Event) (xs : List Event) (are : AreAll (BringsData p
       ]
 
   -- that one is the last, where it is of the process
-  pub last_found : (k : ℕ) (x : Event) → k + 1 ≡ n → slice_get xs k ≡ Some x → x.proc ≡ y.proc → IsLastBringing plan y (Some x)
+  pub last_found : (k : ℕ) (x : Event) → k + 1 ≡ n → slice_get xs k ≡ Some x → x.proc ≡ y.proc → IsLastBringingArrival plan y (Some x)
   last_found k x last is same = (
     record {
       brings = are.only k x is;
@@ -50,7 +50,7 @@ module _ (plan : Plan) (y : Event) (xs : List Event) (are : AreAll (BringsData p
   )
 
   -- and where it is of another process, there is none
-  pub none_of_other : (k : ℕ) (x : Event) → k + 1 ≡ n → slice_get xs k ≡ Some x → x.proc ≢ y.proc → IsLastBringing plan y None
+  pub none_of_other : (k : ℕ) (x : Event) → k + 1 ≡ n → slice_get xs k ≡ Some x → x.proc ≢ y.proc → IsLastBringingArrival plan y None
   none_of_other k x last is other z b =
       let below = below_lower x y (exactly k x is ∙ lt-ltb k n (omega (arith, last))) in
       elim (last_stands k x z last is b) [
