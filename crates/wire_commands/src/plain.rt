@@ -52,7 +52,8 @@ pub fn run_plainly<R: Source, W: Sink>(
     ensures refused { IfErr result (λ e. e ≢ Memory → e ≢ Read → ((n : ℕ) → e ≢ Write n) → Refuses Size.OfVersion (R.coming reader.old) e) }
     ensures read_failed { result ≡ Err Read → R.failures reader.new ≡ one_more (R.failures reader.old) }
     ensures unfailed { IfErr result (λ e. e ≢ Memory → e ≢ Read → R.failures reader.new ≡ R.failures reader.old) }
-    ensures front { (n : ℕ) → result ≡ Err (Write n) → BreaksOffReport Size.OfVersion (R.coming reader.old) (W.written writer.old) (W.written writer.new) n }
+    ensures front { (n : ℕ) → result ≡ Err (Write n) →
+        BreaksOffReport Size.OfVersion (R.coming reader.old) (W.written writer.old) (W.written writer.new) n }
     ensures write_failed { (n : ℕ) → result ≡ Err (Write n) → W.failures writer.new ≡ one_more (W.failures writer.old) }
     ensures untouched { OnErr result (((n : ℕ) → result ≢ Err (Write n)) → writer.new ≡ writer.old) }
 {

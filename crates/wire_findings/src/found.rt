@@ -202,7 +202,8 @@ impl Found {
     /// The findings of a plan with these names, each once, in their order. Where they were met so, nothing is
     /// moved.
     pub fn into_list(self, names: &Texts) -> FindingList
-        ensures those { (plan : runs.Plan) → AreNamesOf plan names.now → AreFound plan self → (f : told.Finding) → Tells plan result f ↔ Tells plan self f }
+        ensures those { (plan : runs.Plan) → AreNamesOf plan names.now → AreFound plan self → (f : told.Finding) →
+            Tells plan result f ↔ Tells plan self f }
         ensures sorted { (plan : runs.Plan) → AreNamesOf plan names.now → AreFound plan self → IsSorted (lower_name names.now) (all_shown plan result) }
     {
         let Found {

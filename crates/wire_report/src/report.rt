@@ -60,8 +60,8 @@ pub fn write_report<S: Sink>(
     ensures ok { OnOk result (Appends (S.written sink.old) (S.written sink.new) (report_form json scripts.now (ends_of outcome.now))) }
     ensures quiet { OnOk result (S.failures sink.new ≡ S.failures sink.old) }
     ensures memory { result ≡ Err Memory → sink.new ≡ sink.old }
-    ensures err { IfErr result (λ e. (e ≡ Memory) ⊎ WritesFront (S.written sink.old) (S.written sink.new) (report_form json scripts.now (ends_of outcome.now))
-        e) }
+    ensures err { IfErr result (λ e. (e ≡ Memory)
+        ⊎ WritesFront (S.written sink.old) (S.written sink.new) (report_form json scripts.now (ends_of outcome.now)) e) }
     ensures failed { IfErr result (λ e. e ≢ Memory → S.failures sink.new ≡ one_more (S.failures sink.old)) }
 {
     let text = report_text(alloc, scripts, outcome, json)?;

@@ -46,8 +46,8 @@ pub fn write_findings<S: Sink>(
     ensures ok { OnOk result (Appends (S.written sink.old) (S.written sink.new) (spec.findings_form json scripts.now findings.now)) }
     ensures quiet { OnOk result (S.failures sink.new ≡ S.failures sink.old) }
     ensures memory { result ≡ Err Memory → sink.new ≡ sink.old }
-    ensures err { IfErr result (λ e. (e ≡ Memory) ⊎ WritesFront (S.written sink.old) (S.written sink.new) (spec.findings_form json scripts.now findings.now)
-        e) }
+    ensures err { IfErr result (λ e. (e ≡ Memory)
+        ⊎ WritesFront (S.written sink.old) (S.written sink.new) (spec.findings_form json scripts.now findings.now) e) }
     ensures failed { IfErr result (λ e. e ≢ Memory → S.failures sink.new ≡ one_more (S.failures sink.old)) }
 {
     if json {
@@ -76,8 +76,8 @@ fn write_json<S: Sink>(
     ensures ok { OnOk result (Appends (S.written sink.old) (S.written sink.new) (spec.findings_form true scripts.now findings.now)) }
     ensures quiet { OnOk result (S.failures sink.new ≡ S.failures sink.old) }
     ensures memory { result ≡ Err Memory → sink.new ≡ sink.old }
-    ensures err { IfErr result (λ e. (e ≡ Memory) ⊎ WritesFront (S.written sink.old) (S.written sink.new) (spec.findings_form true scripts.now findings.now)
-        e) }
+    ensures err { IfErr result (λ e. (e ≡ Memory)
+        ⊎ WritesFront (S.written sink.old) (S.written sink.new) (spec.findings_form true scripts.now findings.now) e) }
     ensures failed { IfErr result (λ e. e ≢ Memory → S.failures sink.new ≡ one_more (S.failures sink.old)) }
 {
     let findings = findings.to_vec(alloc)?;

@@ -149,7 +149,8 @@ pub fn plain<R: Source, W: Sink>(alloc: Global, reader: &mut R, writer: &mut W) 
     ensures refused { IfErr result (λ e. e ≢ Memory → e ≢ Read → ((n : ℕ) → e ≢ Write n) → Refuses Size.OfVersion (R.coming reader.old) e) }
     ensures read_failed { result ≡ Err Read → R.failures reader.new ≡ one_more (R.failures reader.old) }
     ensures unfailed { IfErr result (λ e. e ≢ Memory → e ≢ Read → R.failures reader.new ≡ R.failures reader.old) }
-    ensures front { (n : ℕ) → result ≡ Err (Write n) → BreaksOffReport Size.OfVersion (R.coming reader.old) (W.written writer.old) (W.written writer.new) n }
+    ensures front { (n : ℕ) → result ≡ Err (Write n) →
+        BreaksOffReport Size.OfVersion (R.coming reader.old) (W.written writer.old) (W.written writer.new) n }
     ensures write_failed { (n : ℕ) → result ≡ Err (Write n) → W.failures writer.new ≡ one_more (W.failures writer.old) }
     ensures untouched { OnErr result (((n : ℕ) → result ≢ Err (Write n)) → writer.new ≡ writer.old) }
 {
@@ -175,7 +176,8 @@ pub fn follow<R: Source, O: Source, W: Sink>(
 
     // A failed read is answered only where a reader failed, that of the order only where the file reads.
     ensures read_failed { result ≡ Err Read → (R.failures reader.new ≡ one_more (R.failures reader.old))
-        ⊎ ((O.failures order_reader.new ≡ one_more (O.failures order_reader.old)) × (scripts : Scripts) × ReadAs Size.OfVersion (R.coming reader.old) scripts) }
+        ⊎ ((O.failures order_reader.new ≡ one_more (O.failures order_reader.old)) × (scripts : Scripts)
+        × ReadAs Size.OfVersion (R.coming reader.old) scripts) }
     ensures unfailed { IfErr result (λ e. e ≢ Memory → e ≢ Read → (R.failures reader.new ≡ R.failures reader.old)
         × (O.failures order_reader.new ≡ O.failures order_reader.old)) }
 {

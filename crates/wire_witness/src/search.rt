@@ -112,7 +112,8 @@ fn witness_of(
 ) -> Result<Witness, AllocError>
     ensures first { IfOk result (λ w. numbers_of w.first.items ≡ first.now.core.history) }
     ensures second { IfOk result (λ w. numbers_of w.second.items ≡ second.now.core.history) }
-    ensures apart { IfOk result (λ w. (w.call ≡ apart.call) × (w.other ≡ apart.other) × (w.first_end ≡ apart.first_end) × (w.second_end ≡ apart.second_end)) }
+    ensures apart { IfOk result (λ w. (w.call ≡ apart.call) × (w.other ≡ apart.other)
+        × (w.first_end ≡ apart.first_end) × (w.second_end ≡ apart.second_end)) }
 {
     let steps = first.core.history().to_vec(alloc)?;
     let others = second.core.history().to_vec(alloc)?;
