@@ -3,22 +3,25 @@
 Usage: python3 -m build.bench [PROGRAM] [--beside OTHER] [--only WORD] [--runs N] [--small]
 Prints tables: for each file its bytes, calls and findings; for each command the least time of N
 runs, with the start of the process in it and the output thrown away, how that grows from a quarter
-of the calls, and the greatest resident size. With OTHER, its time and size in the same runs, and
-the ratio. The last two tables have runs that judge no findings (of crates/one_function, which is
-built where it isn't there): the plain run by one thread, beside OTHER's `replay` where that has no
-workers and so is such a run; and the same with one worker over a core under a lock, and `replay` by
-1, 2 and 4 workers, beside it. --small takes files of a few calls, each once: it only shows that all
-of it still works.
+of the calls, and the greatest resident size. Beside it OTHER's time and size in the same runs, and
+the ratio; without OTHER those of the unproved program of build/plain, where rustc can build it. The
+last two tables have runs that judge no findings (of crates/one_function, which is built where it
+isn't there): the plain run by one thread, beside OTHER's `replay` where that has no workers and so
+is such a run; and the same with one worker over a core under a lock, and `replay` by 1, 2 and 4
+workers, beside it. --small takes files of a few calls, each once: it only shows that all of it
+still works.
 """
 import argparse
 import os
 import sys
 import tempfile
 from collections.abc import Callable, Sequence
+from typing import Optional
 
 from build.bench_plans import KINDS, Kind, calls_in
 from build.parts import build_parts
-from build.places import PARTS, WIRE_UP
+from build.places import PARTS, WIRE_UP, shown
+from build.plain_program import build_plain
 from build.timing import (
     Command,
     best_of,
@@ -144,7 +147,8 @@ class Bench:
         last = str(SMALL_RANKS - 1) if self.is_small else "255"
         question = [it.replace("255", last) for it in QUESTION]
         self.tell_command([it for it in kinds if it.name in WHY], question)
-        older = [it for it in self.programs[1:] if not has_options(it, ["replay", "--workers"])]
+        others = [it for it in self.programs[1:] if has_options(it, ["replay"])]
+        older = [it for it in others if not has_options(it, ["replay", "--workers"])]
         commands = [plain_run, *(command_of(it, ["replay"]) for it in older)]
         self.tell_table("A plain run, which an earlier program has as `replay`", kinds, commands)
         print(
@@ -174,8 +178,17 @@ def arguments() -> argparse.Namespace:
     return args
 
 
+def other_program() -> Optional[str]:
+    """The unproved program, where it can be built. Says that it is taken, or why it isn't."""
+    path, why = build_plain()
+    left_out = f"the unproved program is left out: {why}"
+    print(f"beside {shown(path)}, the unproved program\n" if path else f"{left_out}\n", flush=True)
+    return path
+
+
 def main() -> int:
     args = arguments()
+    args.beside = args.beside or other_program()
     if not build_parts():
         sys.exit("crates/one_function can't be built: out/parts.log says why")
     with tempfile.TemporaryDirectory(prefix="wire-up-") as room:

@@ -2,8 +2,9 @@
 the date.
 
 Usage: python3 -m build.figures [PROGRAM] [--output FILE] [--small]
-It takes some five minutes, in which nothing else should be at work. Without PROGRAM it takes
-./wire_up. --small takes files of a few calls, each once: it only shows that all of it still works.
+It takes some ten minutes, in which nothing else should be at work. Without PROGRAM it takes
+./wire_up. Beside `check` it measures the unproved program of build/plain, where rustc can build it.
+--small takes files of a few calls, each once: it only shows that all of it still works.
 """
 import argparse
 import datetime
@@ -16,12 +17,14 @@ import tempfile
 import textwrap
 from collections.abc import Iterable, Iterator, Sequence
 from dataclasses import dataclass, replace
+from typing import Optional
 
 from build import costs, crate_list
 from build.bench_plans import KINDS, NO_CALLS
 from build.large_plans import LARGE_PLANS
 from build.minutes import minutes_of
 from build.places import LOGS, TOP, WIRE_UP, shown
+from build.plain_program import build_plain
 from build.timing import Command, Taken, best_of, findings_in, floor, mebibytes
 
 PAGE = os.path.join(TOP, "docs", "figures.md")
@@ -32,6 +35,8 @@ CARDS = 2_000
 # What is measured of each plan.
 COMMANDS = (("check",), ("check", "--anywhere"), ("check", "--anywhere", "--same"), ("replay",))
 PLACEMENTS = "`--anywhere`, s", "and `--same`, s"
+UNPROVED = "unproved, s", "MiB"
+OF_UNPROVED = " *Unproved* is the `check` of `build/plain`, an unproved program of one thread."
 # How many of the crates are told whose proofs take longest.
 DEAREST = 5
 MODEL = re.compile(r"^model name\s*: (.*)$", re.M)
@@ -52,6 +57,8 @@ class Measured:
     anywhere: Taken
     same: Taken
     replay: Taken
+    # `check` of the unproved program, where there is one.
+    unproved: Optional[Taken] = None
 
 
 class Figures:
@@ -59,6 +66,9 @@ class Figures:
 
     def __init__(self, program: str, room: str, is_small: bool) -> None:
         self.program, self.room, self.is_small = program, room, is_small
+        self.unproved, why = build_plain()
+        if why:
+            print(f"the unproved program is left out: {why}", file=sys.stderr, flush=True)
 
     def measure(self, name: str, pieces: Iterable[str], runs: int) -> Measured:
         """Measures `check` in its forms, and `replay`, of a plan of this text."""
@@ -68,6 +78,7 @@ class Figures:
                 it.write(piece)
                 calls += sum(not line.startswith(NO_CALLS) for line in piece.splitlines())
         words = [[self.program, *command, "--large", path] for command in COMMANDS]
+        words += [[it, "check", "--large", path] for it in [self.unproved] if it]
         taken = best_of(1 if self.is_small else runs, [Command(it) for it in words])
         findings = findings_in([self.program, "check", "--large", path])
         return Measured(name, calls, findings, *taken)
@@ -117,6 +128,7 @@ def rows_of(measured: Iterable[Measured], least: int) -> Iterator[list[str]]:
             f"{it.findings:,}",
             seconds(it.check),
             mebibytes(it.check, least),
+            *([seconds(it.unproved), mebibytes(it.unproved, least)] if it.unproved else []),
             seconds(it.anywhere),
             seconds(it.same),
             seconds(it.replay),
@@ -184,17 +196,19 @@ def last_gate() -> str:
 
 def page(figures: Figures) -> str:
     """The whole page."""
-    heads = "plan", "calls", "findings", "check, s", "MiB", *PLACEMENTS, "replay, s", "MiB"
+    beside = UNPROVED if figures.unproved else ()
+    heads = "plan", "calls", "findings", "check, s", "MiB", *beside, *PLACEMENTS, "replay, s", "MiB"
     least, today = floor(), datetime.date.today().isoformat()
     near = table(heads, rows_of(figures.near_the_limits(), least))
     large = table(heads, rows_of(figures.of_machines(), least))
     reported = report_rows(*figures.of_a_report(), least)
     report = table(("command", "s", "processor time, s", "times that of `check`", "MiB"), reported)
+    other = OF_UNPROVED if figures.unproved else ""
     how = f"""\
 `make figures` made this page on {today}{commit()}, on {machine()}. Each time is the least of
 {RUNS} runs ({LARGE_RUNS} for whole machines), with the start of the process in it and the output
 thrown away. MiB is the greatest resident size. With findings `replay` writes these, and runs
-nothing, and `check --anywhere --same` the findings alone. What the plans are stands in
+nothing, and `check --anywhere --same` the findings alone.{other} What the plans are stands in
 `build/bench_plans.py` and `build/large_plans.py`.
 """.replace("\n", " ")
     return f"""\

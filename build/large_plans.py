@@ -68,10 +68,13 @@ def chain(rank: int, ranks: int) -> str:
 
 LARGE_PLANS = (
     LargePlan("cards", "meets all others and asks each of them", 1024, 1, cards),
+    LargePlan("cards", "does the same", 2048, 1, cards),
     LargePlan("waits", "waits for the card of each other one", 1024, 1, waits),
+    LargePlan("waits", "does the same", 2048, 1, waits),
     LargePlan("ring", "meets all, asks six neighbours and meets all again", 16_384, OF_NODE, ring),
     LargePlan("large ring", "does the same", 1_048_576, OF_NODE, ring),
     LargePlan("early", "does it without meeting first, so gets race", 16_384, OF_NODE, early),
+    LargePlan("large early", "does the same", 1_048_576, OF_NODE, early),
     LargePlan("tree", "waits for its parent in a binomial tree", 16_384, 1, tree),
     LargePlan("chain", "waits for the next rank", 16_384, 1, chain),
 )

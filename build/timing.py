@@ -88,13 +88,13 @@ def findings_in(words: Sequence[str]) -> int:
 
 
 def has_options(program: str, words: Sequence[str]) -> bool:
-    """Whether a program has the options among these words of a command. (An earlier one has no
-    `--workers`.)"""
-    told = subprocess.run(
+    """Whether a program has a command with the options among these words. (An earlier one has no
+    `--workers`, and the unproved one only `check`.)"""
+    ran = subprocess.run(
         [program, words[0], "--help"],
         stdin=subprocess.DEVNULL,
         capture_output=True,
         text=True,
         check=False,
-    ).stdout
-    return all(it in told for it in words if it.startswith("--"))
+    )
+    return not ran.returncode and all(it in ran.stdout for it in words if it.startswith("--"))
