@@ -31,6 +31,7 @@ import soaking
 from soak_runner import Difference, Runner
 
 from build.places import LOGS, WIRE_UP
+from build.plain_program import build_plain
 
 MOST_DIFFERENCES = 20
 # How long a file that shows a difference is made smaller, in seconds, and how often each part of it
@@ -102,7 +103,7 @@ class Soak:
     def __init__(self, args: argparse.Namespace, room: str) -> None:
         self.seed: int = args.seed
         self.keep_in: str = args.keep
-        self.runner = Runner(os.path.abspath(args.program), room)
+        self.runner = runner_of(args, room)
         takes_patterns = pattern_soaking.has_patterns(self.runner.program)
         self.one_in = 1 if args.patterns else PATTERNS_ONE_IN if takes_patterns else 0
         self.kinds: Counter[str] = Counter()
@@ -161,6 +162,7 @@ class Soak:
         print(f"{self.damaged:,} of the files were damaged; {self.bytes:,} bytes in all")
         print(f"runs: {listed(self.runner.runs)}")
         print(f"held to the model: {listed(self.runner.held)}")
+        print(f"held to the unproved program: {self.runner.held_to_unproved:,} check")
         print(f"faults: {listed(self.runner.faults)}")
         print(f"slowest run: {slowest.seconds:.2f} s, {slowest.words}")
         print(f"{self.kinds['different']:,} differences", flush=True)
@@ -171,13 +173,22 @@ def listed(counts: Counter[str]) -> str:
     return ", ".join(f"{count:,} {name}" for name, count in sorted(counts.items()))
 
 
+def runner_of(args: argparse.Namespace, room: str) -> Runner:
+    """What runs the program, with the unproved one beside it. Where that can't be built, a line
+    says why."""
+    unproved, why = build_plain()
+    if not unproved:
+        print(f"the unproved program is left out: {why}", flush=True)
+    return Runner(os.path.abspath(args.program), room, unproved)
+
+
 def look_again(args: argparse.Namespace, room: str) -> int:
     """Looks at one file, ten times with other questions. Answers whether the last one shows a
     difference."""
     with open(args.again, "rb") as it:
         text = it.read()
     files = PATTERNS if args.again.endswith(PATTERNS.ending) else PLANS
-    runner, found = Runner(os.path.abspath(args.program), room), None
+    runner, found = runner_of(args, room), None
     for n in range(10):
         found, kind = files.difference_of(runner, text, args.seed + n)
         print(f"{found.name}: {found.detail}" if found else f"{kind}, no difference")

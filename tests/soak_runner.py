@@ -41,10 +41,13 @@ class Slowest:
 
 
 class Runner:
-    """Runs the program in a folder, and counts what it did."""
+    """Runs the program in a folder, and counts what it did. Beside it may be the unproved program
+    of build/plain."""
 
-    def __init__(self, program: str, room: str) -> None:
-        self.program, self.room = program, room
+    def __init__(self, program: str, room: str, unproved: Optional[str] = None) -> None:
+        self.program, self.room, self.unproved = program, room, unproved
+        # How many answers of `check` were held to those of the unproved program.
+        self.held_to_unproved = 0
         self.runs: Counter[str] = Counter()
         self.faults: Counter[str] = Counter()
         # How many answers of each command were held to the model.
@@ -75,6 +78,13 @@ class Runner:
             self.slowest = Slowest(took, named)
         self.judge(command, named, ran, "--complete" in words)
         return ran
+
+    def hold_to_unproved(self, ran: Ran, *words: str) -> None:
+        """Holds how a `check` ended to how it ends by the unproved program."""
+        if self.unproved:
+            other = run_whole([self.unproved, *words], None)
+            same("another answer of check than the unproved program's", other, ran, words)
+            self.held_to_unproved += 1
 
     def judge(self, command: str, named: str, ran: Ran, is_complete: bool) -> None:
         """Raises a difference where a run ended as none may."""

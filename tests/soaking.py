@@ -11,6 +11,7 @@ plans (model.py, model_runs.py).
 - `migrate` writes the canonical text under version 2 that the second reader has, and `check` and
   `replay`, with 1 and 7 workers, write the same about it. `--large` changes no byte of what `check`
   writes.
+- Where rustc can build it, the unproved program of build/plain answers `check` in the same way.
 - `place` writes the canonical text that the second reader has, with some ranks on one node and all
   others on another.
 - Of a plan of at most 5 ranks, `check --anywhere --same` writes what `check` and `replay` of all
@@ -72,6 +73,8 @@ class Look:
         self.at_anywhere()
         large = self.runner.run("check", "--large", self.path)
         same("another answer with large limits", checked, large)
+        self.runner.hold_to_unproved(checked, "check", self.path)
+        self.runner.hold_to_unproved(large, "check", "--large", self.path)
         self.at_questions()
         self.at_odd_question()
         self.at_order(b"", "an empty order")
@@ -353,6 +356,7 @@ def at_refusal(runner: Runner, text: bytes, said: bytes) -> None:
     for words in commands:
         same(f"a refusal by {words[0]}", refused, run(*words, path), two)
     same("a refusal of standard input", refused, run("check", given=text))
+    runner.hold_to_unproved(refused, "check", path)
     if len(text) <= MOST_BYTES:
         by_byte = run("check", given=text, by_byte=True)
         same("a refusal by the byte", refused, by_byte)

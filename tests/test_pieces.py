@@ -9,8 +9,9 @@ from dataclasses import dataclass
 from random_plans import damaged
 from running import NOTHING, ProgramCase, Run, start, written
 
-# A file of fewer bytes is read by one thread; of others, a piece has so many bytes.
-SHARED_BYTES, PIECE_BYTES = 1 << 20, 1 << 18
+# A file of fewer bytes is read by one thread; of others, a piece has so many bytes, and so many
+# pieces are read at once.
+SHARED_BYTES, PIECE_BYTES, AT_ONCE = 1 << 20, 1 << 18, 8
 HEAD = b"rehearsal 1\nnode n0\njob app\nrank n0\n"
 RANK = b"put global k v\ncommit\n"
 FILLS = {
@@ -21,6 +22,7 @@ FILLS = {
     "lines longer than pieces": b"#" * (PIECE_BYTES + 7) + b"\n",
 }
 SEED, DAMAGED = 20261129, 40
+NEWLINE = b"\n"
 
 
 @dataclass(frozen=True)
@@ -49,7 +51,7 @@ class Long:
 def places() -> Iterator[int]:
     """Places in a file: around the borders of pieces, and at its ends."""
     yield from (0, SHARED_BYTES // 3, SHARED_BYTES + 5 * PIECE_BYTES)
-    for piece in (1, 2, 4):
+    for piece in (1, 2, 4, AT_ONCE):
         yield from (piece * PIECE_BYTES + it for it in (-70, -1, 0, 1, 70))
 
 
@@ -68,6 +70,19 @@ class Pieces(ProgramCase):
                         said = f"wire_up: fault {fault} {plan.line()}\n".encode()
                         with self.subTest(fill=name, place=place, fault=fault):
                             self.hold(Run("", ["check", path], status=2, said=said))
+
+    def test_the_first_fault_is_told(self) -> None:
+        """Faults in the first and in the third of the groups of pieces that are read at once."""
+        group = AT_ONCE * PIECE_BYTES
+        fill = FILLS["comments"]
+        front = Long.of(fill, PIECE_BYTES, PIECE_BYTES)
+        behind = fill * (2 * group // len(fill)) + b"getaway y\n" + fill
+        for last, line in ((b"getaway x\n", front.line()), (b"", 0)):
+            text = front.text(last) + behind
+            said = f"wire_up: fault 4 BadLine {line or text[:-len(fill)].count(NEWLINE)}\n".encode()
+            with self.subTest(last=last), tempfile.TemporaryDirectory() as room:
+                path = written(room, "long.plan", text)
+                self.hold(Run("", ["check", "--large", path], status=2, said=said))
 
     def test_the_last_line_may_have_no_feed(self) -> None:
         """A file that ends within a line."""

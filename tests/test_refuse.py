@@ -62,8 +62,9 @@ ONE_NODE = b"rehearsal 1\nnode n0\njob app\n"
 PUBLISHES = b"".join(b"publish x%d 1\n" % it for it in range(32))
 NAMES = ONE_NODE + (b"rank n0\n" + PUBLISHES) * 2
 ASKS = (b"rank n0\n" + b"get-now app:0 k\n" * 4_100) * 2
-# A plan that is long enough for its lines to be read by several threads.
-LONG = ONE_NODE + b"# a comment\n" * 100_000 + b"rank n0\nput global k v\ncommit\n"
+# A plan that is long enough for its lines to be read by several threads, the last of them while
+# those above are judged.
+LONG = ONE_NODE + b"# a comment\n" * 200_000 + b"rank n0\nput global k v\ncommit\n"
 GETS = ONE_NODE + b"rank n0\nput global k v\ncommit\n" + ASKS
 # The clock of each event of the cards: how many events of each rank are it or before it.
 CLOCKS = "100 200 300 400 531 631 310 320 330 441 001 432 433 634"
