@@ -57,8 +57,8 @@ edits:
 soak:
 	@PYTHONPATH=tests python3 -m build.soak --minutes $(or $(MINUTES),1) $(if $(SEED),--seed $(SEED))
 
-# Times ./wire_up on files near the limits. `make bench BESIDE=program` times another program beside
-# it.
+# Times ./wire_up on files near the limits, beside the unproved program of build/plain, where there is
+# a rustc. `make bench BESIDE=program` times another program beside it.
 bench:
 	@python3 -m build.bench $(if $(BESIDE),--beside "$(BESIDE)")
 

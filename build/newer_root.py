@@ -2,14 +2,23 @@
 
 Usage: make newer-root [ROOT=FOLDER]
        python3 -m build.newer_root [FOLDER]
-It takes debootstrap, root and some minutes. FOLDER is /var/tmp/wire-up-trixie, unless it is told or
-WIRE_UP_NEWER_ROOT names another. Where the folder is, the gate runs live tests in it too, by
-tests/test_recording_newer.py and tests/test_run_newer.py.
+It takes debootstrap, root, 4 GB of disk, of which it keeps 1, and some minutes. FOLDER is
+/var/tmp/wire-up-trixie, unless it is told or WIRE_UP_NEWER_ROOT names another. It has that name
+only once it is whole; what is made of one that fails or is stopped goes. Where the folder is, the
+gate runs live tests in it too, by tests/test_recording_newer.py and tests/test_run_newer.py.
+
+`.ci/run` runs this beside the proofs, and writes what it says to out/newer-root.log.
 """
 import os
+import shutil
+import signal
 import subprocess
 import sys
+import tempfile
 from collections.abc import Sequence
+from typing import NoReturn
+
+from build.places import LOGS
 
 RELEASE = "trixie"
 MIRROR = os.environ.get("DEBIAN_MIRROR", "http://deb.debian.org/debian")
@@ -17,6 +26,12 @@ PACKAGES = (
     "openmpi-bin libopenmpi-dev libpmix-dev pkg-config gcc gfortran libc6-dev make python3"
     " python3-mpi4py binutils procps hostname iproute2 slurm-wlm"
 ).split()
+# How many bytes must be free where it is made.
+ROOM = 4 << 30
+# What the gate wrote while it made the folder.
+LOG = os.path.join(LOGS, "newer-root.log")
+# Mounts of the command, and what it leaves behind, end with it.
+ALONE = ("unshare", "--mount", "--pid", "--fork", "--kill-child")
 # What a command in the folder has in its environment. Open MPI as root must be told that this is
 # meant, and finds no way from this machine to itself by TCP where there is one address alone.
 SETTINGS = (
@@ -46,20 +61,45 @@ def find_root() -> str:
 
 def enter(root: str, words: Sequence[str]) -> list[str]:
     """The words that run a command in such a folder."""
-    alone = ("unshare", "--mount", "--pid", "--fork", "--kill-child")
-    return [*alone, "sh", "-c", ENTER, root, *SETTINGS, *words]
+    return [*ALONE, "sh", "-c", ENTER, root, *SETTINGS, *words]
+
+
+def run(what: str, words: Sequence[str]) -> None:
+    """Runs a command. Raises OSError where it fails."""
+    status = subprocess.run(words, check=False).returncode
+    if status:
+        raise OSError(f"{what} ended with {status}")
+
+
+def fill_root(made: str) -> None:
+    """Puts Debian into an empty folder. Raises OSError."""
+    words = ["debootstrap", "--variant=minbase", "--include=ca-certificates", RELEASE, made, MIRROR]
+    run("debootstrap", [*ALONE, *words])
+    with open("/etc/resolv.conf", "rb") as it, open(f"{made}/etc/resolv.conf", "wb") as to:
+        to.write(it.read())
+    install = ["install", "-y", "--no-install-recommends", *PACKAGES]
+    for words in (["update"], install, ["clean"]):
+        run(f"apt-get {words[0]}", enter(made, ["apt-get", "-q", *words]))
 
 
 def make_root(root: str) -> None:
-    """Makes the folder. Raises subprocess.CalledProcessError, OSError."""
-    made = f"{root}.new"
-    words = ["debootstrap", "--variant=minbase", "--include=ca-certificates", RELEASE, made, MIRROR]
-    subprocess.run(words, check=True)
-    with open("/etc/resolv.conf", "rb") as it, open(f"{made}/etc/resolv.conf", "wb") as to:
-        to.write(it.read())
-    for words in (["update"], ["install", "-y", "--no-install-recommends", *PACKAGES]):
-        subprocess.run(enter(made, ["apt-get", "-q", *words]), check=True)
-    os.rename(made, root)
+    """Makes the folder, beside its place first. Raises OSError."""
+    above, name = os.path.split(os.path.abspath(root))
+    free = shutil.disk_usage(above).free
+    if free < ROOM:
+        raise OSError(f"{above} has {free >> 20:,} MB free, and it takes {ROOM >> 20:,}")
+    made = tempfile.mkdtemp(prefix=f"{name}.", dir=above)
+    try:
+        os.chmod(made, 0o755)
+        fill_root(made)
+        os.rename(made, root)
+    finally:
+        shutil.rmtree(made, ignore_errors=True)
+
+
+def stop(_signal: int, _frame: object) -> NoReturn:
+    """Ends the program, so that what is half made goes."""
+    raise OSError("it was stopped")
 
 
 def main(words: Sequence[str]) -> int:
@@ -68,11 +108,13 @@ def main(words: Sequence[str]) -> int:
     if os.path.isdir(root):
         print(f"{root} is there")
         return 0
+    signal.signal(signal.SIGTERM, stop)
     try:
         make_root(root)
-    except (OSError, subprocess.CalledProcessError) as why:
+    except OSError as why:
         print(f"{root}: isn't made: {why}", file=sys.stderr)
         return 1
+    print(f"{root} is made")
     return 0
 
 

@@ -27,7 +27,7 @@ from build.test_files import test_files
 # the time.
 TRIED = ("fences witnesses", "names forms")
 # Tests that ask the prover, and those that start MPI programs.
-LONG = re.compile(r"test_(edits_proved|recording_live|recording_newer|run_live|run_newer)\.py$")
+LONG = re.compile(r"test_(edits_proved|recording_(live|locks|newer)|run_(live|newer))\.py$")
 # What takes longest, so that it begins first.
 TABLES = "tests/test_tables_tried.py"
 

@@ -8,21 +8,35 @@ import unittest
 from collections.abc import Sequence
 
 import support
-from build.newer_root import enter, find_root
+from build.newer_root import LOG, enter, find_root
 
 # What of the repository the tests need.
 FOLDERS = ("build", "packaging", "python", "record", "run", "tests", "examples")
 FILES = ("Makefile", "wire_up-record", "wire_up-run")
 BUILT = shutil.ignore_patterns("*.so", "out", "__pycache__", "wire_up-rank")
+# How much is told of a line.
+WIDTH = 160
 # How long a command there may take, in seconds.
 PATIENCE = 5400
 Ran = subprocess.CompletedProcess[str]
 
 
+def tell_gate() -> str:
+    """What the gate said last where it makes the folder beside the proofs; empty where it
+    doesn't."""
+    try:
+        with open(LOG, encoding="utf-8", errors="replace") as it:
+            lines = it.read().split("\n")
+    except FileNotFoundError:
+        return ""
+    last = next(filter(None, reversed(lines)), "nothing yet")
+    return f" (its last line in the gate: {last[:WIDTH]})"
+
+
 def what_lacks(root: str, program: str) -> str:
     """Why a program can't be run in the folder; empty where it can."""
     if not os.path.isdir(root):
-        return f"there is no {root}, which `make newer-root` makes"
+        return f"there is no {root}, which `make newer-root` makes{tell_gate()}"
     if os.geteuid() != 0:
         return f"only root can enter {root}"
     look = enter(root, ["sh", "-c", 'command -v "$0"', program])

@@ -5,7 +5,7 @@ import unittest
 
 from newer import NewerCase
 
-TESTS = ["python3", "-m", "unittest", "tests.test_recording_live"]
+TESTS = ["python3", "-m", "unittest", "-v", "tests.test_recording_live"]
 
 
 class NewerTest(NewerCase):
@@ -15,7 +15,7 @@ class NewerTest(NewerCase):
         """All of them succeed; what they leave out is said."""
         ran = self.run_inside("mpirun", TESTS)
         self.assertEqual(ran.returncode, 0, ran.stderr[-3000:])
-        print(*re.findall(r"skipped '.*'|^OK.*$", ran.stderr, re.M), sep="\n")
+        print(*re.findall(r"skipped ['\"].*|^OK.*$", ran.stderr, re.M), sep="\n")
 
 
 if __name__ == "__main__":

@@ -5,7 +5,7 @@ import unittest
 
 from newer import NewerCase
 
-LIVE = ["tests.test_run_live", "tests.test_run_failures"]
+LIVE = ["tests.test_run_live", "tests.test_run_failures", "tests.test_run_ending"]
 HOLD = ["python3", "-m", "tests.hold_library"]
 SLURM_NODES = ["python3", "-m", "tests.slurm_nodes"]
 # Some random plans, the same in each gate.
@@ -19,7 +19,7 @@ class NewerTest(NewerCase):
         """Fails where a command in the folder does; the end of what it wrote is said."""
         ran = self.run_inside(launcher, words)
         self.assertEqual(ran.returncode, 0, ran.stdout[-3000:] + ran.stderr[-3000:])
-        said = re.findall(r"skipped '.*'|^OK.*$", ran.stderr, re.M) or [ran.stdout.strip()]
+        said = re.findall(r"skipped ['\"].*|^OK.*$", ran.stderr, re.M) or [ran.stdout.strip()]
         print(*said, sep="\n")
 
     def hold_library(self, launcher: str, before: list[str], name: str) -> None:
