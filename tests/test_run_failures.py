@@ -42,10 +42,9 @@ mkdir "$0.ran" && exec mpirun "$@"
 class Killed(LiveRuns):
     """What is killed while ranks wait."""
 
-    def start(self, text: bytes, *words: str) -> "subprocess.Popen[str]":
-        """Starts a run of a plan, and waits until each of its ranks is in its call."""
-        count = len(self.find_processes(RANK)) + text.count(b"\nrank ")
-        process = subprocess.Popen(
+    def begin(self, text: bytes, *words: str) -> "subprocess.Popen[str]":
+        """Begins a run of a plan."""
+        return subprocess.Popen(
             self.words("--quiet", "100", *words, self.write("it.plan", text)),
             stdin=subprocess.DEVNULL,
             stdout=subprocess.PIPE,
@@ -53,6 +52,11 @@ class Killed(LiveRuns):
             text=True,
             env=self.environment(),
         )
+
+    def start(self, text: bytes, *words: str) -> "subprocess.Popen[str]":
+        """Begins a run of a plan, and waits until each of its ranks is in its call."""
+        count = len(self.find_processes(RANK)) + text.count(b"\nrank ")
+        process = self.begin(text, *words)
         self.wait_for(lambda: len(self.find_processes(RANK)) >= count)
         time.sleep(1)
         return process
@@ -102,6 +106,15 @@ class Killed(LiveRuns):
         """The first of the processes that run among fake nodes."""
         self.hold_refused(self.kill(OF_TWO_NODES, "unshare"), "mpirun ended by signal 9")
 
+    def test_the_first_of_the_nodes(self) -> None:
+        """The process that `unshare` started: all others end with it."""
+        process = self.start(OF_TWO_NODES)
+        unshare = self.find_victim("unshare")
+        with open(f"/proc/{unshare}/task/{unshare}/children", encoding="ascii") as it:
+            os.kill(int(it.read()), signal.SIGKILL)
+        self.hold_refused(self.end(process), "mpirun ended ")
+        self.hold_nothing_left()
+
     def test_the_launcher_of_a_host(self) -> None:
         hosts = self.write("hosts", os.uname().nodename.encode())
         process = self.start(WAITS, "--hosts", hosts)
@@ -119,13 +132,36 @@ class Killed(LiveRuns):
         for it in glob.glob(os.path.join(self.room, "wire_up-run-*")):
             shutil.rmtree(it)
 
+    def interrupt(self, process: "subprocess.Popen[str]", number: int) -> None:
+        """Lets a signal end a run. Nothing is said, and nothing stays."""
+        process.send_signal(number)
+        ran = self.end(process)
+        self.assertEqual((128 + number, "", ""), (ran.returncode, ran.stdout, ran.stderr))
+        self.hold_nothing_left()
+
     def test_an_interrupt(self) -> None:
         """SIGTERM ends all."""
-        process = self.start(OF_TWO_NODES)
-        process.terminate()
-        ran = self.end(process)
-        self.assertEqual((128 + signal.SIGTERM, "", ""), (ran.returncode, ran.stdout, ran.stderr))
-        self.hold_nothing_left()
+        self.interrupt(self.start(OF_TWO_NODES), signal.SIGTERM)
+
+    def test_an_interrupt_while_the_ranks_start(self) -> None:
+        """However far they are."""
+        for seconds in (0, 0.05, 0.2, 0.5):
+            process = self.begin(OF_TWO_NODES)
+            self.wait_for(lambda: bool(glob.glob(os.path.join(self.room, "wire_up-run-*"))))
+            time.sleep(seconds)
+            self.interrupt(process, signal.SIGTERM)
+
+    def test_an_interrupt_after_another_failure(self) -> None:
+        """Just after it, and while what is left of the nodes is ended."""
+        for seconds in (0, 0.06):
+            process = self.start(OF_TWO_NODES)
+            os.kill(self.find_victim("unshare"), signal.SIGKILL)
+            time.sleep(seconds)
+            process.send_signal(signal.SIGTERM)
+            ran = self.end(process)
+            self.assertIn(ran.returncode, (125, 128 + signal.SIGTERM), ran.stderr)
+            self.assertLessEqual(len(ran.stderr.splitlines()), 1, ran.stderr)
+            self.hold_nothing_left()
 
 
 class NotStarted(LiveRuns):

@@ -2,17 +2,16 @@
 import argparse
 import math
 import re
-import signal
 import sys
 from collections.abc import Sequence
-from types import FrameType
 from typing import Optional
 
 from wire_up_tools.failures import Refused, Unusable, explain
 from wire_up_tools.options import Option, Parser, describe
+from wire_up_tools.run.interrupts import Interrupted, catch_signals, ignore_signals
 from wire_up_tools.run.libraries.traits import LIBRARIES
+from wire_up_tools.run.saying import NAME, say
 from wire_up_tools.run.tasks import (
-    NAME,
     Choices,
     PlanRequest,
     PredictRequest,
@@ -21,11 +20,9 @@ from wire_up_tools.run.tasks import (
     SuiteRequest,
     WitnessRequest,
     do,
-    say,
 )
 
 FAILED, BY_SIGNAL = 125, 128
-CAUGHT = (signal.SIGINT, signal.SIGTERM, signal.SIGHUP, signal.SIGQUIT)
 QUIET, START = Choices().quiet, Choices().start
 # How often each plan of the suite is run, and how many at a time.
 SUITE_TIMES, AT_A_TIME = 2, 2
@@ -219,35 +216,8 @@ def read_request(found: argparse.Namespace) -> Request:
     return PlanRequest(found.rest[0], times, found.order, found.free)
 
 
-class Interrupted(Exception):
-    """A signal came: its number."""
-
-    def __init__(self, number: int) -> None:
-        super().__init__(number)
-        self.number = number
-
-
-def stop(number: int, _: Optional[FrameType]) -> None:
-    """Ends what is done when a signal comes. Further ones don't disturb its end."""
-    for it in CAUGHT:
-        signal.signal(it, signal.SIG_IGN)
-    raise Interrupted(number)
-
-
-def catch_signals() -> None:
-    """Lets signals end what is done, but for those that were ignored before."""
-    for it in CAUGHT:
-        if signal.getsignal(it) != signal.SIG_IGN:
-            signal.signal(it, stop)
-
-
-def main(words: Sequence[str], folder: str) -> int:
-    """Does what a command line asks for, and answers the status. `folder` is that of the
-    command."""
-    if list(words) in (["-h"], ["--help"]):
-        print(write_help(), end="")
-        return 0
-    catch_signals()
+def answer(words: Sequence[str], folder: str) -> int:
+    """Does what a command line asks for, or says why it can't be done. Answers the status."""
     try:
         found = RunParser().read(words)
         return do(read_request(found), read_choices(found), folder)
@@ -255,8 +225,22 @@ def main(words: Sequence[str], folder: str) -> int:
         print(f"{NAME}: {why}\n\n{write_help()}", end="", file=sys.stderr)
     except Refused as why:
         say(str(why).removeprefix("wire_up: "))
-    except Interrupted as why:
-        return BY_SIGNAL + why.number
     except OSError as why:
         say(explain(why))
     return FAILED
+
+
+def main(words: Sequence[str], folder: str) -> int:
+    """Does what a command line asks for, until a signal ends it, and answers the status. `folder`
+    is that of the command."""
+    if list(words) in (["-h"], ["--help"]):
+        print(write_help(), end="")
+        return 0
+    try:
+        try:
+            catch_signals()
+            return answer(words, folder)
+        finally:
+            ignore_signals()
+    except Interrupted as why:
+        return BY_SIGNAL + why.number

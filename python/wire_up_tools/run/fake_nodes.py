@@ -3,7 +3,6 @@
 A run has a network, a table of processes and a host name of its own: nothing that it starts can be
 reached from outside, and all of it ends with the first of its processes.
 """
-import contextlib
 import os
 import re
 import shutil
@@ -67,20 +66,13 @@ def write_names(folder: str, hosts: Iterable[str]) -> str:
     return path
 
 
-def find_children(process: int) -> list[int]:
-    """The processes that a process has started; none where the kernel doesn't tell them."""
-    with contextlib.suppress(OSError):
-        with open(f"/proc/{process}/task/{process}/children", encoding="ascii") as it:
-            return [int(child) for child in it.read().split()]
-    return []
-
-
 def write_start(names: Optional[str]) -> list[str]:
     """The words before a command that is to run among fake nodes: with a table of names, or
     without."""
     user = ["--user", "--map-root-user"] if os.geteuid() else []
     apart = ["--uts", "--net", "--pid", "--fork", "--kill-child", "--mount-proc"]
     first = " && ".join([NETWORK, PAIR, NAMES] if names else [NETWORK])
-    # The shell stays: it is the first process, and takes the ends of those without a parent.
+    # The shell stays, in the session of `unshare`: it is the first process, and takes the ends of
+    # those without a parent.
     script = f'{first} || exit 1; shift; "$@"; exit $?'
     return ["unshare", *user, *apart, "sh", "-c", script, "sh", names or ""]

@@ -1,9 +1,7 @@
 """Runs a plan on a real library: each rank is a process that makes its calls."""
 import contextlib
 import itertools
-import os
 import shutil
-import signal
 import subprocess
 import tempfile
 import threading
@@ -17,6 +15,8 @@ from wire_up_tools.files import write_file
 from wire_up_tools.plan import Plan, Rank
 from wire_up_tools.run import fake_nodes
 from wire_up_tools.run.channels import Channel, Hall, Heard, open_hall
+from wire_up_tools.run.ending import TICK, end_process, ends_within, find_status
+from wire_up_tools.run.interrupts import held, released
 from wire_up_tools.run.launchers import (
     Kind,
     Launcher,
@@ -37,9 +37,8 @@ from wire_up_tools.run.ranks import (
 from wire_up_tools.run.reports import Report
 from wire_up_tools.run.turns import Turns, read_steps
 
-# How often what is waited for is looked at, and how long a launcher may take to end, in seconds.
-TICK, PATIENCE = 0.02, 5.0
-# How long after a rank its launcher ends that took it along: one whose rank died needs longer.
+# How long after a rank its launcher ends that took it along, in seconds: one whose rank died needs
+# longer.
 SOON = 1.0
 # What a rank says at its end whose server isn't there any more.
 LOST = ("ended PMIX_ERR_UNREACH", "ended PMIX_ERR_LOST_CONNECTION", "ended PMIX_ERR_COMM_FAILURE")
@@ -110,13 +109,13 @@ class Run:
         if self.setting.stop.is_set():
             raise Stopped
         heard = list(self.hall.hear(TICK))
-        if not heard and self.process.poll() is not None:
-            raise Refused(f"{self.tell_end()} before the ranks did{self.quote()}")
+        status = None if heard else find_status(self.process)
+        if status is not None:
+            raise Refused(f"{self.tell_end(status)} before the ranks did{self.quote()}")
         return heard
 
-    def tell_end(self) -> str:
-        """How the launcher ended."""
-        status = self.process.returncode
+    def tell_end(self, status: int) -> str:
+        """How the launcher ended, by its status."""
         how = f"with status {status}" if status >= 0 else f"by signal {-status}"
         return f"{self.setting.launcher.name} ended {how}"
 
@@ -134,8 +133,10 @@ class Run:
     def refuse_loss(self, lost: str) -> Refused:
         """What is raised where a process or its server is lost: its launcher took it along, or
         it ended alone."""
-        if ends_within(self.process, SOON):
-            return Refused(f"{lost}: {self.tell_end()}{self.quote()}")
+        ends_within(self.process, SOON)
+        status = find_status(self.process)
+        if status is not None:
+            return Refused(f"{lost}: {self.tell_end(status)}{self.quote()}")
         return Refused(f"{lost}: the library or a signal ended it")
 
     def gather(self) -> None:
@@ -286,37 +287,6 @@ def choose_hosts(
     return [host_of[it.node] for it in ranks]
 
 
-def end_process(process: "subprocess.Popen[bytes]", is_fake: bool) -> None:
-    """Ends a launcher with all that it started. Among fake nodes all ends with the first process of
-    their table, and that ends last; elsewhere the launcher is given time to take its daemons
-    down."""
-    if is_fake:
-        end_fake_nodes(process)
-    elif not ends_within(process, PATIENCE):
-        process.terminate()
-        ends_within(process, PATIENCE)
-    with contextlib.suppress(ProcessLookupError):
-        os.killpg(process.pid, signal.SIGKILL)
-    process.wait()
-
-
-def end_fake_nodes(process: "subprocess.Popen[bytes]") -> None:
-    """Ends the first process of those among fake nodes, which `unshare` waits for."""
-    children = fake_nodes.find_children(process.pid)
-    for child in children:
-        with contextlib.suppress(ProcessLookupError):
-            os.kill(child, signal.SIGKILL)
-    if children:
-        ends_within(process, PATIENCE)
-
-
-def ends_within(process: "subprocess.Popen[bytes]", seconds: float) -> bool:
-    """Whether a process ends within a time."""
-    with contextlib.suppress(subprocess.TimeoutExpired):
-        process.wait(seconds)
-    return process.returncode is not None
-
-
 def is_among_fake_nodes(setting: Setting) -> bool:
     """Whether plans are run on fake nodes."""
     return setting.hosts is None and setting.launcher.makes_fake_nodes
@@ -365,8 +335,6 @@ def start_process(task: Task, setting: Setting, folder: str, hall: Hall) -> Run:
         env=make_environment(launcher, start),
         start_new_session=True,
     )
-    assert process.stdout
-    hall.watch(process.stdout.fileno())
     return Run(task, setting, hall, process)
 
 
@@ -383,9 +351,14 @@ def started(task: Task, setting: Setting) -> Iterator[Run]:
     """A run that has started. At the end nothing of it is left. Raises Refused, OSError."""
     folder = tempfile.mkdtemp(prefix="wire_up-run-")
     try:
-        with contextlib.closing(open_hall(folder, list_reached(task, setting))) as hall:
+        # To ask for the addresses of hosts can take long.
+        with released():
+            hall = open_hall(folder, list_reached(task, setting))
+        with contextlib.closing(hall):
             run = start_process(task, setting, folder, hall)
             try:
+                if run.process.stdout:
+                    hall.watch(run.process.stdout.fileno())
                 yield run
             finally:
                 end(run)
@@ -397,5 +370,5 @@ def run_plan(task: Task, setting: Setting) -> Outcome:
     """Runs a plan once. Raises Refused, Stopped, OSError."""
     if not task.plan.ranks:
         return Outcome(Report([]), "")
-    with started(task, setting) as it:
+    with held(), started(task, setting) as it, released():
         return it.run()

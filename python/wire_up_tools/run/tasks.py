@@ -3,7 +3,6 @@ import datetime
 import os
 import shutil
 import socket
-import sys
 from collections.abc import Sequence
 from dataclasses import dataclass
 from typing import Optional, Union
@@ -21,6 +20,7 @@ from wire_up_tools.run.libraries.traits import find_library, take_library
 from wire_up_tools.run.libraries.writing import write_predictions, write_predictions_json
 from wire_up_tools.run.live import Outcome, Setting, Task, is_among_fake_nodes, run_plan
 from wire_up_tools.run.reports import Line
+from wire_up_tools.run.saying import say
 from wire_up_tools.run.suite import Kind, Suite, choose_plans, read_suite
 from wire_up_tools.run.suite_answers import (
     SuiteResult,
@@ -30,7 +30,6 @@ from wire_up_tools.run.suite_answers import (
 )
 from wire_up_tools.run.tables import write_table
 
-NAME = "wire_up-run"
 LOCAL = ("localhost", "127.0.0.1")
 SAME, DIFFERENT = 0, 1
 # The process that makes the calls, and where it is, seen from the folder of the command: in the
@@ -99,11 +98,6 @@ class PredictRequest:
 
 
 Request = Union[PlanRequest, WitnessRequest, SuiteRequest, ShowRequest, PredictRequest]
-
-
-def say(what: str) -> None:
-    """Writes a line on standard error."""
-    print(f"{NAME}: {what}", file=sys.stderr)
 
 
 def read_file(path: str) -> bytes:
