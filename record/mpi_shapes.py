@@ -6,12 +6,24 @@ CALL = """\
 struct call call = enter_call("$function", caller);
 """
 NOTE_SEND = """\
+unsigned long number = 0;
 if (call.is_noted)
-    note_send(&call, (struct envelope){comm, to, tag}, count_bytes(count, type));
+    number = note_send(&call, (struct envelope){comm, to, tag}, count_bytes(count, type));
+"""
+# A send that fails is none.
+NOTE_UNSENT = """\
+if (result != MPI_SUCCESS)
+    note_unsent(number);
 """
 NOTE_RECEIVE = """\
 unsigned long number =
     call.is_noted ? note_receive(&call, (struct envelope){comm, from, tag}) : 0;
+"""
+KEEP_RECEIVE = """\
+if (call.is_noted && result == MPI_SUCCESS)
+    keep_receive(*request, number);
+else
+    note_received(number, result, NULL, WAITED);
 """
 # A status of the recorder's own, where it must know what came.
 TELL_STATUS = """\
@@ -24,32 +36,38 @@ MPI_Status *told = choose_status(is_watched, status, &own);
 """
 TOLD = {"status": "told"}
 
+
+def shape_persistent_send(is_synchronous: str) -> Shape:
+    """A send that each start makes."""
+    message = "(struct envelope){comm, to, tag}"
+    return Shape(CALL, f"""\
+if (call.is_noted && result == MPI_SUCCESS)
+    keep_persistent_send(*request, {message}, count_bytes(count, type), {is_synchronous});
+""")
+
+
 MESSAGES = {
-    "send": Shape(CALL + NOTE_SEND),
+    "send": Shape(CALL + NOTE_SEND, NOTE_UNSENT),
     # It ends only when the receive has begun, so its end is noted too.
-    "synchronous-send": Shape(CALL + """\
-unsigned long number = 0;
-if (call.is_noted)
-    number = note_send(&call, (struct envelope){comm, to, tag}, count_bytes(count, type));
-""", """\
-note_sent(number, result);
+    "synchronous-send": Shape(CALL + NOTE_SEND, NOTE_UNSENT + """\
+note_sent(number, result, WAITED);
 """),
-    "nonblocking-send": Shape(CALL + NOTE_SEND, """\
+    "nonblocking-send": Shape(CALL + NOTE_SEND, NOTE_UNSENT + """\
 if (call.is_noted && result == MPI_SUCCESS)
     forget_request(*request);
 """),
-    "persistent-send": Shape(CALL, """\
+    # Its request is over only when the receive has begun.
+    "nonblocking-synchronous-send": Shape(CALL + NOTE_SEND, NOTE_UNSENT + """\
 if (call.is_noted && result == MPI_SUCCESS)
-    keep_persistent_send(*request, (struct envelope){comm, to, tag}, count_bytes(count, type));
+    keep_synchronous_send(*request, number);
 """),
+    "persistent-send": shape_persistent_send("false"),
+    "persistent-synchronous-send": shape_persistent_send("true"),
     # A message that a probe matches is received there.
     "receive": Shape(CALL + NOTE_RECEIVE + TELL_STATUS, """\
 note_received(number, result, told, WAITED);
 """, TOLD),
-    "nonblocking-receive": Shape(CALL + NOTE_RECEIVE, """\
-if (call.is_noted && result == MPI_SUCCESS)
-    keep_receive(*request, number);
-"""),
+    "nonblocking-receive": Shape(CALL + NOTE_RECEIVE, KEEP_RECEIVE),
     "persistent-receive": Shape(CALL, """\
 if (call.is_noted && result == MPI_SUCCESS)
     keep_persistent_receive(*request, (struct envelope){comm, from, tag});
@@ -75,10 +93,7 @@ if (call.is_noted) {
     number = note_receive(&call, (struct envelope){comm, from, in_tag});
     note_send(&call, (struct envelope){comm, to, out_tag}, count_bytes(count, type));
 }
-""", """\
-if (call.is_noted && result == MPI_SUCCESS)
-    keep_receive(*request, number);
-"""),
+""", KEEP_RECEIVE),
     "probe": Shape(CALL + """\
 unsigned long number = call.is_noted ? note_probe(&call, (struct envelope){comm, from, tag}) : 0;
 """ + TELL_STATUS, """\
@@ -87,23 +102,40 @@ note_received(number, result, told, WAITED);
 }
 
 
-def take_poll(is_watched: str, has_found: str = "*flag", is_send: str = "false") -> str:
-    """C that takes what a poll has found, if it is to be noted, and counts a send that it found at
-    once."""
-    take = f"result == MPI_SUCCESS && wire_up_take_poll(&polls, caller, {has_found})"
+def take_poll(
+    is_watched: str,
+    about: str,
+    has_found: str = "*flag",
+    is_send: str = "false",
+    is_choice: str = "false",
+    is_active: str = "true",
+) -> str:
+    """C that takes what a poll has found, if it is to be noted, of what it asked about, and counts
+    what it found at once, or first where it `is_choice` of several, if that `is_send`: not known as
+    a receive or a collective. What it found `is_active`, or was over before."""
+    take = f"wire_up_take_poll(&polls, find_site(&call, caller), {about}, {has_found})"
+    take = f"({take} || ({is_choice} && {has_found}))"
     return f"""\
 static struct counter polls = {{.what = POLLS_IN_VAIN, .function = "$function"}};
 static struct counter sends = {{.what = FOUND_SENDS, .function = "$function"}};
-if ({is_watched} && {take} && {is_send})
+if ({is_watched} && result == MPI_SUCCESS && {take} && {is_send})
     wire_up_count_alone(&sends);
+if ({is_watched} && result == MPI_SUCCESS && {has_found} && wire_up_has_polls() && {is_active})
+    wire_up_pass_polls();
 """
+
+
+CHOICE = "watch.active > 1"
+SOME_ACTIVE = "watch.active > 0"
+# The message that a probe asks for, as a number.
+ASKED = "mix_envelope((struct envelope){comm, from, tag})"
 
 
 def shape_poll(note: str) -> Shape:
     """A probe that doesn't wait. One that found nothing isn't noted, but counted."""
     return Shape(CALL + """\
 bool is_watched = call.is_noted;
-""" + WATCH_STATUS, take_poll("is_watched") + f"""\
+""" + WATCH_STATUS, take_poll("is_watched", ASKED) + f"""\
 if (call.is_noted && result == MPI_SUCCESS && *flag)
     note_received({note}(&call, (struct envelope){{comm, from, tag}}), result, told, POLLED);
 """, TOLD)
@@ -116,15 +148,26 @@ bool is_watched = call.is_noted && request;
 MPI_Request before = is_watched ? *request : (MPI_Request)0;
 """ + WATCH_STATUS
 
+NOTE_FAILED = """\
+if (call.is_noted && result != MPI_SUCCESS)
+    note_other("$function that failed");
+"""
+
+
+def shape_start(count: str, requests: str) -> Shape:
+    """A call that starts requests, whose handles it may change."""
+    return Shape(CALL + f"""\
+struct handles before;
+copy_handles(&before, call.is_noted ? {count} : 0, {requests});
+note_starts(&call, before.count, before.at);
+""", NOTE_FAILED + f"""\
+move_changed(&before, {requests});
+""")
+
+
 REQUESTS = {
-    "start": Shape(CALL + """\
-if (call.is_noted && request)
-    note_start(&call, *request);
-"""),
-    "start-all": Shape(CALL + """\
-if (call.is_noted && requests)
-    note_starts(&call, count, requests);
-"""),
+    "start": shape_start("1", "request"),
+    "start-all": shape_start("count", "requests"),
     "free-request": Shape(CALL + """\
 if (call.is_noted && request)
     note_freed(*request);
@@ -133,30 +176,50 @@ if (call.is_noted && request)
 if (call.is_noted && request)
     note_cancel(*request);
 """),
-    "wait": Shape(WATCH_REQUEST, """\
-if (is_watched)
+    "wait": Shape(WATCH_REQUEST + """\
+if (is_watched && wire_up_has_polls() && is_active(before))
+    wire_up_pass_polls();
+""", """\
+if (is_watched && is_over(result, before, request))
     note_complete(before, result, told, WAITED);
 """, TOLD),
-    "test": Shape(WATCH_REQUEST, take_poll("is_watched", is_send="is_active_send(before)") + """\
-if (is_watched && (result != MPI_SUCCESS || *flag))
+    "test": Shape(WATCH_REQUEST, take_poll(
+        "is_watched",
+        "(uintptr_t)before",
+        is_send="is_active_send(before)",
+        is_active="is_active(before)",
+    ) + """\
+if (is_watched && (result == MPI_SUCCESS ? *flag : is_over(result, before, request)))
     note_complete(before, result, told, POLLED);
 """, TOLD),
     # The request stays, but it has nothing open any more.
     "ask-request": Shape(CALL + """\
 bool is_watched = call.is_noted;
-""" + WATCH_STATUS, take_poll("is_watched", is_send="is_active_send(request)") + """\
+""" + WATCH_STATUS, take_poll(
+        "is_watched",
+        "(uintptr_t)request",
+        is_send="is_active_send(request)",
+        is_active="is_active(request)",
+    ) + """\
 if (is_watched && result == MPI_SUCCESS && *flag)
     note_complete(request, result, told, POLLED);
 """, TOLD),
 }
 
 WATCH_ALL = CALL + """\
-struct watch watch = watch_requests(&call, count, requests);
+struct watch watch;
+watch_requests(&watch, &call, count, requests);
 MPI_Status *told = provide_statuses(&watch, statuses);
 """
 TOLD_ALL = {"statuses": "told"}
+# Before a call that waits for some of several requests.
+PASS_POLLS = """\
+if (watch.active > 0)
+    wire_up_pass_polls();
+"""
 WATCH_ANY = CALL + """\
-struct watch watch = watch_requests(&call, count, requests);
+struct watch watch;
+watch_requests(&watch, &call, count, requests);
 MPI_Status own;
 MPI_Status *told = choose_status(watch.is_on, status, &own);
 """
@@ -170,37 +233,55 @@ if (watch.active > 1 && result == MPI_SUCCESS && has_send(&watch, {some}, {indic
 """
 
 
-def shape_some(how: str, after: str) -> Shape:
+def shape_some(how: str, before: str, after: str) -> Shape:
     """A call that completes some of several requests."""
-    return Shape(WATCH_ALL, after + f"""\
+    return Shape(WATCH_ALL + before, after + f"""\
 int some = note_some_complete(&watch, result, ended, indices, told, {how});
 result = end_watch(&watch, result, some);
 """, TOLD_ALL)
 
 
 SEVERAL_REQUESTS = {
-    "wait-all": Shape(WATCH_ALL, """\
-note_all_complete(&watch, result, told, WAITED);
+    "wait-all": Shape(WATCH_ALL + PASS_POLLS, """\
+note_all_complete(&watch, result, requests, told, WAITED);
 result = end_watch(&watch, result, count);
 """, TOLD_ALL),
-    "test-all": Shape(WATCH_ALL, take_poll("call.is_noted", is_send="are_sends(&watch)") + """\
+    "test-all": Shape(WATCH_ALL, take_poll(
+        "call.is_noted", "watch.mixed", is_send="are_sends(&watch)", is_active=SOME_ACTIVE
+    ) + """\
 if (watch.is_on && (result == MPI_ERR_IN_STATUS || (result == MPI_SUCCESS && *flag)))
-    note_all_complete(&watch, result, told, POLLED);
+    note_all_complete(&watch, result, requests, told, POLLED);
 result = end_watch(&watch, result, count);
 """, TOLD_ALL),
-    "wait-some": shape_some("name_wait(&watch)", note_sends("*ended", "indices")),
+    "wait-some": shape_some(
+        "name_wait(&watch)", PASS_POLLS, note_sends("*ended", "indices")
+    ),
     "test-some": shape_some(
         "name_poll(&watch)",
-        take_poll("call.is_noted", "*ended != 0", "has_send(&watch, *ended, indices)"),
+        "",
+        take_poll(
+            "call.is_noted",
+            "watch.mixed",
+            "*ended != 0",
+            "has_send(&watch, *ended, indices)",
+            CHOICE,
+            SOME_ACTIVE,
+        ),
     ),
-    "wait-any": Shape(WATCH_ANY, note_sends("1", "which") + """\
-note_one_complete(&watch, result, which, told, name_wait(&watch));
+    "wait-any": Shape(WATCH_ANY + PASS_POLLS, note_sends("1", "which") + """\
+note_one_complete(&watch, result, requests, which, told, name_wait(&watch));
 result = end_watch(&watch, result, 0);
 """, TOLD),
     "test-any": Shape(
-        WATCH_ANY, take_poll("call.is_noted", is_send="has_send(&watch, 1, which)") + """\
+        WATCH_ANY, take_poll(
+            "call.is_noted",
+            "watch.mixed",
+            is_send="has_send(&watch, 1, which)",
+            is_choice=CHOICE,
+            is_active=SOME_ACTIVE,
+        ) + """\
 if (watch.is_on && flag && *flag)
-    note_one_complete(&watch, result, which, told, name_poll(&watch));
+    note_one_complete(&watch, result, requests, which, told, name_poll(&watch));
 result = end_watch(&watch, result, 0);
 """, TOLD),
 }
@@ -292,6 +373,11 @@ if (parent.number && result == MPI_SUCCESS)
 end_collective(&it, result, "all");
 note_child(&parent, result, made);
 """),
+    # So it is for those that get a communicator.
+    "make-splitting": Shape(BEGIN + COUNT_CHILD, """\
+end_collective(&it, result, color == MPI_UNDEFINED ? "none" : "all");
+note_child(&parent, result, made);
+"""),
     # The processes of the group alone make it.
     "make-of-group": Shape(CALL + """\
 struct communicator parent = {.number = 0};
@@ -314,8 +400,9 @@ note_window(&parent, result, comm, made);
     # A fence that ends no epoch need not wait.
     "fence-window": Shape(CALL + """\
 struct collective it = begin_collective(&call, "$kind", (uintptr_t)window);
+bool is_end = it.number && take_fence((uintptr_t)window, how);
 """, """\
-end_collective(&it, result, how & MPI_MODE_NOPRECEDE ? "none" : "all");
+end_collective(&it, result, is_end ? "all" : "none");
 """),
     "free-window": Shape(CALL + """\
 uintptr_t handle = window ? (uintptr_t)*window : 0;
@@ -336,7 +423,7 @@ note_completion(&call, window);
     "wait-epoch": Shape(CALL, """\
 note_awaited(&call, result, window, WAITED);
 """),
-    "test-epoch": Shape(CALL, take_poll("call.is_noted") + """\
+    "test-epoch": Shape(CALL, take_poll("call.is_noted", "(uintptr_t)window") + """\
 if (result == MPI_SUCCESS && *flag)
     note_awaited(&call, result, window, POLLED);
 """),

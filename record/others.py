@@ -48,7 +48,7 @@ LOCAL = {
         r"(Node_pid|Resource_unit)_\w+|Query_(\w+_)?(construct|destruct|create|free|release)",
         r"(Load|Check|Xfer)_(key|nspace|procid|rank|reserved_key)(_strict)?|Regex2_\w+",
         r"(Nspace|Procid)_invalid|Rank_valid|Heartbeat|Progress_thread_\w+",
-        r"Fabric_construct|Setenv|Error_code|generate_\w+|Store_internal",
+        r"Fabric_construct|Setenv|Error_code|generate_\w+",
         r"Get_(version|attribute_\w+|cpuset|relative_locality)",
         r"Initialized|Progress|Load_topology",
         r"Compute_distances\w*",
@@ -57,7 +57,7 @@ LOCAL = {
     ),
 }
 # Functions that wait for others, though their names begin as those above do.
-NOT_LOCAL = ("MPI_File_get_position_shared",)
+NOT_LOCAL = ("MPI_File_get_position_shared", "MPI_File_get_size")
 
 NOTES = {
     "MPI": """\

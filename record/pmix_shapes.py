@@ -51,6 +51,12 @@ if (is_noted(caller))
 """),
     "put": shape_blocking("note_put(&call, scope, key, value)"),
     "commit": shape_blocking("note_commit(&call)"),
+    # A get of what the program stores for another process doesn't wait for that.
+    "store": Shape("""\
+static bool is_told;
+if (is_of_program(caller) && !__atomic_exchange_n(&is_told, true, __ATOMIC_RELAXED))
+    wire_up_note_unseen("stored", "$function");
+"""),
     "fence": shape_blocking("note_fence(&call, processes, count, info, infos)"),
     "fence-nb": shape_calling_back("note_fence(&call, processes, count, info, infos)", "operation"),
     "group-construct": shape_blocking(

@@ -21,9 +21,23 @@
 
 #include <stdbool.h>
 #include <stddef.h>
+#include <stdint.h>
+#include <time.h>
 
 /* Marks what other objects of the process find. All else stays within its recorder. */
 #define EXPORTED __attribute__((visibility("default")))
+
+/* A lock that costs a few instructions, as each call of MPI takes some. It is mostly held for as
+ * few: who waits for it asks again, and sleeps in between once that was in vain. */
+#define TURNS_BEFORE_SLEEP 100
+static inline void wire_up_lock(bool *lock)
+{
+    for (int turn = 0; __atomic_exchange_n(lock, true, __ATOMIC_ACQUIRE); turn++)
+        if (turn >= TURNS_BEFORE_SLEEP)
+            nanosleep(&(struct timespec){.tv_nsec = 1000}, NULL);
+}
+
+static inline void wire_up_unlock(bool *lock) { __atomic_store_n(lock, false, __ATOMIC_RELEASE); }
 
 /* A text that grows. `is_lost` says that memory for it was refused. */
 struct text {
@@ -62,7 +76,7 @@ struct place {
     struct place *outer;
     unsigned number;
     enum owner owner;
-    bool is_noted, is_mpi4py, is_past;
+    bool is_noted, is_mpi4py, is_past, is_walked;
     enum { UNREAD, NAMED, POINTED } call; /* how the code before a return address calls */
     const char *module, *function;
     size_t offset;
@@ -105,7 +119,7 @@ struct counter {
     struct counter *next;
 };
 #define POLLS_IN_VAIN "polled"
-#define FOUND_SENDS "found"
+#define FOUND_SENDS "found" /* or what else isn't known as a receive or a collective */
 #define OTHERS "others"
 
 /* Counts a call. */
@@ -114,11 +128,20 @@ EXPORTED void wire_up_count(struct counter *of);
 /* Counts a call, without what a call means for the polls before it. */
 EXPORTED void wire_up_count_alone(struct counter *of);
 
-/* Takes what a poll of the code at `caller` has found, and answers whether it found something at
- * once. One that finds nothing is counted as soon as this thread makes another call that is noted or
- * counted, unless the same code has found something by then: it has waited. What the program does
- * otherwise, another run may not do. */
-EXPORTED bool wire_up_take_poll(struct counter *of, const void *caller, bool has_found);
+/* Takes what a poll of the code at `site` has found, which asked about a request or a message that
+ * a number stands for, and answers whether it found something at once. One that finds nothing is
+ * counted as soon as this thread makes another call that is noted or counted, unless the same code
+ * has found the same by then: it has waited. What the program does otherwise, another run may not
+ * do. */
+EXPORTED bool wire_up_take_poll(struct counter *of, const void *site, uintptr_t about,
+                                bool has_found);
+
+/* Counts the polls of this thread that have found nothing yet: it waits for something else, or has
+ * found that, as another run may not. */
+EXPORTED void wire_up_pass_polls(void);
+
+/* Whether there are such polls that aren't counted yet. */
+EXPORTED bool wire_up_has_polls(void);
 
 /* Finds the line in the program that a call comes from which a place makes, through however many
  * calls of libraries, and the functions that called there. Null on a thread that isn't the
@@ -154,6 +177,11 @@ EXPORTED void wire_up_add_tool(const void *function);
 /* Finds the function of this name after the library that has `not_this`, as the code at `caller`
  * would find it; null where there is none. */
 EXPORTED void *wire_up_find(const char *name, void *caller, const void *not_this);
+
+/* Finds the function or the object of this name in what the program was loaded with, behind the
+ * object that has an address, or in all of it where that is null. Null where none of it has one:
+ * what was opened later isn't asked. Nothing that dlerror would say is lost. */
+EXPORTED void *wire_up_find_first(const char *name, const void *behind);
 
 /* Answers the system's own dlsym: the recorder has one that stands before it. With RTLD_NEXT it
  * searches behind the code that calls it. */

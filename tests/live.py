@@ -28,6 +28,18 @@ COMPILED = {
     "hidden": (
         "mpicc", "-pthread", "hidden.c", "-L{folder}", "-Wl,-rpath,{folder}", "-llookups"
     ),
+    "forks": ("mpicc", "-pthread", "forks.c"),
+    "opening.so": ("mpicc", "-shared", "-fPIC", "-DLIBRARY", "forks.c"),
+    "memory": ("mpicc", "-pthread", "memory.c"),
+    "first.so": (
+        "mpicc", "-shared", "-fPIC", "-DFIRST", "chain.c", "-L{folder}", "-Wl,-rpath,{folder}",
+        "-lsecond"
+    ),
+    "libsecond.so": (
+        "mpicc", "-shared", "-fPIC", "-DSECOND", "chain.c", "-L{folder}", "-Wl,-rpath,{folder}",
+        "-lthird"
+    ),
+    "libthird.so": ("mpicc", "-shared", "-fPIC", "-DTHIRD", "chain.c"),
     "libprofiler.so": ("mpicc", "-shared", "-fPIC", "profiler.c"),
     "profiled": ("mpicc", "told.c", "-L{folder}", "-Wl,-rpath,{folder}", "-lprofiler"),
     "mixed": ("mpifort", "-J{folder}", "mixed.c", "mixed_parts.f90"),

@@ -35,6 +35,10 @@ PMIX_PAST_RECORDER = (
 OPENED = "2 processes in which lookups.so calls MPI past the recorder: its calls aren't seen\n"
 OPENED_AGAIN = "1 processes with libmpi in a namespace of its own: calls of it aren't seen\n"
 CHILD = "1 processes of which a child called PMIx or MPI by fork: its calls aren't seen\n"
+FAILED = (
+    "2 collectives that failed, or were left by a jump: whether they met those of the others isn't "
+    "known\n"
+)
 HANDLER = "1 processes that called in a handler of a signal: another run may call elsewhere\n"
 THREADS = (
     "1 processes that called from several threads: their calls stand in the order in which they "
@@ -49,9 +53,9 @@ class Program:
     `in_part` why a verdict over its recording holds only in part. `words` are what runs it, if that
     isn't its name. `luck` counts the ends that were left to luck, without which there is one more
     finding, `received` the receives that could have got another message, and `first` those that
-    were the first of several requests; `poll` is the function by which one poll found nothing
-    before another call, and `called` another call whose result is luck. `is_replayed` says that
-    the replay of the plan answers as the program was answered."""
+    were the first of several requests; `poll` is the function by which `polls` found nothing before
+    another call, and `called` another call whose result is luck. `is_replayed` says that the replay
+    of the plan answers as the program was answered."""
 
     processes: int
     findings: int
@@ -63,6 +67,7 @@ class Program:
     received: int = 0
     first: int = 0
     poll: str = ""
+    polls: int = 1
     called: str = ""
     is_replayed: bool = True
 
@@ -75,9 +80,9 @@ class Program:
         return f"wire_up-record: {both}, which takes nothing from {self.luck} ends of requests\n"
 
     def says_otherwise(self, with_mpi: bool = True) -> str:
-        """What the recorder says of a poll that found nothing and, with MPI's order, of receives
+        """What the recorder says of polls that found nothing and, with MPI's order, of receives
         that could have got another message or were the first of several requests."""
-        told = [f"1 calls of {self.poll} that found nothing"] if self.poll else []
+        told = [f"{self.polls} calls of {self.poll} that found nothing"] if self.poll else []
         told += [f"1 calls of {self.called}"] if self.called else []
         if self.received and with_mpi:
             told.append(f"{self.received} receives that could have got another message")
@@ -108,6 +113,9 @@ CASES = {
     "inter": Program(4, 0, 1),
     "merged": Program(4, 0, 1),
     "jump": Program(2, 0, 1),
+    "begun": Program(2, 0, 1),
+    "unsent": Program(2, 0, 1),
+    "failed": Program(2, 0, 1, IN_PART, f"{IN_PART}{FAILED}"),
     "limit": Program(
         2, 0, 0, "no room", f"the run was cut off: {IN_PART}{LAST_LINES}{NOT_FINALIZED}"
     ),
@@ -156,13 +164,23 @@ LUCK = {
     "cancelled": Program(2, 0, 1, luck=1, poll="MPI_Iprobe"),
     "several": Program(3, 0, 1, luck=2, first=1),
     "asked": Program(2, 0, 1, luck=1),
+    "taken": Program(2, 0, 1, luck=20, poll="MPI_Test", polls=19),
+    "elsewhere": Program(3, 0, 1, poll="MPI_Test"),
+    "either": Program(2, 0, 1, poll="MPI_Test"),
     "nothing": Program(2, 0, 1, poll="MPI_Iprobe"),
-    "sent": Program(2, 0, 1, called="MPI_Test that found a send complete"),
+    "turn": Program(2, 0, 1, poll="MPI_Iprobe"),
+    "sent": Program(2, 0, 1, called="MPI_Test that found a request complete"),
     "beside": Program(2, 0, 1, called="MPI_Waitany of sends"),
+    "among": Program(2, 0, 1, called="MPI_Testany that found a request complete"),
     "header": Program(3, 0, 1, luck=2, received=2),
     "answer": Program(3, 0, 1, luck=2, received=2),
     "once": Program(2, 0, 1, IN_PART, f"{IN_PART}{GOES_AWAY}", is_replayed=False),
     "brief": Program(2, 0, 0, IN_PART, f"{IN_PART}{SHORT_WAIT}"),
+}
+# Those of `handles`.
+HANDLES = {
+    "restarted": Program(2, 1, 1),
+    "refused": Program(2, 0, 1),
 }
 # Those of `hidden`.
 HIDDEN = {
@@ -174,7 +192,7 @@ HIDDEN = {
     "thread": Program(2, 0, 1, IN_PART, f"{IN_PART}{THREADS}"),
     "event": Program(2, 0, 1, called="PMIx_Register_event_handler"),
 }
-SHIPPED = {**CASES, **DIRECT, **HIDDEN, **LUCK, **OTHERS, **OTHER_WAYS}
+SHIPPED = {**CASES, **DIRECT, **HANDLES, **HIDDEN, **LUCK, **OTHERS, **OTHER_WAYS}
 
 
 def why_other_findings(program: str, plan: str, count: int) -> Optional[str]:

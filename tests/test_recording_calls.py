@@ -244,7 +244,9 @@ class CallsTest(unittest.TestCase):
 
     def test_calls_whose_result_depends_on_speed(self) -> None:
         """They are told apart from calls that are left out."""
-        names = ("Cancel of a receive", "Fetch_and_op", "Waitany of sends", "Win_lock_all")
+        names = (
+            "Accumulate", "Cancel of a receive", "Fetch_and_op", "Waitany of sends", "Win_lock_all"
+        )
         tape = Tape(0).say("other MPI_Win_flush")
         for name in names:
             tape.say(f"other MPI_{name}")
@@ -306,11 +308,16 @@ class CallsTest(unittest.TestCase):
         plan = write_plan_of([Tape(0).say("others PMIx_Register_event_handler 2")])
         self.assertIn(f"{OTHERWISE_AFTER}\n#   2 calls of PMIx_Register_event_handler\n", plan)
 
-    def test_polls_that_found_a_send(self) -> None:
+    def test_values_that_a_process_stores_itself(self) -> None:
+        """Its gets of them don't wait, but in the plan they do."""
+        plan = write_plan_of([Tape(0).say("unseen stored PMIx_Store_internal")])
+        self.assertIn(f"{MORE_ORDERED}\n#   1 processes that called PMIx_Store_internal: in", plan)
+
+    def test_polls_that_found_a_request(self) -> None:
         """The last count of a process is that of all its polls by a function."""
         tape = Tape(0).say("found MPI_Test 1").say("found MPI_Test 2")
         plan = write_plan_of([tape, Tape(1).say("found MPI_Test 4")])
-        said = "6 calls of MPI_Test that found a send complete"
+        said = "6 calls of MPI_Test that found a request complete"
         self.assertIn(f"{OTHERWISE_AFTER}\n#   {said}\n", plan)
 
     def test_polls_that_found_nothing(self) -> None:
@@ -323,14 +330,33 @@ class CallsTest(unittest.TestCase):
         self.assertIn(f"{OTHERWISE_AFTER}\n{said}", plan)
 
     def test_a_name_that_goes_away(self) -> None:
-        """At its first read, if another may look it up, or with its process."""
-        for how, count, is_said in ((1, 1, False), (1, 2, True), (2, 0, True), (4, 2, False)):
+        """At its first read, if another may look it up, or with its process; though it is published
+        once more, to stay."""
+        told = "number:1:{}".format
+        kept = [(told(it), 2, False) for it in (0, 3, 4)] + [("type:30", 2, False)]
+        gone = [(told(2), 0, True), (told(255), 0, True), ("text:app", 0, True)]
+        for how, count, is_said in (*kept, *gone, (told(1), 1, False), (told(1), 2, True)):
             with self.subTest(how, lookups=count):
-                tape = Tape(0).call(f"publish blocks n=text:v pmix.persist=number:1:{how}")
+                tape = Tape(0).call(f"publish blocks n=text:v pmix.persist={how}")
                 for _ in range(count):
                     tape.call("lookup blocks :n -", "0 n=text:v")
-                plan = write_plan_of([tape])
+                plan = write_plan_of([tape.call("publish blocks n=text:v -")])
                 self.assertEqual("1 names that go away by themselves" in plan, is_said)
+
+    def test_a_name_that_goes_away_with_its_application(self) -> None:
+        """If another one looks it up: one of another job, or with another number in it."""
+        said = "#   1 names that go away with their application, and that another looks up: "
+        ways = (("-", False), ("pmix.persist=number:1:3", False), ("pmix.persist=number:1:0", True))
+        for how, is_kept in ways:
+            for other, number, is_other in (("job", 0, False), ("job", 1, True), ("more", 0, True)):
+                with self.subTest(how, other=other, number=number):
+                    first = Tape(0).call(f"publish blocks n=text:v {how}")
+                    rank = int(other == "job")
+                    asks = f"get blocks {other}:{rank} :pmix.appnum -"
+                    second = Tape(rank, other).call(asks, f"0 number:4:{number}")
+                    second.call("lookup blocks :n -", "0 n=text:v")
+                    plan = write_plan_of([first, second])
+                    self.assertEqual(said in plan, is_other and not is_kept)
 
     def test_unpublishes(self) -> None:
         everything = [("publish blocks n=text:v -", "0"), ("unpublish blocks every -", "0")]

@@ -30,6 +30,18 @@ class MessagesTest(OrderTest):
         first = [SENT.format(1), f"lookup-wait {begun}"]
         self.become(tapes, [first, [f"publish {begun} sent", WAITS.format(1)]])
 
+    def test_a_synchronous_send_that_is_found_complete(self) -> None:
+        """By a poll, or as one of several: its end orders as much, and is counted."""
+        for how in ("poll", "some"):
+            tapes = make_world(2)
+            tapes[0].call("send 1 1 0 4", f"0 {how}")
+            tapes[1].call("receive 1", "0 0 0 4")
+            first = [SENT.format(1), "lookup-wait mpi.0.1.1.begun"]
+            second = ["publish mpi.0.1.1.begun sent", WAITS.format(1)]
+            self.become(tapes, [first, second], "1 ends of requests that another run")
+            strict = read_scripts(write_plan_of(tapes, Choices(is_strict=True)))
+            self.assertEqual(strict, [[SENT.format(1)], [WAITS.format(1)]])
+
     def test_a_synchronous_send_to_a_receive_that_is_not_recorded(self) -> None:
         """The one that is there may be of the next message, and had perhaps not begun."""
         tapes = make_world(2)
@@ -43,6 +55,23 @@ class MessagesTest(OrderTest):
         tapes[0].call("send 1 1 0 4")
         tapes[1].call("receive 1 any 0", "1").call("receive 1 0 0", "0 0 0 4 wait")
         self.become(tapes, [[SENT.format(1)], [WAITS.format(1)]])
+
+    def test_a_send_that_failed(self) -> None:
+        """No message is sent."""
+        tapes = make_world(2)
+        tapes[0].call("send 1 1 0 4", "1").call(MARK).begin("send 1 1 0 4")
+        tapes[1].call("receive 1", "0 0 0 4")
+        first = ["publish m x", SENT.format(1)]
+        self.become(tapes, [first, [WAITS.format(1)]], "#   1 sends that failed\n")
+
+    def test_a_receive_that_failed(self) -> None:
+        """It isn't one that was cancelled, which the recorder counts."""
+        for status, is_counted in (("1", False), ("2", True)):
+            tapes = make_world(2)
+            tapes[0].begin("send 1 1 0 4")
+            tapes[1].call("receive 1 0 0", status).call("receive 1 0 0", "0 0 0 4 wait")
+            self.become(tapes, [[SENT.format(1)], [WAITS.format(1)]])
+            self.assertEqual("1 receives that failed" in write_plan_of(tapes), is_counted)
 
     def test_a_message_of_another_size(self) -> None:
         tapes = make_world(2)
@@ -204,6 +233,14 @@ class UnseenTest(OrderTest):
         tapes[0].say("other MPI_Isendrecv").begin("send 1 1 3 4")
         tapes[1].call("receive 1 0 3", "0 0 3 4")
         self.become(tapes, [[], []], "1 messages that can't be matched")
+
+    def test_starts_of_what_is_not_known(self) -> None:
+        """One may have sent before that which is seen: nothing is matched, and the head tells."""
+        tapes = make_world(2)
+        tapes[0].say("other MPI_Start of a request that isn't known").begin("send 1 1 3 4")
+        tapes[1].call("receive 1 0 3", "0 0 3 4")
+        self.become(tapes, [[], []], "1 messages that can't be matched")
+        self.is_said(tapes, "1 starts of requests that aren't known")
 
     def test_collectives_that_do_not_fit(self) -> None:
         for name in ("barrier", "bcast"):

@@ -185,6 +185,16 @@ class CollectivesTest(OrderTest):
         tapes[1].call(*BARRIER).call("collective bcast 1", "0 none")
         self.become(tapes, [["fence all"], ["fence all"]], "2 collectives that can't be matched")
 
+    def test_collectives_that_failed(self) -> None:
+        """Each process has one that met none of the other: the plan takes it that they met."""
+        tapes = make_world(2)
+        tapes[0].call(*BARRIER).call(MARK).call("collective barrier 1", "1 none")
+        tapes[1].begin("collective barrier 1")
+        tapes[1].call(*BARRIER)
+        first = ["lookup-wait mpi.1.all.1", "publish m x", "publish mpi.0.all.2 sent"]
+        scripts = [first, ["publish mpi.1.all.1 sent", "lookup-wait mpi.0.all.2"]]
+        self.become(tapes, scripts, "#   2 collectives that failed, or were left by a jump")
+
     def test_a_barrier_of_some(self) -> None:
         """A barrier of a communicator of some, and one in which not all came."""
         tapes = make_world(3)

@@ -30,7 +30,7 @@ class ShippedTest(unittest.TestCase):
 
     def hold(self, name: str, with_mpi: bool, count: int) -> None:
         """Tests the plan of a recording, with or without MPI's order."""
-        is_without_doubt = name in ("plugin", "closed", "opened") and not with_mpi
+        is_without_doubt = name in ("plugin", "closed", "failed", "opened") and not with_mpi
         of = SHIPPED[name]
         said = "" if is_without_doubt else of.says_in_part
         words = ["-o", self.plan, "--answers", self.answers]

@@ -1,39 +1,18 @@
 /* Objects of the process that call functions of MPI or PMIx past the recorder: linked so that they
  * find the library's own first. */
 #define _GNU_SOURCE
+#include "core/objects.h"
 #include "core/places.h"
 #include "core/symbols.h"
 
 #include <dlfcn.h>
+#include <limits.h>
 #include <link.h>
 #include <stdint.h>
+#include <stdlib.h>
 #include <string.h>
 
-/* Where the tables of an object are, and what else is known of it. */
-struct tables {
-    const struct dl_phdr_info *object;
-    ElfW(Addr) base;
-    const char *names;
-    const ElfW(Sym) *symbols;
-    const ElfW(Rela) *data, *calls;
-    size_t data_size, calls_size;
-};
-
-static struct tables read_tables(const struct dl_phdr_info *object, const ElfW(Dyn) *it)
-{
-    struct tables found = {.object = object, .base = object->dlpi_addr};
-    for (; it->d_tag != DT_NULL; it++)
-        switch (it->d_tag) {
-        case DT_STRTAB: found.names = (const char *)it->d_un.d_ptr; break;
-        case DT_SYMTAB: found.symbols = (const void *)it->d_un.d_ptr; break;
-        case DT_RELA: found.data = (const void *)it->d_un.d_ptr; break;
-        case DT_RELASZ: found.data_size = it->d_un.d_val; break;
-        case DT_JMPREL: found.calls = (const void *)it->d_un.d_ptr; break;
-        case DT_PLTRELSZ: found.calls_size = it->d_un.d_val; break;
-        default: break;
-        }
-    return found;
-}
+/* --- one object --- */
 
 /* What is noted of an object: the kind of its functions that aren't seen. */
 static const char of_mpi[] = "object", of_pmix[] = "pmix";
@@ -44,7 +23,7 @@ static bool has_text(const struct dl_phdr_info *object, const char *text)
     bool is_there = false;
     for (size_t n = 0; !is_there && n < object->dlpi_phnum; n++) {
         const ElfW(Phdr) *it = &object->dlpi_phdr[n];
-        if (it->p_type == PT_LOAD && !(it->p_flags & PF_W))
+        if (it->p_type == PT_LOAD && (it->p_flags & (PF_R | PF_W)) == PF_R)
             is_there = memmem((const void *)(object->dlpi_addr + it->p_vaddr), it->p_memsz, text,
                               strlen(text)) != NULL;
     }
@@ -67,10 +46,10 @@ static const char *find_kind(const struct tables *of, const ElfW(Rela) *it)
     bool is_lookup = !strcmp(name, "dlsym");
     if (!is_lookup && !has_recorded_name(name))
         return NULL;
-    enum owner owner = find_owner(*(const void *const *)(of->base + it->r_offset));
+    enum owner owner = read_owner(*(const void *const *)(of->base + it->r_offset));
     if (is_lookup)
         return owner == OF_SYSTEM ? find_kind_of_names(of->object) : NULL;
-    if ((owner != OF_MPI && owner != OF_PMIX) || !find_own(wire_up_dlsym(), name))
+    if ((owner != OF_MPI && owner != OF_PMIX) || !find_own(name))
         return NULL;
     return owner == OF_MPI ? of_mpi : of_pmix;
 }
@@ -83,37 +62,67 @@ static const char *find_kind_of_any(const struct tables *of, const ElfW(Rela) *l
     return found;
 }
 
-/* Notes an object, once, by its dynamic section. */
-static void note_once(struct place *place, const char *kind)
+/* --- all of them --- */
+
+/* The objects that are noted, by their dynamic sections. */
+#define MOST_PAST 64
+static const void *noted[MOST_PAST];
+
+static bool is_known(const void *dynamic)
 {
-    if (!__atomic_exchange_n(&place->is_past, true, __ATOMIC_RELAXED))
-        wire_up_note_unseen(kind, place->module);
+    bool is_there = false;
+    for (size_t n = 0; !is_there && n < MOST_PAST; n++)
+        is_there = __atomic_load_n(&noted[n], __ATOMIC_RELAXED) == dynamic;
+    return is_there;
 }
 
-/* Notes an object of the program that has such a relocation, by its dynamic section. */
-static void note_if_past(const struct dl_phdr_info *object, const ElfW(Dyn) *dynamic)
+/* Adds one, and answers whether no other thread just did, and there was room. */
+static bool add_known(const void *dynamic)
 {
-    const struct tables of = read_tables(object, dynamic);
-    struct place *place = wire_up_place(dynamic);
-    if (!place || place->owner > OF_TOOL || !of.names || !of.symbols)
-        return;
-    const char *kind = find_kind_of_any(&of, of.data, of.data_size);
-    if (!kind)
-        kind = find_kind_of_any(&of, of.calls, of.calls_size);
-    if (kind)
-        note_once(place, kind);
+    for (size_t n = 0; n < MOST_PAST; n++) {
+        const void *found = NULL;
+        if (__atomic_compare_exchange_n(&noted[n], &found, dynamic, false, __ATOMIC_RELAXED,
+                                        __ATOMIC_RELAXED))
+            return true;
+        if (found == dynamic)
+            return false;
+    }
+    return false;
 }
 
-static int look_at(struct dl_phdr_info *object, size_t size, void *with)
+/* An object of the program that has such a relocation. */
+struct past {
+    const void *dynamic;
+    const char *kind;
+    char path[PATH_MAX];
+};
+
+/* Takes the first that isn't known yet. */
+static int take_past(struct dl_phdr_info *object, size_t size, void *to)
 {
+    struct past *found = to;
+    struct tables of;
+    const char *path = get_path(object);
     (void)size;
-    (void)with;
-    for (size_t n = 0; n < object->dlpi_phnum; n++)
-        if (object->dlpi_phdr[n].p_type == PT_DYNAMIC) {
-            uintptr_t at = object->dlpi_addr + object->dlpi_phdr[n].p_vaddr;
-            note_if_past(object, (const ElfW(Dyn) *)at);
-        }
-    return 0;
+    if (find_object_owner(path) > OF_TOOL || !read_tables(object, &of) || is_known(of.dynamic))
+        return 0;
+    found->kind = find_kind_of_any(&of, of.data, of.data_size);
+    if (!found->kind)
+        found->kind = find_kind_of_any(&of, of.calls, of.calls_size);
+    if (!found->kind)
+        return 0;
+    found->dynamic = of.dynamic;
+    *found->path = 0;
+    strncat(found->path, path, sizeof found->path - 1);
+    return 1;
+}
+
+static void note(const struct past *it)
+{
+    char *whole = realpath(it->path, NULL);
+    if (add_known(it->dynamic))
+        wire_up_note_unseen(it->kind, whole ? whole : it->path);
+    free(whole);
 }
 
 #if __GLIBC_PREREQ(2, 35)
@@ -125,8 +134,8 @@ static void note_library(const struct link_map *it)
         enum owner owner = find_owner(it->l_ld);
         place = owner == OF_MPI || owner == OF_PMIX ? wire_up_place(it->l_ld) : NULL;
     }
-    if (place)
-        note_once(place, "namespace");
+    if (place && !__atomic_exchange_n(&place->is_past, true, __ATOMIC_RELAXED))
+        wire_up_note_unseen("namespace", place->module);
 }
 
 /* Looks at all namespaces but the first. */
@@ -142,9 +151,11 @@ static void look_at_namespaces(void) {}
 
 void wire_up_note_past(void)
 {
-    if (!wire_up_is_recording())
+    struct past found;
+    if (!wire_up_is_recording() || is_in_list())
         return;
-    dl_iterate_phdr(look_at, NULL);
+    for (size_t n = 0; n < MOST_PAST && list_objects(take_past, &found); n++)
+        note(&found);
     look_at_namespaces();
 }
 
@@ -160,7 +171,9 @@ void note_past_if_loaded(void)
 {
     static unsigned long long looked_at;
     unsigned long long loaded = 0;
-    dl_iterate_phdr(take_loaded, &loaded);
+    if (is_in_list())
+        return;
+    list_objects(take_loaded, &loaded);
     if (__atomic_exchange_n(&looked_at, loaded, __ATOMIC_RELAXED) != loaded)
         wire_up_note_past();
 }

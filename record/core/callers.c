@@ -11,7 +11,8 @@
 /* How many walks a thread keeps, and how many return addresses of each. */
 #define WALKS 64
 #define MOST_STEPS 24
-/* How often the frames of calls are walked whose line is known without it. */
+/* How often the frames of MPI's calls are walked whose line is known without it. The first call that
+ * code makes is always walked: it may be in a handler of a signal. */
 #define MOST_WALKS 20000
 
 struct step {
@@ -112,13 +113,20 @@ bool wire_up_recall_place(const void *caller, const void *frame, struct place **
 
 struct place *wire_up_place_called(struct place *place, const void *frame)
 {
-    bool is_known = walks && place->owner == OF_PROGRAM;
+    bool is_known = walks && place->owner == OF_PROGRAM &&
+                    __atomic_load_n(&place->is_walked, __ATOMIC_RELAXED);
     if (is_known && __atomic_fetch_add(&walked, 1, __ATOMIC_RELAXED) > MOST_WALKS)
         return wire_up_in_python(place);
+    return walk_from(place, frame);
+}
+
+struct place *walk_from(struct place *place, const void *frame)
+{
     struct walk it = {.caller = place->address, .frame = frame};
     note_thread();
     note_past_if_loaded();
     walk_frames(&it, place);
+    __atomic_store_n(&place->is_walked, true, __ATOMIC_RELAXED);
     struct walk *kept = it.is_kept ? find_slot(it.caller, frame) : NULL;
     if (kept)
         *kept = it;

@@ -16,6 +16,9 @@ extern __thread unsigned open_polls;
 /* Counts them. */
 void count_polls(write_count *write);
 
+/* Counts them, and keeps them open: what they find later isn't found at once. */
+void count_passed_polls(write_count *write);
+
 /* Writes each count. */
 void write_counts(write_count *write);
 

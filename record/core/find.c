@@ -1,13 +1,15 @@
 /* The library's own functions, behind those of the recorder. */
 #define _GNU_SOURCE
+#include "core/objects.h"
+#include "core/places.h"
 #include "core/symbols.h"
 
 #include <dlfcn.h>
 
 const void *wire_up_base(const void *address)
 {
-    Dl_info it;
-    return address && dladdr(address, &it) ? it.dli_fbase : NULL;
+    struct object it;
+    return address && find_object(address, &it) ? it.base : NULL;
 }
 
 /* Finds a function in an object that is loaded already. */
@@ -31,8 +33,13 @@ void *find_for_caller(const char *name, void *caller)
 
 void *wire_up_find(const char *name, void *caller, const void *not_this)
 {
+    /* A program may have a stub of its own for a function whose address it takes. */
+    if (find_owner(not_this) != OF_RECORDER)
+        not_this = (const void *)&find_in;
     const void *own = wire_up_base(not_this);
-    void *found = wire_up_dlsym()(RTLD_NEXT, name);
+    void *found = wire_up_find_first(name, not_this);
+    if (!found)
+        found = wire_up_dlsym()(RTLD_NEXT, name);
     if (!found || wire_up_base(found) == own)
         found = find_for_caller(name, caller);
     if (found && wire_up_base(found) == own)

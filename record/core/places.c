@@ -1,19 +1,19 @@
 /* Places in the code of a process: whose code it is, and which call of it. */
 #define _GNU_SOURCE
 #include "core/places.h"
+#include "core/objects.h"
 #include "core/text.h"
 
-#include <dlfcn.h>
 #include <elf.h>
 #include <link.h>
-#include <pthread.h>
 #include <stdint.h>
 #include <stdlib.h>
 #include <string.h>
 
+/* No lock is held while a place is added: the system's own, that of dlopen, may be waited for then,
+ * and whoever has that may wait for a place. Nor does the child of a fork find one held. */
 #define BUCKETS 1024
 static struct place *places[BUCKETS];
-static pthread_mutex_t adding = PTHREAD_MUTEX_INITIALIZER;
 static unsigned places_known;
 
 unsigned number_place(void) { return __atomic_add_fetch(&places_known, 1, __ATOMIC_RELAXED); }
@@ -24,11 +24,11 @@ static const struct {
     enum owner owner;
 } objects[] = {
     {"libpmix.", OF_PMIX},       {"pmix_mca_", OF_PMIX},          {"libmpi_", OF_BINDINGS},
-    {"libmpi.", OF_MPI},         {"libmpich.", OF_MPI},           {"libompi", OF_MPI},
-    {"libopen-rte.", OF_MPI},    {"libopen-pal.", OF_MPI},        {"libopen_mpi", OF_MPI},
-    {"libc.", OF_SYSTEM},        {"libc-", OF_SYSTEM},            {"libpthread", OF_SYSTEM},
-    {"libevent", OF_SYSTEM},     {"ld-linux", OF_SYSTEM},         {"record.so", OF_RECORDER},
-    {"record-mpi.so", OF_RECORDER},
+    {"libmpi.", OF_MPI},         {"libmpich.", OF_MPI},           {"libopen-rte.", OF_MPI},
+    {"libopen-pal.", OF_MPI},    {"libopen_mpi", OF_MPI},         {"libc.", OF_SYSTEM},
+    {"libc-", OF_SYSTEM},        {"libpthread", OF_SYSTEM},       {"libevent-", OF_SYSTEM},
+    {"libevent_", OF_SYSTEM},    {"libevent.", OF_SYSTEM},        {"ld-linux", OF_SYSTEM},
+    {"record.so", OF_RECORDER},  {"record-mpi.so", OF_RECORDER},
 };
 
 /* Whether a file is in a folder whose name begins so, or below one. */
@@ -38,8 +38,7 @@ static bool is_below(const char *path, const char *slash, const char *start)
     return found && slash && found < slash;
 }
 
-/* Finds whose code an object has, by the path of its file. */
-static enum owner find_object_owner(const char *path)
+enum owner find_object_owner(const char *path)
 {
     const char *slash = strrchr(path, '/');
     const char *name = slash ? slash + 1 : path;
@@ -53,14 +52,14 @@ static enum owner find_object_owner(const char *path)
     return OF_PROGRAM;
 }
 
-/* The tools, by where their objects begin: read and written with the lock of `adding`. */
+/* The tools, by where their objects begin. */
 #define MOST_TOOLS 8
 static const void *tools[MOST_TOOLS];
 
 static bool is_tool(const void *base)
 {
-    for (size_t n = 0; n < MOST_TOOLS && tools[n]; n++)
-        if (tools[n] == base)
+    for (size_t n = 0; n < MOST_TOOLS; n++)
+        if (__atomic_load_n(&tools[n], __ATOMIC_RELAXED) == base)
             return true;
     return false;
 }
@@ -68,30 +67,41 @@ static bool is_tool(const void *base)
 void wire_up_add_tool(const void *function)
 {
     const void *base = wire_up_base(function);
-    pthread_mutex_lock(&adding);
-    for (size_t n = 0; n < MOST_TOOLS && tools[n] != base; n++)
-        if (!tools[n]) {
-            tools[n] = base;
-            break;
-        }
-    pthread_mutex_unlock(&adding);
+    for (size_t n = 0; n < MOST_TOOLS; n++) {
+        const void *found = NULL;
+        if (__atomic_compare_exchange_n(&tools[n], &found, base, false, __ATOMIC_RELAXED,
+                                        __ATOMIC_RELAXED) ||
+            found == base)
+            return;
+    }
+}
+
+enum owner read_owner(const void *address)
+{
+    struct object object;
+    if (!find_object(address, &object))
+        return OF_PROGRAM;
+    return is_tool(object.base) ? OF_TOOL : find_object_owner(object.path);
 }
 
 /* Says which object a place is in, and how far from its beginning. */
-static void locate(struct place *it, const Dl_info *object)
+static void locate(struct place *it, const struct object *object)
 {
-    const ElfW(Ehdr) *head = object->dli_fbase;
-    it->is_mpi4py = strstr(object->dli_fname, "/mpi4py/") != NULL;
-    it->owner = is_tool(object->dli_fbase) ? OF_TOOL : find_object_owner(object->dli_fname);
-    const char *whole = realpath(object->dli_fname, NULL);
-    it->module = whole ? whole : strdup(object->dli_fname);
+    const ElfW(Ehdr) *head = object->base;
+    it->is_mpi4py = strstr(object->path, "/mpi4py/") != NULL;
+    it->owner = is_tool(object->base) ? OF_TOOL : find_object_owner(object->path);
+    it->module = realpath(object->path, NULL);
+    if (!it->module)
+        it->module = strdup(object->path);
     if (head->e_type != ET_EXEC)
-        it->offset -= (uintptr_t)object->dli_fbase;
+        it->offset -= (uintptr_t)object->base;
 }
+
+static const char unknown[] = "unknown";
 
 static struct place *make_place(const void *address, struct place *outer)
 {
-    Dl_info object;
+    struct object object;
     struct place *made = calloc(1, sizeof *made);
     if (!made)
         return NULL;
@@ -99,11 +109,18 @@ static struct place *make_place(const void *address, struct place *outer)
     made->outer = outer;
     made->number = number_place();
     made->offset = (uintptr_t)address - 1;
-    if (dladdr(address, &object) && object.dli_fname && object.dli_fbase)
+    if (find_object(address, &object))
         locate(made, &object);
     if (!made->module)
-        made->module = "unknown";
+        made->module = unknown;
     return made;
+}
+
+static void free_place(struct place *it)
+{
+    if (it->module != unknown)
+        free((void *)(uintptr_t)it->module);
+    free(it);
 }
 
 static struct place *find_in_list(struct place *first, const void *address,
@@ -118,15 +135,20 @@ static struct place *find_in_list(struct place *first, const void *address,
 /* Adds a place to a list, unless another thread just did. */
 static struct place *add_place(struct place **list, const void *address, struct place *outer)
 {
-    pthread_mutex_lock(&adding);
-    struct place *it = find_in_list(*list, address, outer);
-    struct place *made = it ? NULL : make_place(address, outer);
-    if (made) {
-        made->next = *list;
-        __atomic_store_n(list, made, __ATOMIC_RELEASE);
+    struct place *made = make_place(address, outer);
+    struct place *first = __atomic_load_n(list, __ATOMIC_ACQUIRE);
+    while (made) {
+        struct place *it = find_in_list(first, address, outer);
+        if (it) {
+            free_place(made);
+            return it;
+        }
+        made->next = first;
+        if (__atomic_compare_exchange_n(list, &first, made, false, __ATOMIC_ACQ_REL,
+                                        __ATOMIC_ACQUIRE))
+            break;
     }
-    pthread_mutex_unlock(&adding);
-    return it ? it : made;
+    return made;
 }
 
 /* Finds or makes the place of an address in a function that was called at another place. */

@@ -12,6 +12,12 @@ unsigned number_place(void);
 /* Finds whose code is at an address; the program's where memory is refused. */
 enum owner find_owner(const void *address);
 
+/* The same, without memory for a place. */
+enum owner read_owner(const void *address);
+
+/* Finds whose code an object has, by the path of its file. */
+enum owner find_object_owner(const char *path);
+
 /* The innermost functions of the program that have called each other: the last called first. */
 #define MOST_FRAMES 8
 struct frames {
@@ -30,6 +36,9 @@ struct place *join_frames(const struct frames *found);
  * calls of dlclose. */
 void note_past_if_loaded(void);
 
+/* Does what wire_up_place_called does, however often. */
+struct place *walk_from(struct place *place, const void *frame);
+
 /* Finds where in the program a call comes from that the code at `caller` makes, through however many
  * calls of libraries. Null on a thread that isn't the program's. The frame is that of the wrapper. */
 static inline struct place *find_origin(const void *caller, const void *frame)
@@ -38,7 +47,7 @@ static inline struct place *find_origin(const void *caller, const void *frame)
     if (wire_up_recall_place(caller, frame, &line))
         return line;
     struct place *place = wire_up_place(caller);
-    return place ? wire_up_place_called(place, frame) : NULL;
+    return place ? walk_from(place, frame) : NULL;
 }
 
 #endif

@@ -11,6 +11,8 @@
 static struct {
     int (*is_initialized)(void);
     void *(*this_thread)(void);
+    void *(*main_interpreter)(void);
+    void *(*last_interpreter)(void);
     int (*take)(void);
     void (*give_back)(int);
     void *(*frame)(void);
@@ -31,6 +33,8 @@ static const struct {
 } wanted[] = {
     {&python.is_initialized, "Py_IsInitialized"},
     {&python.this_thread, "PyGILState_GetThisThreadState"},
+    {&python.main_interpreter, "PyInterpreterState_Main"},
+    {&python.last_interpreter, "PyInterpreterState_Head"},
     {&python.take, "PyGILState_Ensure"},
     {&python.give_back, "PyGILState_Release"},
     {&python.frame, "PyEval_GetFrame"},
@@ -56,12 +60,14 @@ static void learn_python(void)
     memcpy(&is_finalizing, &found, sizeof found);
 }
 
-/* Whether this thread may ask Python for its lock: one that does while Python ends never returns. */
+/* Whether this thread may ask Python for its lock. One that does while Python ends never returns;
+ * nor does one that has the lock for another interpreter than the thread's first. */
 static bool may_ask(void)
 {
     if (!has_python || !python.is_initialized() || (is_finalizing && is_finalizing()))
         return false;
-    return python.this_thread() != NULL;
+    bool is_one = python.last_interpreter() == python.main_interpreter();
+    return is_one && python.this_thread() != NULL;
 }
 
 /* --- lines --- */

@@ -4,6 +4,7 @@
 #define _GNU_SOURCE
 #include "core/recording.h"
 #include "core/counters.h"
+#include "core/lines.h"
 #include "core/text.h"
 
 #include <errno.h>
@@ -43,7 +44,7 @@ static __thread volatile bool is_writing;
 
 /* What has been written, and the part of the file that is memory. */
 static struct {
-    pthread_mutex_t lock;
+    bool is_locked;
     char *window; /* null where there is none */
     off_t start;  /* of the window, in the file */
     size_t room;  /* of the window */
@@ -51,7 +52,7 @@ static struct {
     off_t size;   /* of the file */
     size_t wanted;
     bool has_no_windows;
-} written = {.lock = PTHREAD_MUTEX_INITIALIZER, .wanted = LEAST_WINDOW};
+} written = {.wanted = LEAST_WINDOW};
 
 /* --- the file --- */
 
@@ -95,10 +96,12 @@ static int change_file(int file, struct piece what, off_t at)
 }
 
 /* Writes a piece without the signal that a limit of file sizes brings: the program isn't to see
- * it. */
+ * it. Nor is a thread cancelled here, with the lock. */
 static int change_quietly(int file, struct piece what, off_t at)
 {
     sigset_t of_size, before, pending;
+    int state;
+    pthread_setcancelstate(PTHREAD_CANCEL_DISABLE, &state);
     sigemptyset(&of_size);
     sigaddset(&of_size, SIGXFSZ);
     pthread_sigmask(SIG_BLOCK, &of_size, &before);
@@ -110,6 +113,7 @@ static int change_quietly(int file, struct piece what, off_t at)
     if (error == EFBIG && !sigismember(&pending, SIGXFSZ))
         sigtimedwait(&of_size, NULL, &(struct timespec){0, 0});
     pthread_sigmask(SIG_SETMASK, &before, NULL);
+    pthread_setcancelstate(state, NULL);
     return error;
 }
 
@@ -130,23 +134,58 @@ static void trim(int file)
         written.size = written.end;
 }
 
+/* Writes zeros into the file, from one offset up to another. So its pages come many at a time: one
+ * by one, each takes as long as many records. Answers the error, 0 for none. */
+static int fill(int file, off_t from, off_t to)
+{
+    static char zeros[LEAST_WINDOW];
+    int error = 0;
+    for (off_t at = from; !error && at < to; at += (off_t)sizeof zeros) {
+        size_t left = (size_t)(to - at);
+        size_t length = left < sizeof zeros ? left : sizeof zeros;
+        error = change_quietly(file, (struct piece){zeros, length}, at);
+    }
+    return error;
+}
+
+/* Makes the file as long as that, with zeros. Answers the error, 0 for none. */
+static int lengthen(int file, off_t size)
+{
+    off_t before = written.size;
+    if (size <= before)
+        return 0;
+    int error = change_quietly(file, (struct piece){NULL, (size_t)(size - before)}, before);
+    if (error)
+        return error;
+    written.size = size;
+    return fill(file, before, size);
+}
+
+/* Maps the pages of a window at once, too. */
+static void populate(void *window, size_t room)
+{
+#ifdef MADV_POPULATE_WRITE
+    madvise(window, room, MADV_POPULATE_WRITE);
+#else
+    (void)window;
+    (void)room;
+#endif
+}
+
 /* Makes the file as long as that, and maps it from the page of the end of what is written. Answers
  * the error, 0 for none. */
 static int map_up_to(int file, off_t size)
 {
     off_t page = (off_t)sysconf(_SC_PAGESIZE);
-    int error = 0;
-    if (size > written.size)
-        error = change_quietly(file, (struct piece){NULL, (size_t)(size - written.size)},
-                               written.size);
+    int error = lengthen(file, size);
     if (error)
         return error;
-    written.size = size > written.size ? size : written.size;
     written.start = written.end / page * page;
     written.room = (size_t)(written.size - written.start);
     void *at = mmap(NULL, written.room, PROT_READ | PROT_WRITE, MAP_SHARED, file, written.start);
     if (at == MAP_FAILED)
         return errno;
+    populate(at, written.room);
     written.window = at;
     return 0;
 }
@@ -220,25 +259,37 @@ static int add_pieces(int file, struct piece first, struct piece second)
     return 0;
 }
 
-/* Writes two pieces, or gives up. */
-static bool write_whole(int file, struct piece first, struct piece second)
+/* Begins to write; false, with the end of recording, where this thread writes already. */
+static bool begin_writing(void)
 {
     if (is_writing) {
         give_up("a signal handler called PMIx or MPI while a record was written");
         return false;
     }
     is_writing = true;
-    pthread_mutex_lock(&written.lock);
+    return true;
+}
+
+/* Writes two pieces, or gives up, where writing has begun. It ends then. */
+static bool end_writing(int file, struct piece first, struct piece second)
+{
+    wire_up_lock(&written.is_locked);
     int error = add_pieces(file, first, second);
     if (error)
         trim(file);
-    pthread_mutex_unlock(&written.lock);
+    wire_up_unlock(&written.is_locked);
     is_writing = false;
     if (error == EBADF)
         give_up("the program closed it");
     else if (error)
         give_up_for(error);
     return !error;
+}
+
+/* Writes two pieces, or gives up. */
+static bool write_whole(int file, struct piece first, struct piece second)
+{
+    return begin_writing() && end_writing(file, first, second);
 }
 
 /* --- records --- */
@@ -289,43 +340,14 @@ static unsigned long number_thread(void)
     return own_thread;
 }
 
-/* A line, or what all begin with, put together from behind. */
-#define LINE_ROOM 256
-struct start {
-    char bytes[LINE_ROOM];
-    char *at;
-};
-
-static void open_start(struct start *it) { it->at = it->bytes + sizeof it->bytes; }
-
-static void put_byte(struct start *it, char byte) { *--it->at = byte; }
-
-static void put_word(struct start *it, const char *word)
-{
-    size_t length = strlen(word);
-    it->at -= length;
-    memcpy(it->at, word, length);
-}
-
-static void put_signed(struct start *it, long long number)
-{
-    if (number == ANY_NUMBER) {
-        put_word(it, "any");
-    } else if (number < 0) {
-        it->at = put_number(it->at, 0ULL - (unsigned long long)number);
-        put_byte(it, '-');
-    } else {
-        it->at = put_number(it->at, (unsigned long long)number);
-    }
-}
-
 /* A clock that is read in no time: it goes on every few milliseconds. */
 #define CLOCK CLOCK_MONOTONIC_COARSE
 
 /* The number of a thread and the time, as they stand in its records: from ` 1 0.123456` on. */
+#define STAMP_ROOM 48
 struct stamp {
     struct timespec time;
-    char bytes[64];
+    char bytes[STAMP_ROOM];
     unsigned start;
 };
 static __thread struct stamp last_stamp;
@@ -337,7 +359,7 @@ static void make_stamp(struct stamp *to)
                       to->time.tv_nsec - recording.began.tv_nsec;
     unsigned microseconds = (unsigned)(since / 1000 % 1000000);
     /* The first of seven digits gives way to the point. */
-    char *at = put_number(to->bytes + sizeof to->bytes, 1000000 + microseconds);
+    char *at = put_number(to->bytes + STAMP_ROOM, 1000000 + microseconds);
     *at = '.';
     at = put_number(at, (unsigned long long)since / 1000000000);
     *--at = ' ';
@@ -347,7 +369,7 @@ static void make_stamp(struct stamp *to)
 }
 
 /* Puts the number of this thread and the time. */
-static void put_stamp(struct start *it)
+static void put_stamp(struct line *it)
 {
     struct stamp *last = &last_stamp;
     struct timespec now;
@@ -356,20 +378,13 @@ static void put_stamp(struct start *it)
         last->time = now;
         make_stamp(last);
     }
-    size_t length = sizeof last->bytes - last->start;
-    it->at -= length;
-    memcpy(it->at, last->bytes + last->start, length);
+    memcpy(it->at - STAMP_ROOM, last->bytes, STAMP_ROOM);
+    it->at -= STAMP_ROOM - last->start;
 }
 
-/* Puts the sign, the number, the thread, the time, and the number of the place if it has one. */
-static void put_start(struct start *it, char sign, unsigned long number, unsigned place)
+/* Puts what all records begin with: the sign, the number, the thread and the time. */
+static void put_start(struct line *it, char sign, unsigned long number)
 {
-    put_byte(it, ' ');
-    if (place) {
-        it->at = put_number(it->at, place);
-        put_byte(it, '@');
-        put_byte(it, ' ');
-    }
     put_stamp(it);
     it->at = put_number(it->at, number);
     put_byte(it, ' ');
@@ -377,23 +392,24 @@ static void put_start(struct start *it, char sign, unsigned long number, unsigne
 }
 
 /* Answers what is put together as a piece. */
-static struct piece take_start(const struct start *it)
+static struct piece take_line(const struct line *it)
 {
-    return (struct piece){it->at, (size_t)(it->bytes + sizeof it->bytes - it->at)};
+    return (struct piece){it->at, measure_line(it)};
 }
 
 /* Writes one line: what all records begin with, and the text, which ends with its line then. */
 static void write_line(int file, char sign, unsigned long number, unsigned place, struct text *what)
 {
-    struct start start;
+    struct line start;
     wire_up_text_add(what, "\n");
     if (what->is_lost) {
         write_whole(file, (struct piece){"lost\n", 5}, (struct piece){"", 0});
         return;
     }
-    open_start(&start);
-    put_start(&start, sign, number, place);
-    write_whole(file, take_start(&start), (struct piece){what->at, what->length});
+    open_line(&start);
+    put_place(&start, place);
+    put_start(&start, sign, number);
+    write_whole(file, take_line(&start), (struct piece){what->at, what->length});
 }
 
 /* Writes what a place stands for. */
@@ -484,15 +500,21 @@ void wire_up_count(struct counter *of)
     count_call(of, write_counted);
 }
 
+void wire_up_pass_polls(void)
+{
+    if (get_file() >= 0)
+        count_passed_polls(write_counted);
+}
+
 void trim_recording(void)
 {
     int file = get_file();
     if (file < 0 || is_writing)
         return;
     is_writing = true;
-    pthread_mutex_lock(&written.lock);
+    wire_up_lock(&written.is_locked);
     trim(file);
-    pthread_mutex_unlock(&written.lock);
+    wire_up_unlock(&written.is_locked);
     is_writing = false;
 }
 
@@ -524,21 +546,14 @@ void wire_up_write_numbers(char sign, unsigned long number, struct place *place,
     int file = get_file();
     if (file < 0)
         return;
-    struct start line;
+    struct line line;
     write_what_is_new(file, sign, place);
-    open_start(&line);
-    put_byte(&line, '\n');
-    if (what->last) {
-        put_word(&line, what->last);
-        put_byte(&line, ' ');
-    }
-    for (size_t n = what->count; n > 0; n--) {
-        put_signed(&line, what->at[n - 1]);
-        put_byte(&line, ' ');
-    }
-    put_word(&line, what->first);
-    put_start(&line, sign, number, place ? place->number : 0);
-    write_whole(file, take_start(&line), (struct piece){"", 0});
+    if (!begin_writing())
+        return;
+    open_line(&line);
+    put_numbers(&line, what, place ? place->number : 0);
+    put_start(&line, sign, number);
+    end_writing(file, take_line(&line), (struct piece){"", 0});
 }
 
 /* --- opening --- */

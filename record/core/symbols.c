@@ -2,11 +2,11 @@
  * name, the program gets that, as if it were linked to it. */
 #define _GNU_SOURCE
 #include "core/symbols.h"
+#include "core/objects.h"
 #include "core/places.h"
 #include "core/text.h"
 
 #include <dlfcn.h>
-#include <link.h>
 #include <stdio.h>
 
 static wire_up_find_symbol *system_dlsym;
@@ -21,6 +21,9 @@ wire_up_find_symbol *wire_up_dlsym(void)
     return found;
 }
 
+/* Finds it before the program can have asked for anything in vain. */
+__attribute__((constructor)) static void find_dlsym(void) { wire_up_dlsym(); }
+
 bool has_recorded_name(const char *name)
 {
     return begins_with(name, "MPI_") || begins_with(name, "PMPI_") || begins_with(name, "PMIx_");
@@ -30,21 +33,6 @@ bool has_recorded_name(const char *name)
  * own. */
 static bool is_of_program(const void *caller) { return find_owner(caller) <= OF_TOOL; }
 
-void *find_own(wire_up_find_symbol *find, const char *name)
-{
-    Dl_info here;
-    void *found = find(RTLD_NEXT, name);
-    if (found && find_owner(found) == OF_RECORDER)
-        return found;
-    if (!dladdr((const void *)&find_own, &here))
-        return NULL;
-    void *own = dlopen(here.dli_fname, RTLD_LAZY | RTLD_NOLOAD);
-    found = own ? find(own, name) : NULL;
-    if (own)
-        dlclose(own);
-    return found && find_owner(found) == OF_RECORDER ? found : NULL;
-}
-
 /* Finds the recorder's function that calls on to one of a library. For MPI it is that with the second
  * name: from there no call comes back to a tool, which may be what looks the function up. PMIx'
  * functions have one name, so there is none where a tool stands before the library. */
@@ -53,10 +41,10 @@ static void *find_before(wire_up_find_symbol *find, const char *name)
     char second[128];
     if (!begins_with(name, "MPI_")) {
         bool is_next = find_owner(find(RTLD_NEXT, name)) != OF_PROGRAM;
-        return is_next || begins_with(name, "PMPI_") ? find_own(find, name) : NULL;
+        return is_next || begins_with(name, "PMPI_") ? find_own(name) : NULL;
     }
     int length = snprintf(second, sizeof second, "P%s", name);
-    return length < (int)sizeof second ? find_own(find, second) : NULL;
+    return length < (int)sizeof second ? find_own(second) : NULL;
 }
 
 static bool is_of_library(const void *function)
@@ -65,32 +53,12 @@ static bool is_of_library(const void *function)
     return owner == OF_MPI || owner == OF_PMIX;
 }
 
-/* Finds the first function of a name behind the object of a caller, in the order in which objects were
- * loaded. */
-static void *find_behind(wire_up_find_symbol *find, const char *name, const void *caller)
-{
-    Dl_info of;
-    struct link_map *it = NULL;
-    void *found = NULL;
-    if (!dladdr1(caller, &of, (void **)&it, RTLD_DL_LINKMAP) || !it)
-        return NULL;
-    while (!found && (it = it->l_next)) {
-        void *object = dlopen(it->l_name, RTLD_LAZY | RTLD_NOLOAD);
-        found = object ? find(object, name) : NULL;
-        if (object)
-            dlclose(object);
-        if (wire_up_base(found) != wire_up_base(it->l_ld))
-            found = NULL;
-    }
-    return found;
-}
-
 /* Finds the recorder's function for a lookup in an object, or behind that of a caller; null where the
  * system's is to be found. */
 __attribute__((noinline)) static void *find_for_lookup(wire_up_find_symbol *find, void *object,
                                                        const char *name, void *caller)
 {
-    void *found = object == RTLD_NEXT ? find_behind(find, name, caller) : find(object, name);
+    void *found = object == RTLD_NEXT ? find_behind(name, caller) : find(object, name);
     if (!found && object == RTLD_NEXT)
         found = find_for_caller(name, caller);
     void *own = is_of_library(found) ? find_before(find, name) : NULL;

@@ -7,9 +7,6 @@
 /* Whether the recorder may have a function of a name. */
 bool has_recorded_name(const char *name);
 
-/* Finds the recorder's own function of a name; null where it has none. */
-void *find_own(wire_up_find_symbol *find, const char *name);
-
 /* Finds a function in the objects that the code at `caller` is linked to. */
 void *find_for_caller(const char *name, void *caller);
 

@@ -20,22 +20,24 @@ static bool has_origin(const struct place *place)
     return place && place->owner != OF_SYSTEM && place->owner != OF_RECORDER;
 }
 
+/* Finds whether a call is noted that isn't remembered, and the line that it comes from. */
+static bool find_line(const void *caller, const void *frame, struct place **line)
+{
+    struct place *place = wire_up_place(caller);
+    bool is_noted = is_watched(place);
+    *line = is_noted && has_origin(place) ? wire_up_place_called(place, frame) : NULL;
+    return is_noted;
+}
+
 struct call enter_call(const char *function, const void *caller)
 {
-    struct call call = {.function = function};
     const void *frame = __builtin_frame_address(0);
-    if (!is_mpi_found() || !wire_up_takes_calls())
-        return call;
-    call.is_noted = wire_up_recall_place(caller, frame, &call.place);
-    if (!call.is_noted) {
-        struct place *place = wire_up_place(caller);
-        call.is_noted = is_watched(place);
-        if (call.is_noted && has_origin(place))
-            call.place = wire_up_place_called(place, frame);
-    }
-    if (call.is_noted)
+    struct place *line = NULL;
+    bool is_noted = is_mpi_found() && wire_up_takes_calls() &&
+                    (wire_up_recall_place(caller, frame, &line) || find_line(caller, frame, &line));
+    if (is_noted)
         note_world();
-    return call;
+    return (struct call){.function = function, .is_noted = is_noted, .place = line};
 }
 
 unsigned long write_begin(const struct call *call, struct text *what)

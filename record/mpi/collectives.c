@@ -32,7 +32,7 @@ void keep_begun(const struct collective *it, int result, const MPI_Request *requ
         keep_collective(*request, it->number, sources);
     else if (it->number)
         note_collected(it->number, result, "none", WAITED);
-    else if (result == MPI_SUCCESS)
+    else if (result == MPI_SUCCESS && wire_up_is_recording())
         forget_request(*request);
 }
 

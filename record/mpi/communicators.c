@@ -55,6 +55,8 @@ unsigned number_of_communicator(uintptr_t handle)
 
 void forget_communicator(uintptr_t handle)
 {
+    if (!wire_up_is_recording())
+        return;
     pthread_mutex_lock(&table);
     struct communicator **at = find_slot(handle), *it = *at;
     if (it)
@@ -247,6 +249,17 @@ void note_window(const struct communicator *parent, int result, MPI_Comm comm, c
 {
     if (result == MPI_SUCCESS)
         note_alike(parent, comm, 'v', (uintptr_t)*made);
+}
+
+bool take_fence(uintptr_t window, int how)
+{
+    pthread_mutex_lock(&table);
+    struct communicator *it = *find_slot(window);
+    bool is_end = it && it->has_epoch && !(how & MPI_MODE_NOPRECEDE);
+    if (it)
+        it->has_epoch = !(how & MPI_MODE_NOSUCCEED);
+    pthread_mutex_unlock(&table);
+    return is_end;
 }
 
 void note_duplicate(const struct communicator *parent, MPI_Comm comm, const MPI_Comm *made)

@@ -15,6 +15,7 @@ struct communicator {
     int size, rank; /* of the processes that its collectives and messages are with: on an
                        intercommunicator the remote ones, and no rank */
     bool is_inter;
+    bool has_epoch; /* a window: a fence of it may have begun one */
     struct communicator *next;
 };
 
@@ -24,7 +25,8 @@ struct communicator find_communicator(uintptr_t handle);
 /* Answers its number alone, 0 where nothing is known: mostly without a lock. */
 unsigned number_of_communicator(uintptr_t handle);
 
-/* Forgets what had a handle that is free or new. */
+/* Forgets what had a handle that is free or new. A forked child does nothing: it may find the lock
+ * held by a thread that it hasn't. */
 void forget_communicator(uintptr_t handle);
 
 /* Notes the world the first time that MPI is there. */
@@ -51,6 +53,10 @@ void note_of_session(const struct call *call, int result, const MPI_Comm *made, 
 
 /* Notes a communicator that was made of a parent, and has the same processes. */
 void note_duplicate(const struct communicator *parent, MPI_Comm comm, const MPI_Comm *made);
+
+/* Takes a fence of a window, with what the program asserts of it, and answers whether it may end an
+ * epoch. */
+bool take_fence(uintptr_t window, int how);
 
 /* Notes a window that was made over the processes of a communicator. */
 void note_window(const struct communicator *parent, int result, MPI_Comm comm, const MPI_Win *made);

@@ -5,6 +5,7 @@
 #include <dlfcn.h>
 #include <errno.h>
 #include <pthread.h>
+#include <stddef.h>
 #include <string.h>
 
 struct mpi_library mpi;
@@ -15,32 +16,41 @@ static void *known_library;
 static pthread_mutex_t finding = PTHREAD_MUTEX_INITIALIZER;
 
 static const struct {
-    void *function;
+    size_t function;
     const char *name;
 } wanted[] = {
-    {&mpi.initialized, "PMPI_Initialized"},
-    {&mpi.comm_rank, "PMPI_Comm_rank"},
-    {&mpi.comm_size, "PMPI_Comm_size"},
-    {&mpi.comm_group, "PMPI_Comm_group"},
-    {&mpi.comm_test_inter, "PMPI_Comm_test_inter"},
-    {&mpi.comm_remote_size, "PMPI_Comm_remote_size"},
-    {&mpi.comm_remote_group, "PMPI_Comm_remote_group"},
-    {&mpi.group_translate_ranks, "PMPI_Group_translate_ranks"},
-    {&mpi.group_free, "PMPI_Group_free"},
-    {&mpi.group_rank, "PMPI_Group_rank"},
-    {&mpi.group_size, "PMPI_Group_size"},
-    {&mpi.win_get_group, "PMPI_Win_get_group"},
-    {&mpi.type_size, "PMPI_Type_size_x"},
-    {&mpi.test_cancelled, "PMPI_Test_cancelled"},
+    {offsetof(struct mpi_library, initialized), "PMPI_Initialized"},
+    {offsetof(struct mpi_library, comm_rank), "PMPI_Comm_rank"},
+    {offsetof(struct mpi_library, comm_size), "PMPI_Comm_size"},
+    {offsetof(struct mpi_library, comm_group), "PMPI_Comm_group"},
+    {offsetof(struct mpi_library, comm_test_inter), "PMPI_Comm_test_inter"},
+    {offsetof(struct mpi_library, comm_remote_size), "PMPI_Comm_remote_size"},
+    {offsetof(struct mpi_library, comm_remote_group), "PMPI_Comm_remote_group"},
+    {offsetof(struct mpi_library, group_translate_ranks), "PMPI_Group_translate_ranks"},
+    {offsetof(struct mpi_library, group_free), "PMPI_Group_free"},
+    {offsetof(struct mpi_library, group_rank), "PMPI_Group_rank"},
+    {offsetof(struct mpi_library, group_size), "PMPI_Group_size"},
+    {offsetof(struct mpi_library, win_get_group), "PMPI_Win_get_group"},
+    {offsetof(struct mpi_library, type_size), "PMPI_Type_size_x"},
+    {offsetof(struct mpi_library, test_cancelled), "PMPI_Test_cancelled"},
+    {offsetof(struct mpi_library, error_class), "PMPI_Error_class"},
+};
+
+/* Where the library is: it was opened as `opened`, or the program was loaded with it, and it is
+ * behind the object that has `wrapper`. */
+struct source {
+    void *opened;
+    const void *wrapper;
 };
 
 /* Finds the functions in the library. False where one isn't there. */
-static bool find_functions(void *library)
+static bool find_functions(struct mpi_library *to, const struct source *in)
 {
     bool are_there = true;
     for (size_t n = 0; n < sizeof wanted / sizeof *wanted; n++) {
-        void *found = wire_up_dlsym()(library, wanted[n].name);
-        memcpy(wanted[n].function, &found, sizeof found);
+        void *found = in->opened ? wire_up_dlsym()(in->opened, wanted[n].name)
+                                 : wire_up_find_first(wanted[n].name, in->wrapper);
+        memcpy((char *)to + wanted[n].function, &found, sizeof found);
         are_there = are_there && found;
     }
     return are_there;
@@ -48,26 +58,28 @@ static bool find_functions(void *library)
 
 #ifdef OPEN_MPI
 /* Finds an object of the library: the program may have the one copy of it that counts. */
-static void *find_object(void *library, const char *name)
+static void *find_object(const struct source *in, const char *name)
 {
+    if (!in->opened)
+        return wire_up_find_first(name, NULL);
     void *found = wire_up_dlsym()(RTLD_DEFAULT, name);
-    return found ? found : wire_up_dlsym()(library, name);
+    return found ? found : wire_up_dlsym()(in->opened, name);
 }
 
-static bool find_objects(void *library)
+static bool find_objects(struct mpi_library *to, const struct source *in)
 {
-    mpi.world = find_object(library, "ompi_mpi_comm_world");
-    mpi.no_comm = find_object(library, "ompi_mpi_comm_null");
-    mpi.no_request = find_object(library, "ompi_request_null");
-    return mpi.world && mpi.no_comm && mpi.no_request;
+    to->world = find_object(in, "ompi_mpi_comm_world");
+    to->no_comm = find_object(in, "ompi_mpi_comm_null");
+    to->no_request = find_object(in, "ompi_request_null");
+    return to->world && to->no_comm && to->no_request;
 }
 #else
-static bool find_objects(void *library)
+static bool find_objects(struct mpi_library *to, const struct source *in)
 {
-    (void)library;
-    mpi.world = MPI_COMM_WORLD;
-    mpi.no_comm = MPI_COMM_NULL;
-    mpi.no_request = MPI_REQUEST_NULL;
+    (void)in;
+    to->world = MPI_COMM_WORLD;
+    to->no_comm = MPI_COMM_NULL;
+    to->no_request = MPI_REQUEST_NULL;
     return true;
 }
 #endif
@@ -78,22 +90,36 @@ static bool has_other_handles(const char *object) { return strstr(object, "libmp
 
 bool is_mpi_found(void) { return __atomic_load_n(&state, __ATOMIC_ACQUIRE) == FOUND; }
 
-/* Finds all in the library that has `function`, once. */
-static void find_library(const void *function)
+/* Keeps what was found in a library, unless another thread just did. */
+static void keep_library(void *library, const struct mpi_library *found, bool are_there)
 {
-    Dl_info it;
-    if (__atomic_load_n(&state, __ATOMIC_ACQUIRE) != UNKNOWN)
-        return;
     pthread_mutex_lock(&finding);
-    bool is_first = state == UNKNOWN && dladdr(function, &it);
-    void *library = is_first ? dlopen(it.dli_fname, RTLD_LAZY | RTLD_NOLOAD) : NULL;
-    if (library) {
+    if (state == UNKNOWN) {
+        mpi = *found;
         __atomic_store_n(&known_library, library, __ATOMIC_RELEASE);
-        bool is_usable = !has_other_handles(it.dli_fname);
-        bool are_there = is_usable && find_functions(library) && find_objects(library);
         __atomic_store_n(&state, are_there ? FOUND : LACKING, __ATOMIC_RELEASE);
     }
     pthread_mutex_unlock(&finding);
+}
+
+/* Finds all in the library that has `function`, once. No lock is held meanwhile: the system's own
+ * is waited for, that of dlopen, and whoever has that may make the first call too. */
+static void find_library(const void *function, const char *name, const void *wrapper)
+{
+    Dl_info it;
+    struct mpi_library found;
+    struct source in = {.wrapper = wrapper};
+    if (__atomic_load_n(&state, __ATOMIC_ACQUIRE) != UNKNOWN || !dladdr(function, &it))
+        return;
+    if (wire_up_find_first(name, wrapper) != function) {
+        in.opened = dlopen(it.dli_fname, RTLD_LAZY | RTLD_NOLOAD);
+        if (!in.opened)
+            return;
+    }
+    memset(&found, 0, sizeof found);
+    bool is_usable = !has_other_handles(it.dli_fname);
+    bool are_there = is_usable && find_functions(&found, &in) && find_objects(&found, &in);
+    keep_library(in.opened, &found, are_there);
 }
 
 /* Answers the library of MPI: the one that was found, or else the one that has its usual name. */
@@ -107,7 +133,9 @@ static void *get_library(void)
  * code at `caller` isn't its own: then the library is asked. */
 static void *find_next(const char *name, const void *wrapper, void *caller)
 {
-    void *found = wire_up_dlsym()(RTLD_NEXT, name);
+    void *found = wire_up_find_first(name, wrapper);
+    if (!found)
+        found = wire_up_dlsym()(RTLD_NEXT, name);
     if (!found)
         found = wire_up_find(name, caller, wrapper);
     void *library = found ? NULL : get_library();
@@ -119,7 +147,7 @@ void *look_up_function(void **known, const char *name, const void *wrapper, void
     int error = errno;
     void *found = find_next(name, wrapper, caller);
     if (found)
-        find_library(found);
+        find_library(found, name, wrapper);
     __atomic_store_n(known, found, __ATOMIC_RELAXED);
     errno = error;
     return found;

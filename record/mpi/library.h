@@ -26,6 +26,7 @@ struct mpi_library {
     __typeof__(&PMPI_Win_get_group) win_get_group;
     int (*type_size)(MPI_Datatype type, MPI_Count *size);
     __typeof__(&PMPI_Test_cancelled) test_cancelled;
+    __typeof__(&PMPI_Error_class) error_class;
     MPI_Comm world, no_comm;
     MPI_Request no_request;
 };

@@ -2,6 +2,8 @@
 #include "mpi/messages.h"
 #include "mpi/communicators.h"
 
+#include <string.h>
+
 /* Finds the number of the communicator of a message; 0 where there is no other side, and where
  * the communicator isn't known: such a call is counted. */
 static unsigned find_number(const struct call *call, struct envelope message)
@@ -49,25 +51,38 @@ unsigned long note_probe(const struct call *call, struct envelope from)
     return note_asked(call, "probe", from);
 }
 
-void note_sent(unsigned long number, int result)
+void note_sent(unsigned long number, int result, const char *how)
 {
-    struct text what;
-    if (!number || result != MPI_SUCCESS)
-        return;
-    wire_up_text_open(&what);
-    wire_up_text_add(&what, "0");
-    write_end(number, &what);
+    const struct numbers what = {.first = "0", .last = strcmp(how, WAITED) ? how : NULL};
+    if (number && result == MPI_SUCCESS)
+        wire_up_write_numbers('-', number, NULL, &what);
+}
+
+void note_unsent(unsigned long number)
+{
+    const struct numbers what = {.first = "1"};
+    if (number)
+        wire_up_write_numbers('-', number, NULL, &what);
 }
 
 /* Answers how many bytes came, or -1 where the status doesn't tell. */
-static long long tell_bytes(const MPI_Status *status)
+static long long tell_bytes(int result, const MPI_Status *status)
 {
 #ifdef OPEN_MPI
-    return (long long)status->_ucount;
+    return result == MPI_SUCCESS ? (long long)status->_ucount : -1;
 #else
-    (void)status;
+    (void)result, (void)status;
     return -1;
 #endif
+}
+
+/* Whether a receive or a probe that is over got a message. */
+static bool has_message(int result, const MPI_Status *status)
+{
+    int class = MPI_SUCCESS;
+    if (result == MPI_SUCCESS)
+        return !is_cancelled(result, status);
+    return status && mpi.error_class(result, &class) == MPI_SUCCESS && class == MPI_ERR_TRUNCATE;
 }
 
 bool is_cancelled(int result, const MPI_Status *status)
@@ -80,11 +95,11 @@ bool is_cancelled(int result, const MPI_Status *status)
 
 void note_received(unsigned long number, int result, const MPI_Status *status, const char *how)
 {
-    struct numbers what = {.first = "1"};
+    struct numbers what = {.first = result == MPI_SUCCESS ? "1" : "2"};
     if (!number)
         return;
-    if (result == MPI_SUCCESS && !is_cancelled(result, status)) {
-        long long bytes = tell_bytes(status);
+    if (has_message(result, status)) {
+        long long bytes = tell_bytes(result, status);
         what = (struct numbers){"0", {status->MPI_SOURCE, status->MPI_TAG, bytes}, 3, how};
     }
     wire_up_write_numbers('-', number, NULL, &what);

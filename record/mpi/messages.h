@@ -12,6 +12,12 @@ struct envelope {
     int rank, tag;
 };
 
+/* Answers a number for a message that is asked for. */
+static inline uintptr_t mix_envelope(struct envelope it)
+{
+    return ((uintptr_t)it.comm * 31 + (unsigned)it.rank) * 31 + (unsigned)it.tag;
+}
+
 /* How a request ended: the process waited for it, it asked whether it was over, or it waited for
  * any of several. */
 #define WAITED "wait"
@@ -24,13 +30,18 @@ unsigned long note_send(const struct call *call, struct envelope to, long long b
 unsigned long note_receive(const struct call *call, struct envelope from);
 unsigned long note_probe(const struct call *call, struct envelope from);
 
-/* Notes that a send ended, for one that ends only when its receive has begun. */
-void note_sent(unsigned long number, int result);
+/* Notes that a send ended, for one that ends only when its receive has begun, and how that was
+ * found. */
+void note_sent(unsigned long number, int result, const char *how);
+
+/* Notes that a send failed. Nothing where its number is 0. */
+void note_unsent(unsigned long number);
 
 /* Whether a receive that is over got no message, since it was cancelled in time. */
 bool is_cancelled(int result, const MPI_Status *status);
 
-/* Notes how a receive or a probe ended. Nothing where its number is 0. */
+/* Notes how a receive or a probe ended. Nothing where its number is 0. One whose buffer is too small
+ * for its message has got that. */
 void note_received(unsigned long number, int result, const MPI_Status *status, const char *how);
 
 /* Answers the status to hand to MPI: the recorder's own where one is needed, and the program

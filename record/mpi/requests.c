@@ -1,17 +1,17 @@
 /* The requests that a process has open. */
 #include "mpi/requests.h"
 
-#include <pthread.h>
 #include <stdint.h>
 #include <stdlib.h>
 #include <string.h>
 
 /* What a request is for: a receive that is posted, a collective that has begun, a communicator that
- * is being made, or a send or a receive that each start makes. */
+ * is being made, a synchronous send, or a send or a receive that each start makes. */
 struct request {
     uintptr_t handle;
-    enum { RECEIVE, COLLECTIVE, DUPLICATE, PERSISTENT_SEND, PERSISTENT_RECEIVE } kind;
-    unsigned long number; /* of the receive or the collective; 0 where none is open */
+    enum { RECEIVE, COLLECTIVE, DUPLICATE, SEND, PERSISTENT_SEND, PERSISTENT_RECEIVE } kind;
+    unsigned long number; /* of the call whose end is noted; 0 where none is open */
+    bool is_synchronous;  /* a persistent send */
     bool is_cancelled;    /* it was asked for, which may come too late */
     char *sources;        /* whose data the collective waits for; null is all */
     struct envelope message;
@@ -23,7 +23,7 @@ struct request {
 
 #define BUCKET_BITS 13
 static struct request *requests[1 << BUCKET_BITS];
-static pthread_mutex_t table = PTHREAD_MUTEX_INITIALIZER;
+static bool is_locked;
 
 /* --- the table --- */
 
@@ -41,12 +41,23 @@ static struct request **find_slot(MPI_Request request)
 static struct request find_request(MPI_Request request)
 {
     struct request found = {.handle = 0};
-    pthread_mutex_lock(&table);
+    wire_up_lock(&is_locked);
     const struct request *it = *find_slot(request);
     if (it)
         found = *it;
-    pthread_mutex_unlock(&table);
+    wire_up_unlock(&is_locked);
     return found;
+}
+
+/* Takes a request out of the table; null where its handle has none. */
+static struct request *take_out(MPI_Request request)
+{
+    wire_up_lock(&is_locked);
+    struct request **at = find_slot(request), *it = *at;
+    if (it)
+        *at = it->next;
+    wire_up_unlock(&is_locked);
+    return it;
 }
 
 static void free_request(struct request *it)
@@ -56,15 +67,7 @@ static void free_request(struct request *it)
     free(it);
 }
 
-void forget_request(MPI_Request request)
-{
-    pthread_mutex_lock(&table);
-    struct request **at = find_slot(request), *it = *at;
-    if (it)
-        *at = it->next;
-    pthread_mutex_unlock(&table);
-    free_request(it);
-}
+void forget_request(MPI_Request request) { free_request(take_out(request)); }
 
 /* Makes the request of a handle, which hangs nowhere else: called with the lock. */
 static struct request *hang(struct request **at)
@@ -81,7 +84,7 @@ static struct request *hang(struct request **at)
 static void keep(MPI_Request request, struct request what)
 {
     what.handle = (uintptr_t)request;
-    pthread_mutex_lock(&table);
+    wire_up_lock(&is_locked);
     struct request **at = find_slot(request);
     struct request *kept = *at;
     char *gone = kept ? kept->sources : NULL;
@@ -93,7 +96,7 @@ static void keep(MPI_Request request, struct request what)
     } else {
         gone = what.sources;
     }
-    pthread_mutex_unlock(&table);
+    wire_up_unlock(&is_locked);
     free(gone);
 }
 
@@ -101,32 +104,53 @@ bool is_open(MPI_Request request)
 {
     if (request == mpi.no_request)
         return false;
-    pthread_mutex_lock(&table);
+    wire_up_lock(&is_locked);
     const struct request *it = *find_slot(request);
     bool is_known = it && (it->number != 0 || it->kind == DUPLICATE);
-    pthread_mutex_unlock(&table);
+    wire_up_unlock(&is_locked);
     return is_known;
+}
+
+static bool is_of_send(const struct request *it)
+{
+    return it->kind == SEND || it->kind == PERSISTENT_SEND;
 }
 
 bool is_active_send(MPI_Request request)
 {
     if (request == mpi.no_request)
         return false;
-    pthread_mutex_lock(&table);
+    wire_up_lock(&is_locked);
     const struct request *it = *find_slot(request);
-    bool is_send = !it || it->kind == PERSISTENT_SEND;
-    pthread_mutex_unlock(&table);
+    bool is_send = !it || is_of_send(it) || it->kind == DUPLICATE;
+    wire_up_unlock(&is_locked);
     return is_send;
 }
 
+bool is_active(MPI_Request request) { return is_open(request) || is_active_send(request); }
+
 /* --- what is kept --- */
+
+/* Opens a receive in place of one that had its handle. False where the handle had none. */
+static bool reopen(MPI_Request request, unsigned long number)
+{
+    wire_up_lock(&is_locked);
+    struct request *it = *find_slot(request);
+    bool is_receive = it && it->kind == RECEIVE;
+    if (is_receive) {
+        it->number = number;
+        it->is_cancelled = false;
+    }
+    wire_up_unlock(&is_locked);
+    return is_receive;
+}
 
 void keep_receive(MPI_Request request, unsigned long number)
 {
-    if (number)
-        keep(request, (struct request){.kind = RECEIVE, .number = number});
-    else
+    if (!number)
         forget_request(request);
+    else if (!reopen(request, number))
+        keep(request, (struct request){.kind = RECEIVE, .number = number});
 }
 
 void keep_collective(MPI_Request request, unsigned long number, const char *sources)
@@ -144,9 +168,20 @@ void keep_duplicate(MPI_Request request, const struct communicator *parent, MPI_
     keep(request, what);
 }
 
-void keep_persistent_send(MPI_Request request, struct envelope to, long long bytes)
+void keep_synchronous_send(MPI_Request request, unsigned long number)
 {
-    keep(request, (struct request){.kind = PERSISTENT_SEND, .message = to, .bytes = bytes});
+    if (number)
+        keep(request, (struct request){.kind = SEND, .number = number});
+    else
+        forget_request(request);
+}
+
+void keep_persistent_send(MPI_Request request, struct envelope to, long long bytes,
+                          bool is_synchronous)
+{
+    struct request what = {.kind = PERSISTENT_SEND, .message = to, .bytes = bytes};
+    what.is_synchronous = is_synchronous;
+    keep(request, what);
 }
 
 void keep_persistent_receive(MPI_Request request, struct envelope from)
@@ -156,51 +191,90 @@ void keep_persistent_receive(MPI_Request request, struct envelope from)
 
 void note_freed(MPI_Request request)
 {
-    if (is_open(request))
+    if (is_open(request) && !is_active_send(request))
         note_other("MPI_Request_free of a receive");
     forget_request(request);
 }
 
 void note_cancel(MPI_Request request)
 {
-    pthread_mutex_lock(&table);
+    wire_up_lock(&is_locked);
     struct request *it = *find_slot(request);
-    bool is_receive = it && it->number;
-    if (is_receive)
+    bool is_receive = it && it->number && !is_of_send(it);
+    if (it && it->number)
         it->is_cancelled = true;
-    pthread_mutex_unlock(&table);
+    wire_up_unlock(&is_locked);
     if (!is_receive)
         note_other("MPI_Cancel");
 }
 
 /* --- starts --- */
 
-/* Sets the number of the receive that a persistent request has open. */
+/* Sets the number of the call that a persistent request has open. */
 static void set_number(MPI_Request request, unsigned long number)
 {
-    pthread_mutex_lock(&table);
+    wire_up_lock(&is_locked);
     struct request *it = *find_slot(request);
     if (it) {
         it->number = number;
         it->is_cancelled = false;
     }
-    pthread_mutex_unlock(&table);
+    wire_up_unlock(&is_locked);
 }
 
-void note_start(const struct call *call, MPI_Request request)
+static void start_send(const struct call *call, MPI_Request request, const struct request *it)
+{
+    unsigned long number = note_send(call, it->message, it->bytes);
+    if (it->is_synchronous)
+        set_number(request, number);
+}
+
+static void note_start(const struct call *call, MPI_Request request)
 {
     struct call start = {.function = "MPI_Start", .is_noted = true, .place = call->place};
     struct request it = find_request(request);
     if (it.handle && it.kind == PERSISTENT_SEND)
-        note_send(&start, it.message, it.bytes);
+        start_send(&start, request, &it);
     else if (it.handle && it.kind == PERSISTENT_RECEIVE)
         set_number(request, note_receive(&start, it.message));
+    else
+        note_other("MPI_Start of a request that isn't known");
 }
 
 void note_starts(const struct call *call, int count, const MPI_Request list[])
 {
     for (int n = 0; n < count; n++)
         note_start(call, list[n]);
+}
+
+void copy_handles(struct handles *to, int count, const MPI_Request list[])
+{
+    to->count = list && count > 0 ? count : 0;
+    to->at = to->count <= FEW_REQUESTS ? to->few : malloc((size_t)count * sizeof *list);
+    if (!to->at)
+        to->count = 0;
+    for (int n = 0; n < to->count; n++)
+        to->at[n] = list[n];
+}
+
+/* Gives what a handle stood for another one. */
+static void move_request(MPI_Request from, MPI_Request to)
+{
+    struct request *it = take_out(from);
+    if (it)
+        keep(to, *it);
+    else
+        forget_request(to);
+    free(it);
+}
+
+void move_changed(struct handles *before, const MPI_Request list[])
+{
+    for (int n = 0; n < before->count; n++)
+        if (list[n] != before->at[n])
+            move_request(before->at[n], list[n]);
+    if (before->at != before->few)
+        free(before->at);
 }
 
 /* --- ends --- */
@@ -219,7 +293,7 @@ void note_collected(unsigned long number, int result, const char *sources, const
 static struct request take_complete(MPI_Request request)
 {
     struct request done = {.handle = 0};
-    pthread_mutex_lock(&table);
+    wire_up_lock(&is_locked);
     struct request *it = *find_slot(request);
     if (it) {
         done = *it;
@@ -228,13 +302,35 @@ static struct request take_complete(MPI_Request request)
         if (it->kind == DUPLICATE)
             it->kind = RECEIVE;
     }
-    pthread_mutex_unlock(&table);
+    wire_up_unlock(&is_locked);
     return done;
+}
+
+/* Whether a persistent request is known by a handle. */
+static bool is_persistent(MPI_Request request)
+{
+    struct request it = find_request(request);
+    return it.handle && (it.kind == PERSISTENT_SEND || it.kind == PERSISTENT_RECEIVE);
+}
+
+bool is_over(int result, MPI_Request before, const MPI_Request *now)
+{
+    int class = MPI_SUCCESS;
+    if (result == MPI_SUCCESS || !now || *now != before)
+        return true;
+    if (mpi.error_class(result, &class) != MPI_SUCCESS || !is_persistent(before))
+        return false;
+    return class != MPI_ERR_ARG && class != MPI_ERR_REQUEST;
 }
 
 void note_complete(MPI_Request request, int result, const MPI_Status *status, const char *how)
 {
     struct request done = take_complete(request);
+    if (done.handle && is_of_send(&done)) {
+        if (!done.is_cancelled)
+            note_sent(done.number, result, how);
+        return;
+    }
     if (done.handle && done.kind == DUPLICATE && result == MPI_SUCCESS)
         note_duplicate(&done.parent, done.message.comm, done.made);
     else if (done.number && done.kind == COLLECTIVE)

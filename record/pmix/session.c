@@ -67,15 +67,16 @@ static void note_job(const pmix_proc_t *me, void *caller)
 
 void enter_session(const pmix_proc_t *me, void *caller)
 {
+    if (has_recording() && !wire_up_is_recording())
+        return;
+    struct identity it = {.job = me->nspace, .rank = me->rank};
+    it.length = strnlen(me->nspace, PMIX_MAX_NSLEN);
+    it.version = find_version(caller);
     pthread_mutex_lock(&counting);
     inits++;
     bool is_first = !has_recording();
-    if (is_first) {
-        struct identity it = {.job = me->nspace, .rank = me->rank};
-        it.length = strnlen(me->nspace, PMIX_MAX_NSLEN);
-        it.version = find_version(caller);
+    if (is_first)
         open_recording(&it);
-    }
     pthread_mutex_unlock(&counting);
     if (is_first)
         note_job(me, caller);

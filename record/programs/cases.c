@@ -2,9 +2,9 @@
  *
  *   wild1, wild2      a receive from any source, of which 1 or 2 is the slower sender: a race, whoever sleeps
  *   poll              a poll that succeeds, for luck: a race that only --strict shows
- *   probe, matched, later, split, window, duplicate, epoch, inter, merged, jump
+ *   probe, matched, later, split, window, duplicate, epoch, inter, merged, jump, begun, unsent
  *                     no race: ordered by a probe, a matched probe, a collective that doesn't block, a communicator or a window that is made,
- *                     an epoch of a window, a message after a jump out of MPI; tags: a tag for each message, received from any source
+ *                     an epoch, a message after a jump out of MPI or failed calls, a synchronous send; tags: each has its own; failed: a race, in part
  *   limit             the recording gets no more room than it has when the first message is sent
  *   sleep             takes six seconds; many and toomany: each process publishes 100 names, or 5000, and takes each away at once
  */
@@ -116,6 +116,7 @@ static void window(void)
         look_up("made");
         publish("fenced");
     }
+    MPI_Win_fence(MPI_MODE_NOPRECEDE, made);
     MPI_Win_fence(0, made);
     if (rank == 0)
         look_up("fenced");
@@ -235,6 +236,54 @@ static void many(int count)
     }
 }
 
+static void begun(void)
+{
+    MPI_Request request;
+    if (rank == 1) {
+        publish("port");
+        MPI_Recv(&x, 1, MPI_INT, 0, 0, MPI_COMM_WORLD, MPI_STATUS_IGNORE);
+    }
+    if (rank == 0) {
+        MPI_Issend(&x, 1, MPI_INT, 1, 0, MPI_COMM_WORLD, &request);
+        MPI_Wait(&request, MPI_STATUS_IGNORE);
+        look_up("port");
+    }
+}
+
+/* The first of process 0 meets the second of process 1. */
+static void failed(void)
+{
+    int y;
+    MPI_Comm_set_errhandler(MPI_COMM_WORLD, MPI_ERRORS_RETURN);
+    if (rank == 1)
+        MPI_Allreduce(&x, &y, -1, MPI_INT, MPI_SUM, MPI_COMM_WORLD);
+    MPI_Allreduce(&x, &y, 1, MPI_INT, MPI_SUM, MPI_COMM_WORLD);
+    if (rank == 0) {
+        publish("port");
+        MPI_Allreduce(&x, &y, -1, MPI_INT, MPI_SUM, MPI_COMM_WORLD);
+    } else {
+        usleep(300000);
+        look_up("port");
+    }
+}
+
+static void unsent(void)
+{
+    int two[2] = {0, 0};
+    MPI_Comm_set_errhandler(MPI_COMM_WORLD, MPI_ERRORS_RETURN);
+    if (rank == 0) {
+        MPI_Send(two, -1, MPI_INT, 1, 0, MPI_COMM_WORLD);
+        MPI_Send(two, 2, MPI_INT, 1, 0, MPI_COMM_WORLD);
+        publish("port");
+        MPI_Send(two, 2, MPI_INT, 1, 0, MPI_COMM_WORLD);
+    }
+    if (rank == 1) {
+        MPI_Recv(two, 1, MPI_INT, 0, 0, MPI_COMM_WORLD, MPI_STATUS_IGNORE);
+        MPI_Recv(two, 2, MPI_INT, 0, 0, MPI_COMM_WORLD, MPI_STATUS_IGNORE);
+        look_up("port");
+    }
+}
+
 int main(int count, char **words)
 {
     const char *which = count > 1 ? words[1] : "";
@@ -263,10 +312,16 @@ int main(int count, char **words)
         tags();
     else if (!strcmp(which, "jump"))
         jump();
+    else if (!strcmp(which, "begun"))
+        begun();
+    else if (!strcmp(which, "failed"))
+        failed();
     else if (!strcmp(which, "limit"))
         limit();
     else if (!strcmp(which, "many") || !strcmp(which, "toomany"))
         many(*which == 'm' ? 100 : 5000);
+    else if (!strcmp(which, "unsent"))
+        unsent();
     else if (!strcmp(which, "sleep"))
         sleep(6);
     if (rank == 0)

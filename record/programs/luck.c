@@ -4,10 +4,12 @@
  *   cancelled        a receive that is cancelled too late: a race that only --strict shows
  *   header, answer   a receive from whom a message came, or a send there: the same, since another's may come first
  *   several          a receive from whom one of several requests was the first: the same
- *   asked            a request that the program asks about before it waits for it: the same
- *   nothing          a poll that finds nothing: another run may publish no name, and the head tells of that
- *   sent, beside     a poll that finds a send complete, and a send that is over before a receive: another run may publish the name elsewhere,
- *                    and the head tells of that
+ *   asked, taken     a request that the program asks about before it waits for it, and synchronous sends that it polls one by one: the same
+ *   nothing, turn    a poll that finds nothing, or not yet: another run may publish no name, and the head tells of that
+ *   elsewhere        a poll that finds nothing, and then a wait for another request: another run need not wait for it, and the head tells of that
+ *   either           two receives that are polled in turn: another run may find the other first, and the head tells of that
+ *   sent, beside     a poll that finds a send complete, and a send that is over before a receive (among: a poll finds that): another run may
+ *                    publish the name elsewhere, and the head tells of that
  *   once, brief      a name that goes away when it is read, and a wait for ten seconds at most: races that the plan doesn't have, and that its
  *                    head tells of
  */
@@ -224,31 +226,143 @@ static void brief(void)
     }
 }
 
+/* The message with the tag 0 is the slower one. */
+static void turn(void)
+{
+    int is_there = 0, tag = 1;
+    while (rank == 0 && !is_there)
+        MPI_Iprobe(1, tag = 1 - tag, MPI_COMM_WORLD, &is_there, MPI_STATUS_IGNORE);
+    if (rank == 0 && tag == 1)
+        publish();
+    for (int n = 1; n >= 0; n--) {
+        if (rank == 0)
+            MPI_Recv(&x, 1, MPI_INT, 1, n, MPI_COMM_WORLD, MPI_STATUS_IGNORE);
+        if (rank == 1) {
+            usleep(n == 0 ? 300000 : 0);
+            MPI_Send(&rank, 1, MPI_INT, 0, n, MPI_COMM_WORLD);
+        }
+    }
+    MPI_Barrier(MPI_COMM_WORLD);
+    if (rank == 1)
+        look_up();
+}
+
+/* Process 1 receives before it sends. */
+static void among(void)
+{
+    MPI_Request requests[2];
+    int which, is_over = 0;
+    if (rank == 0) {
+        MPI_Irecv(&x, 1, MPI_INT, 1, 0, MPI_COMM_WORLD, &requests[0]);
+        MPI_Issend(&rank, 1, MPI_INT, 1, 0, MPI_COMM_WORLD, &requests[1]);
+        while (!is_over)
+            MPI_Testany(2, requests, &which, &is_over, MPI_STATUS_IGNORE);
+        if (which == 1)
+            publish();
+        MPI_Waitall(2, requests, MPI_STATUSES_IGNORE);
+    }
+    if (rank == 1) {
+        usleep(300000);
+        MPI_Recv(&x, 1, MPI_INT, 0, 0, MPI_COMM_WORLD, MPI_STATUS_IGNORE);
+        usleep(300000);
+        MPI_Send(&x, 1, MPI_INT, 0, 0, MPI_COMM_WORLD);
+    }
+    MPI_Barrier(MPI_COMM_WORLD);
+    if (rank == 1)
+        look_up();
+}
+
+#define TAKEN 20
+
+/* Process 1 is the slower one. */
+static void taken(void)
+{
+    MPI_Request requests[TAKEN];
+    int left = TAKEN, is_over;
+    for (int n = 0; rank == 0 && n < TAKEN; n++)
+        MPI_Issend(&x, 1, MPI_INT, 1, n, MPI_COMM_WORLD, &requests[n]);
+    for (int n = 0; rank == 0 && left > 0; n = (n + 1) % TAKEN)
+        if (requests[n] != MPI_REQUEST_NULL) {
+            MPI_Test(&requests[n], &is_over, MPI_STATUS_IGNORE);
+            left -= is_over;
+        }
+    if (rank == 0)
+        look_up();
+    if (rank == 1) {
+        publish();
+        usleep(300000);
+    }
+    for (int n = 0; rank == 1 && n < TAKEN; n++)
+        MPI_Recv(&x, 1, MPI_INT, 0, n, MPI_COMM_WORLD, MPI_STATUS_IGNORE);
+}
+
+/* Process 1 is the slower one. */
+static void elsewhere(void)
+{
+    MPI_Request requests[2];
+    int is_there = 0;
+    for (int n = 0; rank == 0 && n < 2; n++)
+        MPI_Irecv(&x, 1, MPI_INT, n + 1, 0, MPI_COMM_WORLD, &requests[n]);
+    while (rank == 0 && !is_there) {
+        MPI_Test(&requests[0], &is_there, MPI_STATUS_IGNORE);
+        if (!is_there)
+            MPI_Wait(&requests[1], MPI_STATUS_IGNORE);
+    }
+    if (rank == 0) {
+        look_up();
+        MPI_Wait(&requests[1], MPI_STATUS_IGNORE);
+    }
+    if (rank == 1)
+        usleep(300000);
+    if (rank == 2)
+        publish();
+    if (rank > 0)
+        MPI_Send(&rank, 1, MPI_INT, 0, 0, MPI_COMM_WORLD);
+}
+
+/* The message with the tag 0 is the slower one. */
+static void either(void)
+{
+    MPI_Request requests[2];
+    int first = -1, left = 2, is_there;
+    for (int n = 0; rank == 0 && n < 2; n++)
+        MPI_Irecv(&x, 1, MPI_INT, 1, n, MPI_COMM_WORLD, &requests[n]);
+    for (int n = 0; rank == 0 && left > 0; n = 1 - n)
+        if (requests[n] != MPI_REQUEST_NULL) {
+            MPI_Test(&requests[n], &is_there, MPI_STATUS_IGNORE);
+            left -= is_there;
+            if (is_there && first < 0)
+                first = n;
+        }
+    if (rank == 0 && first == 1)
+        publish();
+    for (int n = 1; rank == 1 && n >= 0; n--) {
+        usleep(300000);
+        MPI_Send(&rank, 1, MPI_INT, 0, n, MPI_COMM_WORLD);
+    }
+    MPI_Barrier(MPI_COMM_WORLD);
+    if (rank == 1)
+        look_up();
+}
+
+static const struct {
+    const char *name;
+    void (*run)(void);
+} programs[] = {
+    {"cancelled", cancelled}, {"header", header}, {"answer", answer}, {"several", several},
+    {"asked", asked}, {"nothing", nothing}, {"turn", turn}, {"sent", sent}, {"beside", beside},
+    {"among", among}, {"taken", taken}, {"elsewhere", elsewhere}, {"either", either},
+    {"once", once}, {"brief", brief},
+};
+
 int main(int count, char **words)
 {
     const char *which = count > 1 ? words[1] : "";
     MPI_Init(&count, &words);
     MPI_Comm_rank(MPI_COMM_WORLD, &rank);
-    if (!strcmp(which, "cancelled"))
-        cancelled();
-    else if (!strcmp(which, "header"))
-        header();
-    else if (!strcmp(which, "answer"))
-        answer();
-    else if (!strcmp(which, "several"))
-        several();
-    else if (!strcmp(which, "asked"))
-        asked();
-    else if (!strcmp(which, "nothing"))
-        nothing();
-    else if (!strcmp(which, "sent"))
-        sent();
-    else if (!strcmp(which, "beside"))
-        beside();
-    else if (!strcmp(which, "once"))
-        once();
-    else if (!strcmp(which, "brief"))
-        brief();
+    for (size_t n = 0; n < sizeof programs / sizeof *programs; n++)
+        if (!strcmp(which, programs[n].name))
+            programs[n].run();
     if (rank == 0)
         printf("%s done\n", which);
     MPI_Finalize();

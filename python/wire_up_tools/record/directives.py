@@ -11,14 +11,17 @@ from wire_up_tools.record.calls import (
     Lookup,
     Publish,
     Unpublish,
+    ValueKind,
 )
 
 COLLECT, WAIT = b"pmix.collect", b"pmix.wait"
 TIMEOUT, PERSISTENCE = b"pmix.timeout", b"pmix.persist"
 # From so many seconds on a time is as good as none: Open MPI gives ten minutes.
 LONG = 60
-# How long a name stays: until it is read, or until its process ends.
-FIRST_READ, OF_PROCESS = 1, 2
+# How long a name stays, as the numbers of pmix_common.h: until it is unpublished, until it is read,
+# or until its process ends, its application, or the session, which all that is recorded is in. The
+# standard's default is the application.
+UNTIL_UNPUBLISHED, FIRST_READ, OF_PROCESS, OF_APPLICATION, OF_SESSION = range(5)
 # Directives of a get that doesn't wait.
 AT_ONCE = (b"pmix.immediate", b"pmix.optional")
 KNOWN = (COLLECT, WAIT, *AT_ONCE)
@@ -53,13 +56,23 @@ def gives_up(action: Action) -> bool:
     return 0 < (find_number(action.directives, TIMEOUT) or 0) < LONG
 
 
-def goes_away(action: Action, lookups: int) -> bool:
-    """Whether a name that is published, and looked up so often, goes away by itself while others
-    may look it up."""
+def find_persistence(action: Action) -> Optional[int]:
+    """How long a name stays that a call publishes; None where that isn't known. The recorder once
+    didn't tell it: then it stays."""
     if not isinstance(action, Publish):
-        return False
-    how = find_number(action.directives, PERSISTENCE)
-    return how == OF_PROCESS or (how == FIRST_READ and lookups > 1)
+        return None
+    told = next((it.value for it in action.directives if it.key == PERSISTENCE), None)
+    if told is None:
+        return OF_APPLICATION
+    return UNTIL_UNPUBLISHED if told.kind is ValueKind.TYPE else told.number
+
+
+def goes_away(action: Action, lookups: int) -> bool:
+    """Whether a name that is published, and looked up so often, goes away by itself while others of
+    its application may look it up, or perhaps does."""
+    how = find_persistence(action)
+    stays = how in (UNTIL_UNPUBLISHED, OF_APPLICATION, OF_SESSION)
+    return not stays and (how != FIRST_READ or lookups > 1)
 
 
 def find_ending(action: Action) -> Ending:

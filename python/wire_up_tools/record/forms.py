@@ -198,7 +198,8 @@ MESSAGE = re.compile(
 # How many groups of it come up to the last one of each kind, but for a receive of any message.
 OF_SEND, OF_RECEIVE, OF_PROBE = 4, 7, 10
 MESSAGE_END = re.compile(rf"0 (-?\d{{1,9}}) (-?\d{{1,18}}) (-?\d{{1,18}})(?: {FOUND_BY})?")
-FAILED_MESSAGE_END = "1"
+# No message came: the receive was cancelled, or it failed.
+NO_MESSAGE, FAILED = "1", "2"
 # How a message was found, as a recording says it.
 FINDS: dict[Optional[str], int] = {it.value: n for n, it in enumerate(FOUND_WAYS) if it}
 
@@ -227,11 +228,21 @@ def read_message(text: str) -> Optional[Begun]:
 
 @functools.lru_cache(KEPT_RECORDS)
 def read_came(text: str) -> Optional[Came]:
-    """The message that a receive or a probe got; None where it failed."""
-    if text == FAILED_MESSAGE_END:
+    """The message that a receive or a probe got; None where none came."""
+    if text in (NO_MESSAGE, FAILED):
         return None
     source, tag, size, found_by = match(MESSAGE_END, text)
     return int(source), int(tag), int(size), FINDS.get(found_by, NOT_SAID)
+
+
+SENT = re.compile(rf"(-?\d{{1,10}})(?: {FOUND_BY})?")
+
+
+@functools.lru_cache(KEPT_RECORDS)
+def read_sent(text: str) -> tuple[int, int]:
+    """The status of a send that ended, and how that was found."""
+    status, found_by = match(SENT, text)
+    return int(status), FINDS.get(found_by, NOT_SAID)
 
 
 # --- ends of calls ---

@@ -21,6 +21,9 @@ from wire_up_tools.record.notes import Notes
 from wire_up_tools.record.processes import Process, Processes
 from wire_up_tools.record.streams import MISSED, Ask, Stream, Streams, sort_messages
 
+# What calls do, by their verbs.
+VERBS = {SEND: "sends", RECEIVE: "receives", PROBE: "probes"}
+
 
 @dataclass
 class Inbox:
@@ -146,15 +149,15 @@ class Taking:
     found: Found = field(default_factory=Found)
 
     def take(self, number: int) -> None:
-        """Takes a message."""
+        """Takes a message. A send that failed is none."""
         own = self.known.get(self.messages.communicators[number])
         if not own:
             left_out = self.inboxes.notes.left_out
             left_out["messages in communicators that aren't recorded"] += 1
-        elif self.messages.verbs[number] == SEND:
-            self.take_send(own, number)
-        else:
+        elif self.messages.verbs[number] != SEND:
             self.take_ask(own, number)
+        elif number not in self.messages.failures:
+            self.take_send(own, number)
 
     def take_send(self, own: Communicator, number: int) -> None:
         """Takes a message that is sent, if its target is there."""
@@ -192,11 +195,18 @@ class Taking:
         return is_of_any and others > 1
 
 
+def note_failures(messages: Messages, notes: Notes) -> None:
+    """Notes the calls that failed."""
+    for number in messages.failures:
+        notes.left_out[f"{VERBS[messages.verbs[number]]} that failed"] += 1
+
+
 def find_inboxes(processes: Processes, communicators: Communicators) -> Inboxes:
     """What each process is sent in each communicator, and what it asks for there."""
     inboxes = Inboxes()
     for process in processes.all:
         messages = process.recording.messages
+        note_failures(messages, inboxes.notes)
         taking = Taking(messages, communicators[process], inboxes)
         for number in range(len(messages)):
             taking.take(number)

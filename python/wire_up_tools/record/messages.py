@@ -24,9 +24,12 @@ SEND, RECEIVE, PROBE = range(3)
 ANY_RANK, ANY_TAG = -1 << 31, -1 << 63
 # The line of an end that isn't recorded.
 NO_LINE = 0
-# How a message was found, in the column `found_by`: no message was, or that isn't said, or so.
+# How a message, or the end of a send, was found, in the column `found_by`: none was, or that isn't
+# said, or so.
 NOTHING, NOT_SAID, BY_WAIT, BY_POLL, BY_SOME = range(5)
 FOUND_WAYS = (None, None, FoundBy.WAIT, FoundBy.POLL, FoundBy.SOME)
+# The status of a receive that was cancelled.
+CANCELLED = 1
 # Calls that are made of columns share what they do and how they end, where it is alike.
 KEPT = 1 << 12
 
@@ -65,7 +68,8 @@ class Messages:
     """The messages of a process. Each has a number, from 0 on, in the order in which they began.
 
     `peers` are ranks of the communicator, `sizes` those of what was sent or came, and `came_from`
-    and `came_tags` are those of what came. `failed` has the statuses other than success.
+    and `came_tags` are those of what came. `failed` has the statuses other than success. A send
+    ends where it failed, or where its receive is known to have begun.
     """
 
     def __init__(self) -> None:
@@ -110,6 +114,11 @@ class Messages:
         if status:
             self.failed[number] = status
 
+    def finish_send(self, number: int, at: int, status: int, found_by: int) -> None:
+        """Takes how a send ended, at a line, and how that was found."""
+        self.found_by[number] = found_by
+        self.finish(number, at, None, status)
+
     @functools.cached_property
     def texts(self) -> Sequence[Optional[str]]:
         """The words of threads and places, by their numbers."""
@@ -125,6 +134,15 @@ class Messages:
         """Whether one thread at most made the calls."""
         return len(set(self.threads)) < 2
 
+    @functools.cached_property
+    def failures(self) -> frozenset[int]:
+        """The calls that failed: not receives that were cancelled."""
+        return frozenset(
+            number
+            for number, status in self.failed.items()
+            if status != CANCELLED or self.verbs[number] == SEND
+        )
+
     @property
     def thread_words(self) -> set[str]:
         """The threads that made the calls."""
@@ -138,7 +156,7 @@ class Messages:
         """How a call ended; None where that isn't recorded."""
         if self.ends[number] == NO_LINE:
             return None
-        if self.found_by[number] == NOTHING:
+        if self.found_by[number] == NOTHING or self.verbs[number] == SEND:
             return End(self.failed.get(number, 0))
         return make_end(
             self.came_from[number],

@@ -111,12 +111,16 @@ def order_pairs(
     for its receive: so then it has none.
     """
     source, target = group.source, group.target
-    if source is target:
-        return
     sent, own = source.recording.messages, target.recording.messages
+    if source is target:
+        asked = map(group.letters.asked.__getitem__, group.match.asked)
+        ordered.left_to_luck += sum(map(own.is_left_to_luck, asked))
+        return
     is_all, useless = group.is_all, 0
     for send, number in choose_pairs(group, is_strict, ordered):
         waits = bool(sent.ends[send] and is_all and own.verbs[number] == RECEIVE)
+        ordered.left_to_luck += waits and sent.is_left_to_luck(send)
+        waits = waits and not (is_strict and sent.is_left_to_luck(send))
         is_useful = horizon.has_end(target, own.ends[number])
         if not (is_useful or waits and horizon.has_end(source, sent.ends[send])):
             useless += 1

@@ -24,9 +24,9 @@ from wire_up_tools.words import show
 # Functions whose result depends on which rank was faster, or behind which another rank's memory is
 # read, or that say what is done when an event comes. They order nothing.
 OF_LUCK = re.compile(
-    r"MPI_(Cancel( of a receive)?|Fetch_and_op|Compare_and_swap|(Get|Rget)_accumulate(_c)?"
-    r"|File_i?(read|write)_shared(_c)?|File_get_position_shared|Parrived|Request_get_status_\w+"
-    r"|Win_lock(_all)?|Win_shared_query(_c)?|Wait(any|some) of sends)"
+    r"MPI_(Cancel( of a receive)?|Fetch_and_op|Compare_and_swap|(Get_a|Rget_a|A|Ra)ccumulate(_c)?"
+    r"|File_i?(read|write)_shared(_c)?|File_get_(position_shared|size)|Parrived"
+    r"|Request_get_status_\w+|Win_lock(_all)?|Win_shared_query(_c)?|Wait(any|some) of sends)"
     r"|PMIx_Register_event_handler"
 )
 # Functions by which processes are started. A library of MPI calls them too.
@@ -69,7 +69,7 @@ def note_recording(recording: Recording, notes: Notes) -> None:
     for name, count in recording.polls.items():
         notes.of_luck[f"calls of {name} that found nothing"] += count
     for name, count in recording.found.items():
-        notes.of_luck[f"calls of {name} that found a send complete"] += count
+        notes.of_luck[f"calls of {name} that found a request complete"] += count
     if len(recording.threads) > 1 or recording.by_threads:
         notes.more_ordered[
             "processes that called from several threads: "

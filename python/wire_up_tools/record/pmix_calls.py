@@ -1,7 +1,6 @@
 """Makes lines of the calls of PMIx of each process, but for fences."""
 import re
 import sys
-from collections import Counter
 from collections.abc import Sequence
 from dataclasses import dataclass, field
 from typing import Optional, Union
@@ -23,7 +22,14 @@ from wire_up_tools.record.calls import (
     Value,
     ValueKind,
 )
-from wire_up_tools.record.directives import AT_ONCE, WAIT, goes_away, has_directive
+from wire_up_tools.record.directives import (
+    AT_ONCE,
+    OF_APPLICATION,
+    WAIT,
+    find_persistence,
+    goes_away,
+    has_directive,
+)
 from wire_up_tools.record.draft import Line, Part
 from wire_up_tools.record.messages import Messages
 from wire_up_tools.record.names import Spelling, is_reserved_by_pmix
@@ -246,25 +252,56 @@ class ProcessLines:
                 self.published = [it for it in self.published if it != key]
 
 
-def note_names(part: Part, notes: Notes) -> None:
-    """Notes the names that may go away by themselves, and those that were found, though no recorded
-    process published them."""
-    looked_up: Counter[str] = Counter()
-    published: dict[str, Call] = {}
-    found: list[str] = []
+@dataclass(frozen=True)
+class Uses:
+    """The lines that publish a name, and those that look it up."""
+
+    published: list[Line] = field(default_factory=list)
+    looked_up: list[Line] = field(default_factory=list)
+
+    @property
+    def goes_away(self) -> bool:
+        """Whether it goes away by itself while others may look it up."""
+        return any(goes_away(it.call.action, len(self.looked_up)) for it in self.published)
+
+    @property
+    def goes_with_application(self) -> bool:
+        """Whether it goes away with its application, and another one looks it up."""
+        return any(
+            find_persistence(it.call.action) == OF_APPLICATION
+            and it.process.application != other.process.application
+            for it in self.published
+            for other in self.looked_up
+        )
+
+
+def find_uses(part: Part) -> dict[str, Uses]:
+    """The uses of each name."""
+    found: dict[str, Uses] = {}
     for line in part.lines:
         verb, *rest = line.words.split(" ")
         if verb == "publish":
-            published[rest[0]] = line.call
+            found.setdefault(rest[0], Uses()).published.append(line)
         elif verb.startswith("lookup"):
-            looked_up[rest[0]] += 1
-            found += rest if line.value else ()
-    notes.more_ordered[
-        "names that go away by themselves (pmix.persist): in the plan they stay"
-    ] += sum(goes_away(it.action, looked_up[name]) for name, it in published.items())
+            found.setdefault(rest[0], Uses()).looked_up.append(line)
+    return found
+
+
+def note_names(part: Part, notes: Notes) -> None:
+    """Notes the names that may go away by themselves, and those that were found, though no recorded
+    process published them."""
+    uses = find_uses(part).values()
+    ways = {
+        "by themselves (pmix.persist)": sum(it.goes_away for it in uses),
+        "with their application, and that another looks up": sum(
+            it.goes_with_application for it in uses
+        ),
+    }
+    for how, count in ways.items():
+        notes.more_ordered[f"names that go away {how}: in the plan they stay"] += count
     notes.more_ordered[
         "lookups of names that no recorded process published: whoever did isn't in the plan"
-    ] += sum(it not in published for it in found)
+    ] += sum(bool(line.value) for it in uses if not it.published for line in it.looked_up)
 
 
 @dataclass(frozen=True)

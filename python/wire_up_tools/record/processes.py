@@ -2,6 +2,7 @@
 import re
 from collections.abc import Iterator, Mapping, Sequence
 from dataclasses import dataclass
+from functools import cached_property
 from typing import NamedTuple, Optional
 
 from wire_up_tools.limits import VERSION_1, Limits
@@ -19,13 +20,25 @@ from wire_up_tools.words import Words, show
 
 # With these statuses a call never began: the library refused it.
 NEVER_BEGAN = (-25, -27, -29, -31, -32, -47)
-JOB_SIZE = b"pmix.job.size"
+JOB_SIZE, NUMBER_OF_APPLICATION = b"pmix.job.size", b"pmix.appnum"
 # What the name of a node can't have.
 NOT_IN_NODES = b":,#*"
 # The name of the job of a plan that has one. Of several, each has its number besides.
 ONLY_JOB = "app"
 # How many missing ranks a refusal names.
 NAMED = 5
+
+
+def find_told_number(
+    call: Call, key: bytes, owners: Sequence[Optional[ProcessName]]
+) -> Optional[int]:
+    """The number that a call got, if it is a get of this key of one of these processes."""
+    get = call.action
+    if not isinstance(get, Get) or get.keys != (key,) or get.owner not in owners or call.status:
+        return None
+    value = call.end.value if isinstance(call.end, GetEnd) else None
+    read = re.fullmatch(r"\d+:(\d{1,7})", value.detail) if value else None
+    return int(read[1]) if read and value and value.kind is ValueKind.NUMBER else None
 
 
 @dataclass(frozen=True, eq=False)
@@ -40,6 +53,14 @@ class Process:
     node: str
     index: int
     recording: Recording
+
+    @cached_property
+    def application(self) -> tuple[bytes, int]:
+        """Its job and its number in that, of one program that the job runs: 0 where it asked for
+        none."""
+        own = (ProcessName(self.namespace, self.rank), ProcessName(b"", self.rank))
+        told = (find_told_number(it, NUMBER_OF_APPLICATION, own) for it in self.recording.calls)
+        return self.namespace, next((it for it in told if it is not None), 0)
 
 
 @dataclass(frozen=True)
@@ -91,16 +112,11 @@ def find_ranks_in_fence(call: Call, fence: Fence, namespace: bytes) -> Iterator[
                 yield name.rank
 
 
-def find_last_rank(call: Call, get: Get, namespace: bytes) -> Iterator[int]:
+def find_last_rank(call: Call, namespace: bytes) -> Iterator[int]:
     """The last rank of the job of a caller, if the call is a get of that job's size."""
-    whole_job = (None, ProcessName(namespace, AnyRank.ALL))
-    if get.keys != (JOB_SIZE,) or get.owner not in whole_job or call.status != 0:
-        return
-    value = call.end.value if isinstance(call.end, GetEnd) else None
-    if value and value.kind is ValueKind.NUMBER:
-        read = re.fullmatch(r"\d+:(\d{1,7})", value.detail)
-        if read:
-            yield int(read[1]) - 1
+    size = find_told_number(call, JOB_SIZE, (None, ProcessName(namespace, AnyRank.ALL)))
+    if size is not None:
+        yield size - 1
 
 
 class Told(NamedTuple):
@@ -123,8 +139,8 @@ def find_told_ranks(namespace: bytes, recordings: Sequence[Recording]) -> Iterat
             ranks: Iterator[int] = iter(())
             if isinstance(call.action, Fence):
                 ranks = find_ranks_in_fence(call, call.action, namespace)
-            elif isinstance(call.action, Get) and it.namespace == namespace:
-                ranks = find_last_rank(call, call.action, namespace)
+            elif it.namespace == namespace:
+                ranks = find_last_rank(call, namespace)
             yield from (Told(rank, it.path, call.begins) for rank in ranks)
 
 

@@ -23,7 +23,7 @@ from wire_up_tools.record.forms import (
     read_end,
     read_message,
     read_ranks,
-    read_status_end,
+    read_sent,
 )
 from wire_up_tools.record.messages import SEND, Messages
 from wire_up_tools.record.open_calls import OpenCalls
@@ -96,12 +96,13 @@ class Recording:
     `calls` are those of PMIx and the collectives of MPI, and `messages` its sends, receives and
     probes: both in the order in which they began.
     `others` counts the calls that are only counted, by their names; `polls` those that found
-    nothing before another call, and `found` those that found a send complete; `unseen` what called
-    MPI past the recorder, and `unseen_pmix` what called PMIx so, by what is said of it. `outer` has
-    the number of the place at which the function of a place was called; `by_threads` counts the
-    other threads that called, and the calls of MPI that another thread waited for. The job has
-    `job_size` processes, if the library told that. A process that `has_finalized` has called
-    nothing after PMIx_Finalize; the last line of a recording that `is_cut` was dropped.
+    nothing before another call, and `found` those that found a request complete which isn't known
+    as a receive or a collective; `unseen` what called MPI past the recorder, and `unseen_pmix` what
+    called PMIx so, by what is said of it. `outer` has the number of the place at which the function
+    of a place was called; `by_threads` counts the other threads that called, and the calls of MPI
+    that another thread waited for. The job has `job_size` processes, if the library told that. A
+    process that `has_finalized` has called nothing after PMIx_Finalize; the last line of a
+    recording that `is_cut` was dropped.
     """
 
     path: str
@@ -154,7 +155,7 @@ PLAIN = {
     "others": re.compile(r"others (\w+) (\d{1,18})"),
     "polled": re.compile(r"polled (MPI_\w+) (\d{1,18})"),
     "found": re.compile(r"found (MPI_\w+) (\d{1,18})"),
-    "unseen": re.compile(rf"unseen (call|object|pmix|namespace|child|handler) ({WORD})"),
+    "unseen": re.compile(rf"unseen (call|object|pmix|namespace|child|handler|stored) ({WORD})"),
     "thread": re.compile(r"thread"),
     "job": re.compile(r"job (\d{1,9})"),
     "world": re.compile(r"world (\d{1,9}) (\d{1,9})"),
@@ -187,6 +188,7 @@ UNSEEN_PMIX = {
     "namespace": "processes with {} in a namespace of its own: calls of it aren't seen",
     "child": "processes of which a child called PMIx or MPI by {}: its calls aren't seen",
     "handler": "processes that called in a handler of a {}: another run may call elsewhere",
+    "stored": "processes that called {}: in the plan their gets of what they stored wait",
 }
 
 
@@ -287,10 +289,10 @@ class Records:
         """Takes the end of a send, a receive or a probe. Raises ValueError."""
         messages = self.messages
         if messages.verbs[index] == SEND:
-            messages.finish(index, number, None, read_status_end(text).status)
+            messages.finish_send(index, number, *read_sent(text))
         else:
             came = read_came(text)
-            messages.finish(index, number, came, came is None)
+            messages.finish(index, number, came, 0 if came else int(text))
         self.by_threads += not messages.is_of_thread(index, thread)
 
     def note(self, number: int, text: str) -> None:

@@ -3,7 +3,7 @@ that it didn't meet, and the plan be more ordered than the program."""
 import re
 from collections.abc import Sequence
 
-from wire_up_tools.record.calls import Call
+from wire_up_tools.record.calls import Call, Collective
 from wire_up_tools.record.groups import Group, Letters
 from wire_up_tools.record.notes import Notes
 from wire_up_tools.record.processes import Process, Processes
@@ -11,7 +11,8 @@ from wire_up_tools.record.recordings import Recording
 from wire_up_tools.record.streams import MISSED
 
 # Functions that are only counted, and that send, or that receive or may leave a message there.
-SENDS = re.compile(r"MPI_(Isendrecv\w*|\w*send\w*_c)")
+UNKNOWN_START = "MPI_Start of a request that isn't known"
+SENDS = re.compile(rf"MPI_(Isendrecv\w*|\w*send\w*_c)|{UNKNOWN_START}")
 RECEIVES = re.compile(r"MPI_(\w*recv\w*|\w*probe\w*|Request_free.*|Cancel)")
 MISFIT = (
     "inboxes in which messages and receives don't fit: calls of MPI weren't seen, "
@@ -21,12 +22,19 @@ UNEQUAL = (
     "communicators in which the collectives of the processes don't fit: calls of MPI weren't seen, "
     "and those that were may be matched wrongly"
 )
+STARTED = "starts of requests that aren't known: what they send or receive isn't matched"
+FAILED = (
+    "collectives that failed, or were left by a jump: whether they met those of the others isn't "
+    "known"
+)
 
 
 def note_unseen(processes: Processes, notes: Notes) -> None:
-    """Notes what the processes are known to have called past the recorder."""
+    """Notes what the processes are known to have called past the recorder, or what isn't known of
+    what they called."""
     for process in processes.all:
         notes.more_ordered.update(process.recording.unseen)
+        notes.more_ordered[STARTED] += process.recording.others[UNKNOWN_START]
 
 
 def has_unknown_sends(recording: Recording) -> bool:
@@ -59,8 +67,19 @@ def note_unfit_collectives(
     members: frozenset[Process], calls: Sequence[Sequence[Call]], notes: Notes
 ) -> None:
     """Notes where the members of a communicator, which all came to their end, made calls of
-    collectives in it that don't fit."""
+    collectives in it that don't fit, or some that may have met none."""
     count = {len(them) for them in calls}
     is_whole = len(calls) == len(members)
-    if (len(count) > 1 or not is_whole) and all(it.recording.has_finalized for it in members):
+    are_over = all(it.recording.has_finalized for it in members)
+    if are_over and (len(count) > 1 or not is_whole):
         notes.more_ordered[UNEQUAL] += 1
+    if len(members) > 1:
+        notes.more_ordered[FAILED] += sum(
+            it.has_failed or (are_over and is_left(it)) for them in calls for it in them
+        )
+
+
+def is_left(call: Call) -> bool:
+    """Whether a collective that blocks didn't end."""
+    action = call.action
+    return not call.end and isinstance(action, Collective) and not action.name.startswith("i")
