@@ -123,6 +123,18 @@ class RunsTest(unittest.TestCase):
         self.assertIs(plan.find_call("a:0", 50), plan.calls_of["a:0"][49])
         self.assertEqual(len(plan.meetings[0].calls), 100)
 
+    def test_own_gets_are_in_no_run(self) -> None:
+        many = "".join(f"get a:{it} card\n" for it in range(1, 70))
+        own, other = "get a:0 card\n", "get a:1 seat\n"
+        script = f"{own}{many}{own}{own}{many}{other}{many}{own}"
+        text = f"rehearsal 1\nnode n\njob a\nrank n\n{script}".encode()
+        plan, calls = read_plan(text), read_calls(text)
+        kinds = [type(it).__name__ for it in plan.list_outline(plan.ranks[0])]
+        wanted = ["Call", "Series", "Call", "Call", "Series", "Call", "Series", "Call"]
+        self.assertEqual(kinds, wanted)
+        said = [(it.name, it.words, it.line) for it in plan.calls]
+        self.assertEqual(said, [(it.name, it.words, it.line) for it in calls])
+
 
 class ExamplesTest(unittest.TestCase):
     """What is read of the examples."""

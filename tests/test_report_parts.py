@@ -54,6 +54,14 @@ class PartsTest(unittest.TestCase):
         every = [(it.rank.name, it.number) for it in self.plan.calls]
         self.assertEqual(sorted(told), sorted(every))
 
+    def test_a_value_that_is_named_like_a_reply(self) -> None:
+        lines = ["rehearsal 1", "node n", "job app", "rank n", "put global k PMIX_SUCCESS"]
+        # (As many replies and values that are named so as there are lines.)
+        lines += ["commit", "get app:0 k", "get app:0 k", "get-now app:0 none"]
+        data = "".join(f"{it}\n" for it in lines).encode()
+        replies = find_replies(Asker(Checker(support.program()), data), read_plan(data))
+        self.assertEqual([it.call.number for it in replies.failures], [5])
+
     def test_a_plan_that_is_not_large_is_one_part(self) -> None:
         (part,) = plan_parts.list_parts(self.plan, self.data)
         self.assertEqual((part.data, part.find_number("app:1", 7)), (self.data, 7))

@@ -28,7 +28,8 @@ WORD = re.compile(r"[^ \t]+")
 RANK = re.compile(rb"\n[ \t]*rank[ \t]")
 # How many calls of a rank in a row make a series, by these verbs. A script has one only if it has
 # none of the others: comments, words further apart, lines without words or of other kinds.
-FEWEST, ASKING = 64, (b"get", b"get-now")
+FEWEST = 64
+ALIKE = re.compile(rb"(get|get-now) [^ \n]++ ([^ \n]++)\n(?:\1 [^ \n]++ \2\n)*+")
 ODD = (b"#", b"\r", b"\t", b"  ", b"\n\n", b"\n ", b" \n", b"\njob ", b"\nnode ")
 # Of how many bytes it is known how many lines end before them.
 BLOCK = 1 << 16
@@ -67,37 +68,34 @@ def is_plain(text: bytes) -> bool:
 
 def read_outline(rank: Rank, data: memoryview, line: int) -> list[Entry]:
     """Reads the outline of a plain script, which begins at a line."""
-    lines = bytes(data).split(b"\n")[1:-1]
+    text = bytes(data)
     outline: list[Entry] = []
-    at, start = 0, bytes(data[:256]).index(b"\n") + 1
-    while at < len(lines):
-        count = count_alike(rank, lines, at)
-        size = sum(map(len, itertools.islice(lines, at, at + count))) + count
-        said, end = lines[at].decode().split(" "), start + size
+    at, start = 1, text.index(b"\n") + 1
+    while start < len(text):
+        end = find_end(rank, text, start)
+        count = text.count(b"\n", start, end)
+        lines = text[start:end].split(b"\n", min(count, FEWEST))[:-1]
+        calls = [it.decode().split(" ") for it in lines]
         if count >= FEWEST:
-            place = rank, at + 1, line + at + 1
-            outline.append(Series(*place, count, said[0], said[-1], data[start:end]))
+            place = rank, at, line + at
+            outline.append(Series(*place, count, calls[0][0], calls[0][-1], data[start:end]))
         else:
-            for it in range(at, at + count):
-                text = lines[it].decode().split(" ")
-                outline.append(Call(rank, it + 1, text, line + it + 1, None))
+            outline += (Call(rank, it, said, line + it, None) for it, said in enumerate(calls, at))
         at, start = at + count, end
     return outline
 
 
-def count_alike(rank: Rank, lines: Sequence[bytes], at: int) -> int:
-    """How many lines from this one on ask other ranks for one key by one verb; at least 1."""
-    verb = lines[at].partition(b" ")[0]
-    if verb not in ASKING:
-        return 1
-    key = b" " + lines[at].rpartition(b" ")[2]
-    own = verb + b" " + rank.name.encode() + key
-    end, begins = at, verb + b" "
-    while end < len(lines) and lines[end].startswith(begins) and lines[end].endswith(key):
-        if lines[end] == own:
-            break
-        end += 1
-    return max(end - at, 1)
+def find_end(rank: Rank, text: bytes, start: int) -> int:
+    """Where the lines end that, from this one on, ask other ranks for one key by one verb. A line
+    of another kind is alone."""
+    alike = ALIKE.match(text, start)
+    if not alike:
+        return text.index(b"\n", start) + 1
+    own = b"\n%s %s %s\n" % (alike[1], rank.name.encode(), alike[2])
+    at = text.find(own, start - 1, alike.end()) + 1
+    if at == start:
+        return start + len(own) - 1
+    return at or alike.end()
 
 
 class Lines(Sequence[str]):

@@ -16,6 +16,7 @@ WaitingAt = Mapping[str, Optional[int]]
 LISTED = 40
 # A call that doesn't succeed, and the last line.
 OTHER_END = re.compile(rb"^(\S+:\d+) (\d+) \S+ (?!PMIX_SUCCESS\b)(\S+)", re.MULTILINE)
+SUCCESS = b" PMIX_SUCCESS"
 LAST = re.compile(rb"(?:^|\n)waiting \d+\n\Z")
 WAITING, UNREACHED = b"waiting", b"unreached"
 
@@ -65,6 +66,8 @@ def take_replies(asker: Asker, plan: Plan, part: PlanPart, replies: Replies) -> 
         with contextlib.closing(stream_blocks(asker, "replay")) as blocks:
             for block in blocks:
                 last = block
+                if all_succeed(block):
+                    continue
                 for said, count, reply in OTHER_END.findall(block):
                     rank = said.decode()
                     number = part.find_number(rank, int(count))
@@ -74,3 +77,9 @@ def take_replies(asker: Asker, plan: Plan, part: PlanPart, replies: Replies) -> 
         raise asker.refuse("report") from None
     if not LAST.search(last):
         raise asker.refuse("report")
+
+
+def all_succeed(block: bytes) -> bool:
+    """Whether each line is that of a call that succeeds, which is found without a look at each. A
+    value that is named like the reply stands right behind it: such a block isn't said to."""
+    return block.count(SUCCESS) == block.count(b"\n") and SUCCESS * 2 not in block
