@@ -107,25 +107,24 @@ def take_poll(
     about: str,
     has_found: str = "*flag",
     is_send: str = "false",
-    is_choice: str = "false",
     is_active: str = "true",
 ) -> str:
     """C that takes what a poll has found, if it is to be noted, of what it asked about, and counts
-    what it found at once, or first where it `is_choice` of several, if that `is_send`: not known as
-    a receive or a collective. What it found `is_active`, or was over before."""
-    take = f"wire_up_take_poll(&polls, find_site(&call, caller), {about}, {has_found})"
-    take = f"({take} || ({is_choice} && {has_found}))"
+    what it found if that `is_send`: not known as a receive or a collective. What it found
+    `is_active`, or was over before."""
     return f"""\
 static struct counter polls = {{.what = POLLS_IN_VAIN, .function = "$function"}};
 static struct counter sends = {{.what = FOUND_SENDS, .function = "$function"}};
-if ({is_watched} && result == MPI_SUCCESS && {take} && {is_send})
-    wire_up_count_alone(&sends);
-if ({is_watched} && result == MPI_SUCCESS && {has_found} && wire_up_has_polls() && {is_active})
-    wire_up_pass_polls();
+if ({is_watched} && result == MPI_SUCCESS) {{
+    wire_up_take_poll(&polls, find_site(&call, caller), {about}, {has_found});
+    if ({has_found} && {is_send})
+        wire_up_count_alone(&sends);
+    if ({has_found} && wire_up_has_polls() && {is_active})
+        wire_up_pass_polls();
+}}
 """
 
 
-CHOICE = "watch.active > 1"
 SOME_ACTIVE = "watch.active > 0"
 # The message that a probe asks for, as a number.
 ASKED = "mix_envelope((struct envelope){comm, from, tag})"
@@ -264,7 +263,6 @@ result = end_watch(&watch, result, count);
             "watch.mixed",
             "*ended != 0",
             "has_send(&watch, *ended, indices)",
-            CHOICE,
             SOME_ACTIVE,
         ),
     ),
@@ -277,7 +275,6 @@ result = end_watch(&watch, result, 0);
             "call.is_noted",
             "watch.mixed",
             is_send="has_send(&watch, 1, which)",
-            is_choice=CHOICE,
             is_active=SOME_ACTIVE,
         ) + """\
 if (watch.is_on && flag && *flag)
@@ -329,8 +326,8 @@ COLLECTIVES = {
     **{f"nonblocking/{name}": shape_nonblocking(it) for name, it in SOURCES.items()},
 }
 
-COUNT_CHILD = """\
-struct communicator parent = count_child(&call, comm);
+BEGIN_CHILD = """\
+struct communicator parent = begin_child(&call, comm);
 """
 
 COMMUNICATORS = {
@@ -361,20 +358,20 @@ if (call.is_noted) {
 if (call.is_noted)
     note_of_session(&call, result, made, tag);
 """),
-    "make": Shape(CALL + COUNT_CHILD, """\
+    "make": Shape(CALL + BEGIN_CHILD, """\
 note_child(&parent, result, made);
 """),
-    "make-later": Shape(CALL + COUNT_CHILD, """\
+    "make-later": Shape(CALL + BEGIN_CHILD, """\
 if (parent.number && result == MPI_SUCCESS)
-    keep_duplicate(*request, &parent, comm, made);
+    keep_duplicate(*request, &parent, made);
 """),
     # Each process gets data of every other: it is a collective too.
-    "make-gathering": Shape(BEGIN + COUNT_CHILD, """\
+    "make-gathering": Shape(BEGIN + BEGIN_CHILD, """\
 end_collective(&it, result, "all");
 note_child(&parent, result, made);
 """),
     # So it is for those that get a communicator.
-    "make-splitting": Shape(BEGIN + COUNT_CHILD, """\
+    "make-splitting": Shape(BEGIN + BEGIN_CHILD, """\
 end_collective(&it, result, color == MPI_UNDEFINED ? "none" : "all");
 note_child(&parent, result, made);
 """),
@@ -393,7 +390,7 @@ if (comm)
 }
 
 WINDOWS = {
-    "make-window": Shape(BEGIN + COUNT_CHILD, """\
+    "make-window": Shape(BEGIN + BEGIN_CHILD, """\
 end_collective(&it, result, "all");
 note_window(&parent, result, comm, made);
 """),

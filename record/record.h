@@ -129,11 +129,10 @@ EXPORTED void wire_up_count(struct counter *of);
 EXPORTED void wire_up_count_alone(struct counter *of);
 
 /* Takes what a poll of the code at `site` has found, which asked about a request or a message that
- * a number stands for, and answers whether it found something at once. One that finds nothing is
- * counted as soon as this thread makes another call that is noted or counted, unless the same code
- * has found the same by then: it has waited. What the program does otherwise, another run may not
- * do. */
-EXPORTED bool wire_up_take_poll(struct counter *of, const void *site, uintptr_t about,
+ * a number stands for. One that finds nothing is counted as soon as this thread makes another call
+ * that is noted or counted, unless the same code has found the same by then: it has waited. What
+ * the program does otherwise, another run may not do. */
+EXPORTED void wire_up_take_poll(struct counter *of, const void *site, uintptr_t about,
                                 bool has_found);
 
 /* Counts the polls of this thread that have found nothing yet: it waits for something else, or has

@@ -39,6 +39,7 @@ FAILED = (
     "2 collectives that failed, or were left by a jump: whether they met those of the others isn't "
     "known\n"
 )
+FOUND_BY_TEST = "MPI_Test that found a request complete"
 HANDLER = "1 processes that called in a handler of a signal: another run may call elsewhere\n"
 THREADS = (
     "1 processes that called from several threads: their calls stand in the order in which they "
@@ -54,8 +55,8 @@ class Program:
     isn't its name. `luck` counts the ends that were left to luck, without which there is one more
     finding, `received` the receives that could have got another message, and `first` those that
     were the first of several requests; `poll` is the function by which `polls` found nothing before
-    another call, and `called` another call whose result is luck. `is_replayed` says that the replay
-    of the plan answers as the program was answered."""
+    another call, and `called` another, whose `calls` have a result that is luck. `is_replayed` says
+    that the replay of the plan answers as the program was answered."""
 
     processes: int
     findings: int
@@ -69,6 +70,7 @@ class Program:
     poll: str = ""
     polls: int = 1
     called: str = ""
+    calls: int = 1
     is_replayed: bool = True
 
     @property
@@ -82,8 +84,8 @@ class Program:
     def says_otherwise(self, with_mpi: bool = True) -> str:
         """What the recorder says of polls that found nothing and, with MPI's order, of receives
         that could have got another message or were the first of several requests."""
-        told = [f"{self.polls} calls of {self.poll} that found nothing"] if self.poll else []
-        told += [f"1 calls of {self.called}"] if self.called else []
+        told = [f"{self.calls} calls of {self.called}"] if self.called else []
+        told += [f"{self.polls} calls of {self.poll} that found nothing"] if self.poll else []
         if self.received and with_mpi:
             told.append(f"{self.received} receives that could have got another message")
         if self.first and with_mpi:
@@ -111,6 +113,7 @@ CASES = {
     "epoch": Program(2, 0, 1),
     "tags": Program(2, 0, 0),
     "inter": Program(4, 0, 1),
+    "scattered": Program(2, 1, 1),
     "merged": Program(4, 0, 1),
     "jump": Program(2, 0, 1),
     "begun": Program(2, 0, 1),
@@ -164,12 +167,17 @@ LUCK = {
     "cancelled": Program(2, 0, 1, luck=1, poll="MPI_Iprobe"),
     "several": Program(3, 0, 1, luck=2, first=1),
     "asked": Program(2, 0, 1, luck=1),
-    "taken": Program(2, 0, 1, luck=20, poll="MPI_Test", polls=19),
+    "taken": Program(
+        2, 0, 1, luck=20, poll="MPI_Test", polls=19, called=FOUND_BY_TEST, calls=20
+    ),
     "elsewhere": Program(3, 0, 1, poll="MPI_Test"),
     "either": Program(2, 0, 1, poll="MPI_Test"),
     "nothing": Program(2, 0, 1, poll="MPI_Iprobe"),
+    "helped": Program(2, 0, 1, poll="MPI_Iprobe"),
+    "alike": Program(3, 0, 1, poll="MPI_Iprobe"),
     "turn": Program(2, 0, 1, poll="MPI_Iprobe"),
-    "sent": Program(2, 0, 1, called="MPI_Test that found a request complete"),
+    "sent": Program(2, 0, 1, called=FOUND_BY_TEST),
+    "patient": Program(2, 0, 1, called=FOUND_BY_TEST),
     "beside": Program(2, 0, 1, called="MPI_Waitany of sends"),
     "among": Program(2, 0, 1, called="MPI_Testany that found a request complete"),
     "header": Program(3, 0, 1, luck=2, received=2),
@@ -179,6 +187,7 @@ LUCK = {
 }
 # Those of `handles`.
 HANDLES = {
+    "freed": Program(2, 0, 1),
     "restarted": Program(2, 1, 1),
     "refused": Program(2, 0, 1),
 }

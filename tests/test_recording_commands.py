@@ -52,6 +52,22 @@ class CommandLineTest(RoomTest):
             self.assertIn(f"\n  {option.written}  ", ran.stdout)
         self.assertNotRegex(ran.stdout, r"(?m) $")
 
+    def test_two_texts_for_one_file(self) -> None:
+        link = os.path.join(self.room, "link")
+        os.symlink(self.plan, link)
+        for option, path in (("--answers", self.plan), ("--pattern", link)):
+            words = ["-o", self.plan, option, path, "--from", self.good]
+            self.use(words, 125, "each need a file of their own")
+        self.assertFalse(os.path.exists(self.plan))
+        self.use(["-o", os.devnull, "--answers", os.devnull, "--from", self.good], 0)
+
+    def test_what_is_no_file(self) -> None:
+        self.use(["-o", self.plan, "--from", "/dev/zero"], 125, "/dev/zero: it is no file")
+        folder = os.path.join(self.room, "folder")
+        os.mkdir(folder)
+        os.mkfifo(os.path.join(folder, "0.recording"))
+        self.use(["-o", self.plan, "--from", folder], 125, "0.recording: it is no file")
+
     def test_what_is_missing(self) -> None:
         self.use([], 125, "-o PLAN says where the plan goes")
         self.use(["-o", self.plan], 125, "which command?")

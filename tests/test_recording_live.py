@@ -127,9 +127,20 @@ class ProgramsTest(LiveTest):
         self.hold("spawn")
 
     def test_errors(self) -> None:
-        """Who ignores the statuses of requests is told of an error as without the recorder."""
+        """Who ignores the statuses of requests is told of an error as without the recorder, and an
+        error of one communicator isn't told to others."""
         ran = self.record_alike(mpirun(2, self.compile("errors")))
         self.assertEqual((ran.returncode, ran.stdout.count("statuses: ")), (0, 8))
+        self.assertIn("told to others: 0\n", ran.stdout)
+
+    def test_a_program_that_is_named_like_a_component(self) -> None:
+        """It isn't taken for a part of PMIx or MPI."""
+        for folder in ("pmix-tests", "openmpi"):
+            there = os.path.join(self.folder.name, folder)
+            os.mkdir(there)
+            path = shutil.copy(self.compile("early"), os.path.join(there, "mca_early"))
+            self.record(*mpirun(2, path))
+            self.assertEqual(read_file(self.plan).count("\npublish solver"), 1)
 
     def test_many_processes(self) -> None:
         """128 processes, where the machine isn't too small."""

@@ -28,6 +28,25 @@ class FencesTest(OrderTest):
         scripts = [["fence all collect", "publish m x"], ["fence all collect"]]
         self.become(tapes, scripts, "1 calls made while one")
 
+    def test_a_fence_of_many_that_does_not_block(self) -> None:
+        """Too many for names: it stands where it began."""
+        tapes = [Tape(rank) for rank in range(33)]
+        fence = tapes[0].begin("fence nb all -")
+        tapes[0].call(MARK).end(fence)
+        for it in tapes[1:]:
+            it.call("fence blocks all -")
+        scripts = [["fence all", "publish m x"], *[["fence all"]] * 32]
+        self.become(tapes, scripts, "1 calls made while one")
+
+    def test_a_fence_that_another_lets_collect(self) -> None:
+        """Names would bring no data."""
+        tapes = Tape(0), Tape(1)
+        fence = tapes[0].begin("fence nb all -")
+        tapes[0].call(MARK).end(fence)
+        tapes[1].call(f"fence blocks all {COLLECTS}")
+        scripts = [["fence all", "publish m x"], ["fence all collect"]]
+        self.become(tapes, scripts, "1 calls made while one")
+
     def test_a_get_without_a_line_in_a_fence(self) -> None:
         """What isn't in the plan isn't more ordered there."""
         tapes = Tape(0), Tape(1)

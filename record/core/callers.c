@@ -5,14 +5,16 @@
 #include "core/recording.h"
 
 #include <pthread.h>
+#include <signal.h>
 #include <stdint.h>
 #include <stdlib.h>
+#include <string.h>
 
 /* How many walks a thread keeps, and how many return addresses of each. */
 #define WALKS 64
 #define MOST_STEPS 24
 /* How often the frames of MPI's calls are walked whose line is known without it. The first call that
- * code makes is always walked: it may be in a handler of a signal. */
+ * code makes is always walked, and each that may be in a handler of a signal. */
 #define MOST_WALKS 20000
 
 struct step {
@@ -75,9 +77,9 @@ static _Unwind_Reason_Code take_frame(struct _Unwind_Context *frame, void *to)
     void *const *slot = (void *const *)(_Unwind_GetCFA(frame) - sizeof *slot);
     if ((const void *)slot < it->frame)
         return _URC_NO_REASON;
-    if (it->count < MOST_STEPS && address && *slot == address)
+    if (!it->found.is_over && it->count < MOST_STEPS && address && *slot == address)
         it->steps[it->count++] = (struct step){slot, address};
-    else
+    else if (!it->found.is_over)
         it->is_kept = false;
     return keep_frame(frame, &it->found);
 }
@@ -111,11 +113,28 @@ bool wire_up_recall_place(const void *caller, const void *frame, struct place **
     return true;
 }
 
+/* Which signals the thread doesn't take, as it was found outside of any handler: a handler has its
+ * own added. */
+static __thread sigset_t usual;
+
+static void read_signals(sigset_t *to)
+{
+    sigemptyset(to);
+    pthread_sigmask(SIG_BLOCK, NULL, to);
+}
+
+static bool is_as_usual(void)
+{
+    sigset_t now;
+    read_signals(&now);
+    return memcmp(&now, &usual, sizeof now) == 0;
+}
+
 struct place *wire_up_place_called(struct place *place, const void *frame)
 {
     bool is_known = walks && place->owner == OF_PROGRAM &&
                     __atomic_load_n(&place->is_walked, __ATOMIC_RELAXED);
-    if (is_known && __atomic_fetch_add(&walked, 1, __ATOMIC_RELAXED) > MOST_WALKS)
+    if (is_known && __atomic_fetch_add(&walked, 1, __ATOMIC_RELAXED) > MOST_WALKS && is_as_usual())
         return wire_up_in_python(place);
     return walk_from(place, frame);
 }
@@ -126,6 +145,8 @@ struct place *walk_from(struct place *place, const void *frame)
     note_thread();
     note_past_if_loaded();
     walk_frames(&it, place);
+    if (!it.found.is_in_handler)
+        read_signals(&usual);
     __atomic_store_n(&place->is_walked, true, __ATOMIC_RELAXED);
     struct walk *kept = it.is_kept ? find_slot(it.caller, frame) : NULL;
     if (kept)

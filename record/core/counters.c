@@ -10,7 +10,7 @@ struct open_poll {
     const void *site;
     uintptr_t about;
     struct counter *of; /* null where none is */
-    bool is_counted;    /* it stays here, so that what it finds later isn't found at once */
+    bool is_counted;    /* it stays here, so that it isn't counted again */
 };
 
 /* The open polls of a thread: each stands at its own place in a table, or behind it where others
@@ -151,11 +151,11 @@ static void close_poll(size_t place)
 
 bool wire_up_has_polls(void) { return uncounted > 0; }
 
-bool wire_up_take_poll(struct counter *of, const void *site, uintptr_t about, bool has_found)
+void wire_up_take_poll(struct counter *of, const void *site, uintptr_t about, bool has_found)
 {
     const struct open_poll it = {site, about, of, false};
     if ((has_found && !open_polls) || table.is_growing)
-        return has_found;
+        return;
     if (!table.at) {
         table.at = few;
         table.bits = FEW_BITS;
@@ -167,7 +167,6 @@ bool wire_up_take_poll(struct counter *of, const void *site, uintptr_t about, bo
         close_poll(place);
     else if (!has_found && is_first)
         open_poll(&it);
-    return has_found && is_first;
 }
 
 /* --- counts --- */

@@ -16,7 +16,7 @@ extern __thread unsigned open_polls;
 /* Counts them. */
 void count_polls(write_count *write);
 
-/* Counts them, and keeps them open: what they find later isn't found at once. */
+/* Counts them, and keeps them open, so that they aren't counted again. */
 void count_passed_polls(write_count *write);
 
 /* Writes each count. */

@@ -14,11 +14,17 @@
 #define LIST "OMPI_MCA_mca_base_env_list"
 #define OWN_LIST "LD_PRELOAD;WIRE_UP_RECORD"
 
+/* Whether a name is that of a command, or one with a version, such as mpirun.openmpi. */
+static bool is_command(const char *name, const char *command)
+{
+    return begins_with(name, command) && strchr(".-0123456789", name[strlen(command)]);
+}
+
 static bool is_launcher(void)
 {
     const char *name = program_invocation_short_name;
-    return begins_with(name, "mpirun") || begins_with(name, "mpiexec") ||
-           begins_with(name, "orterun");
+    return is_command(name, "mpirun") || is_command(name, "mpiexec") ||
+           is_command(name, "orterun");
 }
 
 /* Whether this is PRRTE's own launcher, which knows the option alone. */
@@ -49,7 +55,8 @@ __attribute__((constructor)) static void hand_on_by_options(int count, char **wo
 {
     static char option[] = "-x", preload[] = "LD_PRELOAD", folder[] = "WIRE_UP_RECORD";
     bool is_due = is_launcher_of_prrte() || (is_launcher() && has_option(count, words, option));
-    if (!is_due || !has_own_list())
+    bool is_launched = getenv("PMIX_NAMESPACE") != NULL;
+    if (!is_due || is_launched || !has_own_list())
         return;
     char **longer = calloc((size_t)count + 5, sizeof *longer);
     if (!longer)

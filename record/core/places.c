@@ -31,20 +31,26 @@ static const struct {
     {"record.so", OF_RECORDER},  {"record-mpi.so", OF_RECORDER},
 };
 
-/* Whether a file is in a folder whose name begins so, or below one. */
-static bool is_below(const char *path, const char *slash, const char *start)
+/* Whether a file is a component: a library in a folder whose name is this, with a version or
+ * without. */
+static bool is_component(const char *path, const char *folder)
 {
-    const char *found = strstr(path, start);
-    return found && slash && found < slash;
+    const char *slash = strrchr(path, '/'), *end = strrchr(path, '.'), *start = slash;
+    if (!slash || !begins_with(slash, "/mca_") || !end || strcmp(end, ".so"))
+        return false;
+    while (start > path && start[-1] != '/')
+        start--;
+    size_t size = strlen(folder);
+    return begins_with(start, folder) && start + size + strspn(start + size, "0123456789.") == slash;
 }
 
 enum owner find_object_owner(const char *path)
 {
     const char *slash = strrchr(path, '/');
     const char *name = slash ? slash + 1 : path;
-    if (begins_with(name, "mca_") && is_below(path, slash, "/pmix"))
+    if (is_component(path, "pmix"))
         return OF_PMIX;
-    if (begins_with(name, "mca_") && is_below(path, slash, "/openmpi"))
+    if (is_component(path, "openmpi"))
         return OF_MPI;
     for (size_t n = 0; n < sizeof objects / sizeof *objects; n++)
         if (begins_with(name, objects[n].start))
@@ -168,21 +174,25 @@ enum owner find_owner(const void *address)
     return it ? it->owner : OF_PROGRAM;
 }
 
+/* How many frames are looked at for a signal. */
+#define MOST_SEEN 64
+
 _Unwind_Reason_Code keep_frame(struct _Unwind_Context *frame, void *to)
 {
     struct frames *found = to;
     int is_interrupted = 0;
     const void *address = (const void *)_Unwind_GetIPInfo(frame, &is_interrupted);
-    found->is_in_handler = found->count && is_interrupted;
-    if (found->is_over || found->is_in_handler)
+    found->is_in_handler = is_interrupted != 0;
+    if (found->is_in_handler || ++found->seen > MOST_SEEN)
         return _URC_END_OF_STACK;
-    struct place *it = wire_up_place(address);
+    struct place *it = found->is_over ? NULL : wire_up_place(address);
     if (!it || it->owner != OF_PROGRAM) {
         found->is_over = found->count > 0;
         return _URC_NO_REASON;
     }
     found->at[found->count++] = it;
-    return found->count < MOST_FRAMES && !it->is_mpi4py ? _URC_NO_REASON : _URC_END_OF_STACK;
+    found->is_over = found->count == MOST_FRAMES;
+    return it->is_mpi4py ? _URC_END_OF_STACK : _URC_NO_REASON;
 }
 
 struct place *join_frames(const struct frames *found)

@@ -22,11 +22,13 @@ enum owner find_object_owner(const char *path);
 #define MOST_FRAMES 8
 struct frames {
     struct place *at[MOST_FRAMES];
-    size_t count;
-    bool is_over, is_in_handler; /* whether a signal interrupted what was there before */
+    size_t count, seen; /* of all frames that were looked at */
+    bool is_over;       /* no more are kept */
+    bool is_in_handler; /* a signal interrupted what was there before */
 };
 
-/* Keeps the place of a frame if it is the program's, and ends the walk behind the first that isn't. */
+/* Keeps the place of a frame if it is the program's, up to the first behind it that isn't. Then it
+ * only looks for a signal. */
 _Unwind_Reason_Code keep_frame(struct _Unwind_Context *frame, void *to);
 
 /* The place of the first of these, called at those of the others; null where there are none. */

@@ -16,6 +16,7 @@
 #include <stdlib.h>
 #include <string.h>
 #include <sys/mman.h>
+#include <sys/resource.h>
 #include <sys/stat.h>
 #include <time.h>
 #include <unistd.h>
@@ -575,15 +576,26 @@ static bool make_path(const char *folder, const struct identity *me, const char 
     return length >= 0 && (size_t)length < sizeof recording.path;
 }
 
+/* Gives the file the lowest descriptor that the program won't get, or the highest that there is. */
+static int move_up(int file)
+{
+    struct rlimit most;
+    int last = LOWEST_DESCRIPTOR, moved = -1;
+    if (getrlimit(RLIMIT_NOFILE, &most) == 0 && most.rlim_cur <= LOWEST_DESCRIPTOR)
+        last = (int)most.rlim_cur - 1;
+    for (; moved < 0 && last > file; last--)
+        moved = fcntl(file, F_DUPFD_CLOEXEC, last);
+    if (moved < 0)
+        return file;
+    close(file);
+    return moved;
+}
+
 /* Creates the file; -1 where it can't be. */
 static int create_file(void)
 {
     int opened = open(recording.path, O_RDWR | O_CREAT | O_EXCL | O_CLOEXEC, 0666);
-    int high = opened < 0 ? -1 : fcntl(opened, F_DUPFD_CLOEXEC, LOWEST_DESCRIPTOR);
-    if (high < 0)
-        return opened;
-    close(opened);
-    return high;
+    return opened < 0 ? opened : move_up(opened);
 }
 
 /* Writes the first lines, which say which process it is. */

@@ -66,6 +66,16 @@ __attribute__((noinline)) static void *find_for_lookup(wire_up_find_symbol *find
     return own;
 }
 
+/* Answers where to look: not where a lookup finds a function that the recorder alone has, as whoever
+ * asks for it is to be told that there is none. */
+__attribute__((noinline)) static void *choose_object(wire_up_find_symbol *find, void *object,
+                                                     const char *name)
+{
+    const void *found = object == RTLD_NEXT ? NULL : find(object, name);
+    bool is_alone = found && find_owner(found) == OF_RECORDER && !find_behind(name, found);
+    return is_alone ? dlopen("libc.so.6", RTLD_LAZY | RTLD_NOLOAD) : object;
+}
+
 /* A lookup in one object, or behind one, finds its functions past those that are preloaded. What the
  * recorder doesn't answer is looked up by a jump, as the optimizer writes such a call: what is found can
  * depend on where the lookup is made. */
@@ -74,7 +84,11 @@ __attribute__((optimize("O2"))) EXPORTED void *dlsym(void *restrict object,
 {
     wire_up_find_symbol *find = wire_up_dlsym();
     void *caller = __builtin_return_address(0), *own = NULL;
-    if (object != RTLD_DEFAULT && has_recorded_name(name) && is_of_program(caller))
-        own = find_for_lookup(find, object, name, caller);
+    if (has_recorded_name(name) && is_of_program(caller)) {
+        if (object != RTLD_DEFAULT)
+            own = find_for_lookup(find, object, name, caller);
+        if (!own)
+            object = choose_object(find, object, name);
+    }
     return own ? own : find(object, name);
 }

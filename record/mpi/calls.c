@@ -14,11 +14,8 @@ static bool is_watched(struct place *place)
 }
 
 /* Whether a call that a place makes can come from the program: a tool, the bindings of another
- * language, or a library that called back may stand between. */
-static bool has_origin(const struct place *place)
-{
-    return place && place->owner != OF_SYSTEM && place->owner != OF_RECORDER;
-}
+ * language, or a library that called back may stand between, or a signal. */
+static bool has_origin(const struct place *place) { return place && place->owner != OF_RECORDER; }
 
 /* Finds whether a call is noted that isn't remembered, and the line that it comes from. */
 static bool find_line(const void *caller, const void *frame, struct place **line)

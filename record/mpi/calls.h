@@ -16,14 +16,11 @@ struct call {
  * may be left by a jump or an exception. */
 struct call enter_call(const char *function, const void *caller);
 
-/* Answers what stands for the line of the program that makes a call: bindings of another language
- * call from the same code for all. */
+/* Answers what stands for the line of the program that makes a call, with those that called the
+ * function it is in: bindings of another language call from the same code for all. */
 static inline const void *find_site(const struct call *call, const void *caller)
 {
-    const struct place *place = call->place;
-    if (!place)
-        return caller;
-    return place->address ? place->address : place;
+    return call->place ? call->place : caller;
 }
 
 /* Writes that a call begins, and answers its number. The text is closed. */

@@ -12,6 +12,8 @@ struct collective begin_collective(const struct call *call, const char *kind, ui
         note_other(call->function);
         return it;
     }
+    if (it.comm.size == 1 && !it.comm.is_inter)
+        return it; /* nobody waits for anybody */
     struct text what;
     wire_up_text_open(&what);
     wire_up_text_add(&what, "collective %s %u", kind, it.comm.number);
@@ -116,5 +118,5 @@ const char *name_counted_of_types(struct text *room, const struct collective *it
 
 const char *name_all_by_own(const struct collective *it, struct counts counts, MPI_Datatype type)
 {
-    return it->comm.is_inter ? "all" : name_all(get_count(counts, it->comm.rank), type);
+    return name_all(get_count(counts, it->comm.rank), type);
 }

@@ -86,19 +86,22 @@ static unsigned number_communicator(void)
     return __atomic_add_fetch(&numbers, 1, __ATOMIC_RELAXED);
 }
 
-struct communicator count_child(const struct call *call, MPI_Comm parent)
+struct communicator begin_child(const struct call *call, MPI_Comm parent)
 {
     struct communicator found = {.number = 0};
-    if (!call->is_noted)
-        return found;
-    pthread_mutex_lock(&table);
-    struct communicator *it = *find_slot((uintptr_t)parent);
-    if (it) {
-        it->made++;
-        found = *it;
-    }
-    pthread_mutex_unlock(&table);
+    if (call->is_noted)
+        found = find_communicator((uintptr_t)parent);
+    found.made++;
     return found;
+}
+
+void count_child(const struct communicator *parent)
+{
+    pthread_mutex_lock(&table);
+    struct communicator *it = *find_slot(parent->handle);
+    if (it && it->number == parent->number)
+        it->made++;
+    pthread_mutex_unlock(&table);
 }
 
 /* --- members --- */
@@ -217,6 +220,8 @@ static void note_made(struct making making, int result, const MPI_Comm *made)
 void note_child(const struct communicator *parent, int result, const MPI_Comm *made)
 {
     struct making making = {.parent = parent->number, .how = "c", .nth = (long)parent->made};
+    if (result == MPI_SUCCESS)
+        count_child(parent);
     note_made(making, result, made);
 }
 
@@ -247,8 +252,10 @@ static void note_alike(const struct communicator *parent, MPI_Comm comm, char ho
 
 void note_window(const struct communicator *parent, int result, MPI_Comm comm, const MPI_Win *made)
 {
-    if (result == MPI_SUCCESS)
-        note_alike(parent, comm, 'v', (uintptr_t)*made);
+    if (result != MPI_SUCCESS)
+        return;
+    count_child(parent);
+    note_alike(parent, comm, 'v', (uintptr_t)*made);
 }
 
 bool take_fence(uintptr_t window, int how)
@@ -262,12 +269,12 @@ bool take_fence(uintptr_t window, int how)
     return is_end;
 }
 
-void note_duplicate(const struct communicator *parent, MPI_Comm comm, const MPI_Comm *made)
+void note_duplicate(const struct communicator *parent, const MPI_Comm *made)
 {
     if (parent->is_inter)
         forget_communicator((uintptr_t)*made);
     else
-        note_alike(parent, comm, 'c', (uintptr_t)*made);
+        note_alike(parent, *made, 'c', (uintptr_t)*made);
 }
 
 /* --- the world --- */
@@ -304,6 +311,7 @@ void note_world(void)
     mpi.comm_size(mpi.world, &size);
     write_world(rank, size);
     note_communicator(mpi.world, (struct making){.parent = 0, .how = "w", .nth = 0});
+    note_communicator(mpi.self, (struct making){.parent = 0, .how = "o", .nth = 0});
 }
 
 /* --- sessions --- */

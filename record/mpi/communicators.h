@@ -32,11 +32,14 @@ void forget_communicator(uintptr_t handle);
 /* Notes the world the first time that MPI is there. */
 void note_world(void);
 
-/* Counts one more communicator that is made of a parent, where the call is noted, and answers the
- * parent: every process of it counts the same. Its number is 0 where nothing is known of it. */
-struct communicator count_child(const struct call *call, MPI_Comm parent);
+/* Answers the parent of a communicator that is to be made, where the call is noted, with which one
+ * of its children that will be. Its number is 0 where nothing is known of it. */
+struct communicator begin_child(const struct call *call, MPI_Comm parent);
 
-/* Notes what was made of a parent. */
+/* Counts a child that is made: every process of the parent counts the same. */
+void count_child(const struct communicator *parent);
+
+/* Notes what was made of a parent, and counts it. */
 void note_child(const struct communicator *parent, int result, const MPI_Comm *made);
 
 /* Notes what some processes of a parent made by themselves: the others don't count it. */
@@ -52,13 +55,13 @@ void leave_session(void);
 void note_of_session(const struct call *call, int result, const MPI_Comm *made, const char *tag);
 
 /* Notes a communicator that was made of a parent, and has the same processes. */
-void note_duplicate(const struct communicator *parent, MPI_Comm comm, const MPI_Comm *made);
+void note_duplicate(const struct communicator *parent, const MPI_Comm *made);
 
 /* Takes a fence of a window, with what the program asserts of it, and answers whether it may end an
  * epoch. */
 bool take_fence(uintptr_t window, int how);
 
-/* Notes a window that was made over the processes of a communicator. */
+/* Notes a window that was made over the processes of a communicator, and counts it. */
 void note_window(const struct communicator *parent, int result, MPI_Comm comm, const MPI_Win *made);
 
 #endif

@@ -19,7 +19,7 @@ static void count_active(struct watch *watch, int count, const MPI_Request reque
 {
     for (int n = 0; n < count; n++) {
         watch->active += requests[n] != mpi.no_request;
-        watch->mixed = watch->mixed * 31 + (uintptr_t)requests[n];
+        watch->mixed = mix_in(watch->mixed, (uintptr_t)requests[n]);
     }
 }
 

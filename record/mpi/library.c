@@ -69,17 +69,21 @@ static void *find_object(const struct source *in, const char *name)
 static bool find_objects(struct mpi_library *to, const struct source *in)
 {
     to->world = find_object(in, "ompi_mpi_comm_world");
+    to->self = find_object(in, "ompi_mpi_comm_self");
     to->no_comm = find_object(in, "ompi_mpi_comm_null");
     to->no_request = find_object(in, "ompi_request_null");
-    return to->world && to->no_comm && to->no_request;
+    to->no_type = find_object(in, "ompi_mpi_datatype_null");
+    return to->world && to->self && to->no_comm && to->no_request && to->no_type;
 }
 #else
 static bool find_objects(struct mpi_library *to, const struct source *in)
 {
     (void)in;
     to->world = MPI_COMM_WORLD;
+    to->self = MPI_COMM_SELF;
     to->no_comm = MPI_COMM_NULL;
     to->no_request = MPI_REQUEST_NULL;
+    to->no_type = MPI_DATATYPE_NULL;
     return true;
 }
 #endif
@@ -176,7 +180,7 @@ void *look_up_tool(void **known, const char *name, const void *wrapper, void *ca
 long long count_bytes(MPI_Count count, MPI_Datatype type)
 {
     MPI_Count size = 0;
-    if (count > 0)
+    if (count > 0 && type != mpi.no_type)
         mpi.type_size(type, &size);
     return count > 0 ? (long long)count * size : 0;
 }

@@ -27,8 +27,9 @@ struct mpi_library {
     int (*type_size)(MPI_Datatype type, MPI_Count *size);
     __typeof__(&PMPI_Test_cancelled) test_cancelled;
     __typeof__(&PMPI_Error_class) error_class;
-    MPI_Comm world, no_comm;
+    MPI_Comm world, self, no_comm;
     MPI_Request no_request;
+    MPI_Datatype no_type;
 };
 extern struct mpi_library mpi;
 

@@ -4,6 +4,15 @@
 
 #include <string.h>
 
+/* Counts a call in a communicator that isn't known: it tells nothing of those that are. */
+static void note_unknown(const struct call *call)
+{
+    struct text what;
+    wire_up_text_open(&what);
+    wire_up_text_add(&what, "other %s in a communicator that isn't known", call->function);
+    write_plain(&what);
+}
+
 /* Finds the number of the communicator of a message; 0 where there is no other side, and where
  * the communicator isn't known: such a call is counted. */
 static unsigned find_number(const struct call *call, struct envelope message)
@@ -12,7 +21,7 @@ static unsigned find_number(const struct call *call, struct envelope message)
         return 0;
     unsigned number = number_of_communicator((uintptr_t)message.comm);
     if (!number)
-        note_other(call->function);
+        note_unknown(call);
     return number;
 }
 

@@ -12,10 +12,19 @@ struct envelope {
     int rank, tag;
 };
 
-/* Answers a number for a message that is asked for. */
-static inline uintptr_t mix_envelope(struct envelope it)
+/* Adds something to a number that stands for all that was added, and for nothing else: two numbers
+ * are alike once in 2^64. */
+static inline uint64_t mix_in(uint64_t number, uint64_t more)
 {
-    return ((uintptr_t)it.comm * 31 + (unsigned)it.rank) * 31 + (unsigned)it.tag;
+    number = (number ^ more) * 0xbf58476d1ce4e5b9u;
+    number = (number ^ number >> 31) * 0x94d049bb133111ebu;
+    return number ^ number >> 29;
+}
+
+/* Answers a number for a message that is asked for. */
+static inline uint64_t mix_envelope(struct envelope it)
+{
+    return mix_in((uintptr_t)it.comm, (uint64_t)(unsigned)it.rank << 32 | (unsigned)it.tag);
 }
 
 /* How a request ended: the process waited for it, it asked whether it was over, or it waited for

@@ -16,7 +16,7 @@ struct request {
     char *sources;        /* whose data the collective waits for; null is all */
     struct envelope message;
     long long bytes;
-    struct communicator parent; /* of a duplicate, as `message.comm` */
+    struct communicator parent; /* of a duplicate */
     const MPI_Comm *made;
     struct request *next;
 };
@@ -160,11 +160,11 @@ void keep_collective(MPI_Request request, unsigned long number, const char *sour
     keep(request, what);
 }
 
-void keep_duplicate(MPI_Request request, const struct communicator *parent, MPI_Comm comm,
-                    const MPI_Comm *made)
+void keep_duplicate(MPI_Request request, const struct communicator *parent, const MPI_Comm *made)
 {
-    struct request what = {.kind = DUPLICATE, .message = {.comm = comm}, .made = made};
+    struct request what = {.kind = DUPLICATE, .made = made};
     what.parent = *parent;
+    count_child(parent);
     keep(request, what);
 }
 
@@ -332,7 +332,7 @@ void note_complete(MPI_Request request, int result, const MPI_Status *status, co
         return;
     }
     if (done.handle && done.kind == DUPLICATE && result == MPI_SUCCESS)
-        note_duplicate(&done.parent, done.message.comm, done.made);
+        note_duplicate(&done.parent, done.made);
     else if (done.number && done.kind == COLLECTIVE)
         note_collected(done.number, result, done.sources ? done.sources : "all", how);
     else

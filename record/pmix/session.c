@@ -30,39 +30,48 @@ bool is_launcher(void)
     return false;
 }
 
-/* Asks the library that the code at `caller` calls how many processes the job has: 0 where it doesn't
- * know. */
-static unsigned find_job_size(const pmix_proc_t *me, void *caller)
+typedef pmix_status_t get_function(const pmix_proc_t *, const char[], const pmix_info_t[], size_t,
+                                   pmix_value_t **);
+
+/* Asks what the library knows by itself of a process or its job, and notes it after a word. */
+static void note_told(get_function *get, const pmix_proc_t *whom, const char *key, const char *word)
 {
-    typedef pmix_status_t get_function(const pmix_proc_t *, const char[], const pmix_info_t[], size_t,
-                                       pmix_value_t **);
-    get_function *get = (get_function *)wire_up_find("PMIx_Get", caller, (const void *)&find_version);
+    struct text what;
     pmix_info_t here;
-    pmix_proc_t whole = *me;
     pmix_value_t *found = NULL;
     memset(&here, 0, sizeof here);
     strcpy(here.key, PMIX_OPTIONAL);
     here.value.type = PMIX_BOOL;
     here.value.data.flag = true;
-    whole.rank = PMIX_RANK_WILDCARD;
-    if (!get || get(&whole, PMIX_JOB_SIZE, &here, 1, &found) != PMIX_SUCCESS || !found)
-        return 0;
-    unsigned size = found->type == PMIX_UINT32 ? found->data.uint32 : 0;
-    free(found);
-    return size;
-}
-
-/* Notes how many processes the job has: each should leave a recording. */
-static void note_job(const pmix_proc_t *me, void *caller)
-{
-    unsigned size = wire_up_is_recording() ? find_job_size(me, caller) : 0;
-    struct text what;
-    if (!size)
+    if (get(whom, key, &here, 1, &found) != PMIX_SUCCESS || !found)
         return;
     wire_up_text_open(&what);
-    wire_up_text_add(&what, "job %u", size);
-    wire_up_write('=', 0, NULL, &what);
+    wire_up_text_add(&what, "%s ", word);
+    if (found->type == PMIX_UINT32) {
+        wire_up_text_add(&what, "%u", found->data.uint32);
+        wire_up_write('=', 0, NULL, &what);
+    } else if (found->type == PMIX_STRING && found->data.string) {
+        add_word(&what, found->data.string, strlen(found->data.string));
+        wire_up_write('=', 0, NULL, &what);
+        free(found->data.string);
+    }
     wire_up_text_close(&what);
+    free(found);
+}
+
+/* Notes what the library that the code at `caller` calls tells of the job, and of the process in it:
+ * each process should leave a recording, some share what one program of the job publishes, and some
+ * a node. */
+static void note_place_in_job(const pmix_proc_t *me, void *caller)
+{
+    get_function *get = (get_function *)wire_up_find("PMIx_Get", caller, (const void *)&find_version);
+    pmix_proc_t whole = *me;
+    whole.rank = PMIX_RANK_WILDCARD;
+    if (!get || !wire_up_is_recording())
+        return;
+    note_told(get, &whole, PMIX_JOB_SIZE, "job");
+    note_told(get, me, PMIX_APPNUM, "application");
+    note_told(get, me, PMIX_HOSTNAME, "node");
 }
 
 void enter_session(const pmix_proc_t *me, void *caller)
@@ -79,7 +88,7 @@ void enter_session(const pmix_proc_t *me, void *caller)
         open_recording(&it);
     pthread_mutex_unlock(&counting);
     if (is_first)
-        note_job(me, caller);
+        note_place_in_job(me, caller);
 }
 
 void leave_session(void)

@@ -5,7 +5,7 @@
  *   probe, matched, later, split, window, duplicate, epoch, inter, merged, jump, begun, unsent
  *                     no race: ordered by a probe, a matched probe, a collective that doesn't block, a communicator or a window that is made,
  *                     an epoch, a message after a jump out of MPI or failed calls, a synchronous send; tags: each has its own; failed: a race, in part
- *   limit             the recording gets no more room than it has when the first message is sent
+ *   limit             the recording gets no more room than it has when the first message is sent; scattered: nothing is, and nobody waits: a race
  *   sleep             takes six seconds; many and toomany: each process publishes 100 names, or 5000, and takes each away at once
  */
 #include <mpi.h>
@@ -284,6 +284,18 @@ static void unsent(void)
     }
 }
 
+static void scattered(void)
+{
+    const int counts[] = {0};
+    MPI_Comm both;
+    MPI_Intercomm_create(MPI_COMM_SELF, 0, MPI_COMM_WORLD, 1 - rank, 99, &both);
+    if (rank == 0)
+        publish("port");
+    MPI_Reduce_scatter(&rank, &x, counts, MPI_INT, MPI_SUM, both);
+    if (rank == 1)
+        look_up("port");
+}
+
 int main(int count, char **words)
 {
     const char *which = count > 1 ? words[1] : "";
@@ -322,6 +334,8 @@ int main(int count, char **words)
         many(*which == 'm' ? 100 : 5000);
     else if (!strcmp(which, "unsent"))
         unsent();
+    else if (!strcmp(which, "scattered"))
+        scattered();
     else if (!strcmp(which, "sleep"))
         sleep(6);
     if (rank == 0)

@@ -37,6 +37,30 @@ static void exchange(int rank, int way, MPI_Status *told)
     }
 }
 
+static int errors;
+
+static void count_error(MPI_Comm *comm, int *error, ...)
+{
+    (void)comm;
+    (void)error;
+    errors++;
+}
+
+/* What is wrong in a call is told to its own communicator alone. */
+static void send_nothing(int rank)
+{
+    MPI_Comm own;
+    MPI_Errhandler handler;
+    MPI_Comm_dup(MPI_COMM_WORLD, &own);
+    MPI_Comm_set_errhandler(own, MPI_ERRORS_RETURN);
+    MPI_Comm_create_errhandler(count_error, &handler);
+    MPI_Comm_set_errhandler(MPI_COMM_WORLD, handler);
+    MPI_Comm_set_errhandler(MPI_COMM_SELF, handler);
+    int result = MPI_Send(&rank, 1, MPI_DATATYPE_NULL, 0, 0, own);
+    if (rank == 0)
+        printf("a send of no type: %d, told to others: %d\n", result != MPI_SUCCESS, errors);
+}
+
 int main(int count, char **words)
 {
     int rank;
@@ -47,6 +71,7 @@ int main(int count, char **words)
         exchange(rank, way, statuses);
         exchange(rank, way, MPI_STATUSES_IGNORE);
     }
+    send_nothing(rank);
     MPI_Finalize();
     return 0;
 }

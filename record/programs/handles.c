@@ -3,6 +3,7 @@
  *
  *   restarted  a buffered send that is started again before its message is fetched, for which MPI may take another handle: a race
  *   refused    a test that MPI refuses for its arguments, so that the receive stays open: no race
+ *   freed      a communicator that is a duplicate of one which is freed before it is taken: no race
  */
 #include <mpi.h>
 #include <stdio.h>
@@ -65,6 +66,25 @@ static void refused(void)
     }
 }
 
+/* The barriers let the duplicate be made. */
+static void freed(void)
+{
+    MPI_Comm parent, made;
+    MPI_Request request;
+    MPI_Comm_dup(MPI_COMM_WORLD, &parent);
+    MPI_Comm_idup(parent, &made, &request);
+    for (int n = 0; n < 50; n++)
+        MPI_Barrier(MPI_COMM_WORLD);
+    MPI_Comm_free(&parent);
+    MPI_Wait(&request, MPI_STATUS_IGNORE);
+    if (rank == 0)
+        MPI_Publish_name("port", MPI_INFO_NULL, "port");
+    MPI_Barrier(made);
+    if (rank == 1)
+        look_up();
+    MPI_Comm_free(&made);
+}
+
 int main(int count, char **words)
 {
     const char *which = count > 1 ? words[1] : "";
@@ -75,6 +95,8 @@ int main(int count, char **words)
         restarted();
     if (!strcmp(which, "refused"))
         refused();
+    if (!strcmp(which, "freed"))
+        freed();
     if (rank == 0)
         printf("%s done\n", which);
     MPI_Finalize();

@@ -5,11 +5,11 @@
  *   header, answer   a receive from whom a message came, or a send there: the same, since another's may come first
  *   several          a receive from whom one of several requests was the first: the same
  *   asked, taken     a request that the program asks about before it waits for it, and synchronous sends that it polls one by one: the same
- *   nothing, turn    a poll that finds nothing, or not yet: another run may publish no name, and the head tells of that
+ *   nothing, turn    a poll that finds nothing, or not yet (as in helped, alike): another run may publish no name, and the head tells of that
  *   elsewhere        a poll that finds nothing, and then a wait for another request: another run need not wait for it, and the head tells of that
  *   either           two receives that are polled in turn: another run may find the other first, and the head tells of that
- *   sent, beside     a poll that finds a send complete, and a send that is over before a receive (among: a poll finds that): another run may
- *                    publish the name elsewhere, and the head tells of that
+ *   sent, beside     a poll that finds a send complete (patient: later), and a send that is over before a receive (among: a poll finds that):
+ *                    another run may publish the name elsewhere, and the head tells of that
  *   once, brief      a name that goes away when it is read, and a wait for ten seconds at most: races that the plan doesn't have, and that its
  *                    head tells of
  */
@@ -345,14 +345,89 @@ static void either(void)
         look_up();
 }
 
+/* Asks whether a message of process 1 is there, once or until it is. */
+static int ask_for(int tag, int is_patient)
+{
+    int is_there = 0;
+    do
+        MPI_Iprobe(1, tag, MPI_COMM_WORLD, &is_there, MPI_STATUS_IGNORE);
+    while (is_patient && !is_there);
+    return is_there;
+}
+
+/* The code that asks is the same; the lines aren't that call it. */
+static void helped(void)
+{
+    if (rank == 0) {
+        int is_early = !ask_for(0, 0);
+        ask_for(0, 1);
+        if (is_early)
+            publish();
+        MPI_Recv(&x, 1, MPI_INT, 1, 0, MPI_COMM_WORLD, MPI_STATUS_IGNORE);
+    }
+    if (rank == 1) {
+        usleep(300000);
+        MPI_Send(&rank, 1, MPI_INT, 0, 0, MPI_COMM_WORLD);
+    }
+    MPI_Barrier(MPI_COMM_WORLD);
+    if (rank == 1)
+        look_up();
+}
+
+/* Process 1 is the slower one. What the polls ask for isn't the same, nor is it like each other. */
+static void alike(void)
+{
+    const int tags[] = {31, 0};
+    int are_there[] = {0, 0};
+    for (int n = 0; rank == 0 && n < 2; n++)
+        do
+            MPI_Iprobe(n + 1, tags[n], MPI_COMM_WORLD, &are_there[n], MPI_STATUS_IGNORE);
+        while (n == 1 && !are_there[n]);
+    if (rank == 0 && !are_there[0])
+        publish();
+    for (int n = 0; rank == 0 && n < 2; n++)
+        MPI_Recv(&x, 1, MPI_INT, n + 1, tags[n], MPI_COMM_WORLD, MPI_STATUS_IGNORE);
+    if (rank > 0) {
+        usleep(rank == 1 ? 300000 : 0);
+        MPI_Send(&rank, 1, MPI_INT, 0, tags[rank - 1], MPI_COMM_WORLD);
+    }
+    MPI_Barrier(MPI_COMM_WORLD);
+    if (rank == 1)
+        look_up();
+}
+
+/* Process 1 is the slower one. */
+static void patient(void)
+{
+    static char large[1 << 22];
+    MPI_Request request;
+    int is_over = 0;
+    if (rank == 0) {
+        MPI_Isend(large, sizeof large, MPI_CHAR, 1, 0, MPI_COMM_WORLD, &request);
+        for (int n = 0; n < 100 && !is_over; n++, usleep(50000))
+            MPI_Test(&request, &is_over, MPI_STATUS_IGNORE);
+        if (is_over)
+            publish();
+        MPI_Wait(&request, MPI_STATUS_IGNORE);
+    }
+    if (rank == 1) {
+        usleep(300000);
+        MPI_Recv(large, sizeof large, MPI_CHAR, 0, 0, MPI_COMM_WORLD, MPI_STATUS_IGNORE);
+    }
+    MPI_Barrier(MPI_COMM_WORLD);
+    if (rank == 1)
+        look_up();
+}
+
 static const struct {
     const char *name;
     void (*run)(void);
 } programs[] = {
     {"cancelled", cancelled}, {"header", header}, {"answer", answer}, {"several", several},
-    {"asked", asked}, {"nothing", nothing}, {"turn", turn}, {"sent", sent}, {"beside", beside},
-    {"among", among}, {"taken", taken}, {"elsewhere", elsewhere}, {"either", either},
-    {"once", once}, {"brief", brief},
+    {"asked", asked}, {"nothing", nothing}, {"helped", helped}, {"alike", alike},
+    {"turn", turn}, {"sent", sent}, {"patient", patient}, {"beside", beside}, {"among", among},
+    {"taken", taken}, {"elsewhere", elsewhere}, {"either", either}, {"once", once},
+    {"brief", brief},
 };
 
 int main(int count, char **words)

@@ -1,5 +1,6 @@
 """The command line of the recorder: its options, its help, and its statuses."""
 import argparse
+import os
 import re
 import signal
 import sys
@@ -110,6 +111,14 @@ def read_where_request(words: Sequence[str]) -> WhereRequest:
     return WhereRequest(words[0], int(words[1]), words[2])
 
 
+def refuse_alike(output: Output) -> None:
+    """Refuses two texts for one file. Raises Unusable."""
+    paths = [it for it in (output.plan, output.answers, output.pattern) if it]
+    files = [os.path.realpath(it) for it in paths if os.path.isfile(it) or not os.path.exists(it)]
+    if len(set(files)) < len(files):
+        raise Unusable("-o, --answers and --pattern each need a file of their own")
+
+
 def read_request(words: Sequence[str]) -> Request:
     """What a command line asks for. Raises Unusable."""
     found = RecorderParser().read(words)
@@ -126,6 +135,7 @@ def read_request(words: Sequence[str]) -> Request:
         with_mpi=not found.no_mpi,
         is_strict=found.strict,
     )
+    refuse_alike(output)
     if found.files is None:
         if not found.rest:
             raise Unusable("which command?")
@@ -183,4 +193,6 @@ def main(words: Sequence[str], folder: str) -> int:
         return BY_SIGNAL + why.number
     except OSError as why:
         say(explain(why))
+    except MemoryError:
+        say("there isn't enough memory")
     return FAILED

@@ -8,6 +8,7 @@ from wire_up_tools.record.calls import (
     Ending,
     Fence,
     Get,
+    Group,
     Lookup,
     Publish,
     Unpublish,
@@ -47,7 +48,7 @@ def find_number(directives: Directives, key: bytes) -> Optional[int]:
 
 def gives_up(action: Action) -> bool:
     """Whether a call waits for others, and for a short time at most."""
-    if not isinstance(action, (Fence, Get, Lookup)):
+    if not isinstance(action, (Fence, Get, Group, Lookup)):
         return False
     if isinstance(action, Get) and has_directive(action.directives, *AT_ONCE):
         return False
@@ -84,12 +85,10 @@ def find_ending(action: Action) -> Ending:
 
 def stands_early(action: Action) -> bool:
     """Whether a call that doesn't block stands where it was made, so that all that follows comes
-    after it in the plan. A get that waits stands where it ended, and a fence that doesn't collect
-    can be names."""
-    if find_ending(action) is Ending.BLOCKS:
+    after it in the plan. A get that waits stands where it ended. Of a fence the action doesn't tell
+    it: names may stand in its place."""
+    if isinstance(action, Fence) or find_ending(action) is Ending.BLOCKS:
         return False
-    if isinstance(action, Fence):
-        return has_directive(action.directives, COLLECT)
     if isinstance(action, Get):
         return has_directive(action.directives, *AT_ONCE)
     return True

@@ -3,7 +3,7 @@ import bisect
 import re
 import sys
 from collections import Counter
-from collections.abc import Iterable, Sequence
+from collections.abc import Container, Iterable, Sequence
 from dataclasses import dataclass, field
 
 from wire_up_tools.record.calls import (
@@ -77,6 +77,11 @@ def note_recording(recording: Recording, notes: Notes) -> None:
         ] += 1
 
 
+def count_starts(recordings: Iterable[Recording]) -> int:
+    """How many calls started processes."""
+    return sum(it.others.get(name, 0) for it in recordings for name in STARTING)
+
+
 def note_missing(processes: Processes, notes: Notes) -> None:
     """Notes processes that were there, and left no recording."""
     recordings = [it.recording for it in processes.all]
@@ -85,10 +90,15 @@ def note_missing(processes: Processes, notes: Notes) -> None:
         notes.more_ordered[
             "processes of a job that left no recording: their calls aren't in the plan"
         ] += max(0, size - len(job.processes))
-    if len(processes.jobs) == 1:
+    jobs, starts = len(processes.jobs), count_starts(recordings)
+    if jobs == 1:
         notes.more_ordered[
             "calls that started processes which left no recording: their calls aren't in the plan"
-        ] += sum(it.others.get(name, 0) for it in recordings for name in STARTING)
+        ] += starts
+    elif not starts:
+        notes.more_ordered[
+            "jobs that no recorded process started: in the plan all run at one time, and share names"
+        ] += jobs
 
 
 def note_directives(call: Call, notes: Notes) -> None:
@@ -103,12 +113,12 @@ def note_directives(call: Call, notes: Notes) -> None:
                 notes.left_out[f"directives {show(it.key)}"] += 1
 
 
-def find_early(calls: Iterable[Call]) -> list[tuple[int, int]]:
+def find_early(calls: Iterable[Call], fences: Container[Call]) -> list[tuple[int, int]]:
     """From where to where calls are open that the plan puts before those that were made
-    meanwhile, in order and apart from each other."""
+    meanwhile, in order and apart from each other. These fences are among them."""
     found: list[tuple[int, int]] = []
     for call in calls:
-        if stands_early(call.action):
+        if stands_early(call.action) or call in fences:
             ends = call.ends or sys.maxsize
             if found and call.begins < found[-1][1]:
                 found[-1] = found[-1][0], max(ends, found[-1][1])
@@ -117,9 +127,12 @@ def find_early(calls: Iterable[Call]) -> list[tuple[int, int]]:
     return found
 
 
-def note_overlaps(calls: Sequence[Call], messages: Messages, notes: Notes) -> None:
-    """Notes the calls that were made while one is open that the plan puts before them."""
-    early = find_early(calls)
+def note_overlaps(
+    calls: Sequence[Call], messages: Messages, fences: Container[Call], notes: Notes
+) -> None:
+    """Notes the calls that were made while one is open that the plan puts before them: also one of
+    these fences."""
+    early = find_early(calls, fences)
     begins = [it.begins for it in calls] if early else ()
     count = sum(
         bisect.bisect_left(them, last) - bisect.bisect(them, first)

@@ -113,8 +113,8 @@ def make_whole_plan(recordings: Sequence[Recording], choices: Choices) -> Plan:
     """Makes a plan of recordings, of any size. Raises Refused for recordings that make none."""
     processes = arrange_processes(recordings, choices.most)
     spelling, sets = find_spelling(processes), Sets(processes)
-    calls = make_lines(processes, spelling, choices.with_mpi)
     fences = make_fences(sets, spelling)
+    calls = make_lines(processes, spelling, fences, choices.with_mpi)
     calls.notes.add(fences.notes)
     parts, notes, mpi = [calls.part, fences.part], calls.notes, MpiSummary()
     refuse_too_many(parts, choices.most)

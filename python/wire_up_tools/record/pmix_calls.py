@@ -41,6 +41,7 @@ from wire_up_tools.record.notes import (
     note_recording,
     note_unawaited,
 )
+from wire_up_tools.record.pmix_fences import PmixFences
 from wire_up_tools.record.processes import Process, Processes
 from wire_up_tools.record.puts import OTHER_SCOPE, PutsByProcess
 
@@ -312,9 +313,12 @@ class PmixLines:
     notes: Notes
 
 
-def make_lines(processes: Processes, spelling: Spelling, with_mpi: bool) -> PmixLines:
+def make_lines(
+    processes: Processes, spelling: Spelling, fences: PmixFences, with_mpi: bool
+) -> PmixLines:
     """The lines of all calls of PMIx but fences, each process by itself."""
     part, notes, puts = Part(), Notes(), PutsByProcess()
+    early = fences.find_early()
     for process in processes.all:
         recording = process.recording
         note_recording(recording, notes)
@@ -332,7 +336,7 @@ def make_lines(processes: Processes, spelling: Spelling, with_mpi: bool) -> Pmix
             if not it.is_of_pmix or isinstance(it.action, (Fence, Group)) or it in with_lines
         ]
         messages = recording.messages if with_mpi else Messages()
-        note_overlaps(in_plan, messages, notes)
+        note_overlaps(in_plan, messages, early, notes)
         note_unawaited(in_plan, messages, notes)
     note_names(part, notes)
     note_missing(processes, notes)

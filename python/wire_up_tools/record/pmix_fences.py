@@ -7,8 +7,8 @@ from collections.abc import Mapping, Sequence
 from dataclasses import dataclass
 from typing import Optional
 
-from wire_up_tools.record.calls import Call, Fence, Group, ProcessName
-from wire_up_tools.record.directives import COLLECT, OF_GROUPS, has_directive
+from wire_up_tools.record.calls import Call, Ending, Fence, Group, ProcessName
+from wire_up_tools.record.directives import COLLECT, OF_GROUPS, find_ending, has_directive
 from wire_up_tools.record.draft import Line, Part
 from wire_up_tools.record.meetings import (
     MOST_NAMED,
@@ -34,6 +34,13 @@ class PmixFences:
     part: Part
     notes: Notes
     by_set: Mapping[Members, Sequence[JointCalls]]
+
+    def find_early(self) -> set[Call]:
+        """The calls that don't block and are fences in the plan: they stand where they were made,
+        so that all that follows comes after them."""
+        meetings = (it for them in self.by_set.values() for it in them)
+        every = (call for it in meetings for call in it.calls.values())
+        return {it for it in every if find_ending(it.action) is not Ending.BLOCKS}
 
 
 def is_collecting(call: Call) -> bool:

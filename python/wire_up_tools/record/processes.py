@@ -56,8 +56,10 @@ class Process:
 
     @cached_property
     def application(self) -> tuple[bytes, int]:
-        """Its job and its number in that, of one program that the job runs: 0 where it asked for
-        none."""
+        """Its job and its number in that, of one program that the job runs: 0 where nobody told
+        it."""
+        if self.recording.application is not None:
+            return self.namespace, self.recording.application
         own = (ProcessName(self.namespace, self.rank), ProcessName(b"", self.rank))
         told = (find_told_number(it, NUMBER_OF_APPLICATION, own) for it in self.recording.calls)
         return self.namespace, next((it for it in told if it is not None), 0)

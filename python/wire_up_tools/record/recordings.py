@@ -3,6 +3,7 @@ import io
 import itertools
 import os
 import re
+import stat
 from collections import Counter
 from collections.abc import Mapping, Sequence
 from dataclasses import dataclass, field
@@ -100,9 +101,10 @@ class Recording:
     as a receive or a collective; `unseen` what called MPI past the recorder, and `unseen_pmix` what
     called PMIx so, by what is said of it. `outer` has the number of the place at which the function
     of a place was called; `by_threads` counts the other threads that called, and the calls of MPI
-    that another thread waited for. The job has `job_size` processes, if the library told that. A
-    process that `has_finalized` has called nothing after PMIx_Finalize; the last line of a
-    recording that `is_cut` was dropped.
+    that another thread waited for. The job has `job_size` processes, and the process is one of the
+    job's program `application`, if the library told that; `host` is its node by the library, or
+    else by its system. A process that `has_finalized` has called nothing after PMIx_Finalize; the
+    last line of a recording that `is_cut` was dropped.
     """
 
     path: str
@@ -119,6 +121,7 @@ class Recording:
     unseen: Mapping[str, int]
     unseen_pmix: Mapping[str, int]
     job_size: Optional[int]
+    application: Optional[int]
     world: Optional[World]
     communicators: Mapping[int, RecordedCommunicator]
     places: Mapping[str, Place]
@@ -157,13 +160,19 @@ PLAIN = {
     "found": re.compile(r"found (MPI_\w+) (\d{1,18})"),
     "unseen": re.compile(rf"unseen (call|object|pmix|namespace|child|handler|stored) ({WORD})"),
     "thread": re.compile(r"thread"),
-    "job": re.compile(r"job (\d{1,9})"),
+    "job": re.compile(r"job (\d{1,10})"),
+    "application": re.compile(r"application (\d{1,10})"),
+    "node": re.compile(rf"node ({WORD})"),
     "world": re.compile(r"world (\d{1,9}) (\d{1,9})"),
-    "comm": re.compile(r"comm (\d{1,9}) (\d{1,9}) ([wcgvs]-?\d{1,18}) ([\d,-]+)"),
+    "comm": re.compile(r"comm (\d{1,9}) (\d{1,9}) ([wocgvs]-?\d{1,18}) ([\d,-]+)"),
     "inter": re.compile(r"inter (\d{1,9}) (\d{1,9}) (c-?\d{1,18}) ([\d,-]+) ([\d,-]+)"),
     "place": re.compile(rf"place (\d{{1,9}}) ({WORD}) ([0-9a-f]{{1,16}})(?: (\d{{1,9}}))?"),
     "line": re.compile(rf"line (\d{{1,9}}) ({WORD}) (\d{{1,9}}) ({WORD})"),
 }
+
+
+# What the library tells of the process and its job.
+TOLD = ("job", "application", "node")
 
 
 def read_communicator(groups: Groups) -> RecordedCommunicator:
@@ -212,7 +221,8 @@ class Records:
     """The records of a file, as far as they are read: what has ended, what is open, and the
     rest. `calls` and `messages` are in the order in which they began, and those in `opened`
     haven't ended yet, the messages by twice their number, and the calls by that of their index and
-    one more. A word that many calls have is kept once, in `words`."""
+    one more. A word that many calls have is kept once, in `words`. What the library told is in
+    `told`, by what it is about."""
 
     path: str
     calls: list[Call] = field(default_factory=list)
@@ -225,7 +235,7 @@ class Records:
     found: dict[str, int] = field(default_factory=dict)
     unseen: Counter[str] = field(default_factory=Counter)
     unseen_pmix: Counter[str] = field(default_factory=Counter)
-    job_size: Optional[int] = None
+    told: dict[str, bytes] = field(default_factory=dict)
     world: Optional[World] = None
     communicators: dict[int, RecordedCommunicator] = field(default_factory=dict)
     places: dict[str, Place] = field(default_factory=dict)
@@ -310,8 +320,8 @@ class Records:
             unseen[read_unseen(groups)] += 1
         elif verb == "thread":
             self.by_threads += 1
-        elif verb == "job":
-            self.job_size = int(groups[0])
+        elif verb in TOLD:
+            self.told[verb] = decode(groups[0])
         elif verb == "world":
             self.world = World(int(groups[0]), int(groups[1]), number)
         elif verb in ("comm", "inter"):
@@ -353,6 +363,11 @@ def read_head(path: str, lines: Sequence[str]) -> Head:
     return head
 
 
+def find_number(told: Mapping[str, bytes], what: str) -> Optional[int]:
+    """A number that the library told; None where it told none."""
+    return int(told[what]) if what in told else None
+
+
 def read_recording(path: str, data: bytes) -> Recording:
     """The recording in the bytes of a file. A last line that was cut is dropped, and so are the
     zeros that follow what a killed process wrote.
@@ -375,7 +390,7 @@ def read_recording(path: str, data: bytes) -> Recording:
         path=path,
         namespace=head.namespace,
         rank=head.rank,
-        host=head.host,
+        host=records.told.get("node", head.host),
         library=head.library,
         began=head.began,
         calls=records.calls,
@@ -385,7 +400,8 @@ def read_recording(path: str, data: bytes) -> Recording:
         found=records.found,
         unseen=records.unseen,
         unseen_pmix=records.unseen_pmix,
-        job_size=records.job_size,
+        job_size=find_number(records.told, "job"),
+        application=find_number(records.told, "application"),
         world=records.world,
         communicators=records.communicators,
         places=records.places,
@@ -401,13 +417,21 @@ def has_recordings(folder: str) -> bool:
     return any(it.endswith(ENDING) for it in os.listdir(folder))
 
 
+def find_file(path: str) -> str:
+    """A file in a folder, by its path. Raises Refused for anything else that is there."""
+    if os.path.exists(path) and not os.path.isfile(path):
+        raise Refused(f"{path}: it is no file")
+    return path
+
+
 def find_files(paths: Sequence[str]) -> list[str]:
-    """The files that are named, and the recordings in the folders that are. Raises OSError."""
+    """The files that are named, and the recordings in the folders that are. Raises Refused,
+    OSError."""
     found: list[str] = []
     for path in paths:
         if os.path.isdir(path):
             names = [it for it in os.listdir(path) if it.endswith(ENDING)]
-            found += sorted(os.path.join(path, it) for it in names)
+            found += sorted(map(find_file, [os.path.join(path, it) for it in names]))
         else:
             found.append(path)
     return found
@@ -419,12 +443,20 @@ def refuse_past(most: int, what: str, count: int) -> None:
         raise Refused(f"a plan has at most {most:,} {what}, and this one would have {count:,}")
 
 
+def refuse_other(path: str) -> None:
+    """Refuses what is neither a file nor a pipe that is named: it may never end, or never come."""
+    mode = os.stat(path).st_mode
+    if not stat.S_ISREG(mode) and not stat.S_ISFIFO(mode):
+        raise Refused(f"{path}: it is no file")
+
+
 def read_recordings(paths: Sequence[str], most: Limits) -> list[Recording]:
     """Reads recordings, at most as many as a plan may have processes. Raises Refused, OSError."""
     files = find_files(paths)
     refuse_past(most.processes, "processes", len(files))
     found = []
     for path in files:
+        refuse_other(path)
         with open(path, "rb") as it:
             found.append(read_recording(path, it.read()))
     if not found:

@@ -112,7 +112,10 @@ def run(command: Sequence[str], environment: Mapping[str, str]) -> int:
         signal.pthread_sigmask(signal.SIG_SETMASK, before)
 
     try:
-        with subprocess.Popen(command, env=environment, preexec_fn=unblock) as process:
+        # The command has the files that were opened for it.
+        with subprocess.Popen(
+            command, env=environment, preexec_fn=unblock, close_fds=False
+        ) as process:
             return wait_and_hand_on(process)
     except FileNotFoundError as why:
         raise NotRun(f"{command[0]}: {why.strerror}", NOT_THERE) from None

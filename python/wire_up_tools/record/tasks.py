@@ -4,7 +4,7 @@ import os
 import shutil
 import sys
 import tempfile
-from collections.abc import Mapping, Sequence
+from collections.abc import Callable, Mapping, Sequence
 from dataclasses import dataclass, replace
 from typing import Optional, Union
 
@@ -148,13 +148,23 @@ def say_besides(checker: Checker, plan: Plan, text: str) -> None:
         say(otherwise)
 
 
-def add_verdicts(plan: Plan, recordings: Sequence[Recording], checker: Checker) -> Plan:
-    """A plan that has the verdicts with and without --strict, where they differ. Raises Refused."""
+def add_verdicts(plan: Plan, make_other: Callable[[Choices], Plan], checker: Checker) -> Plan:
+    """A plan that has the verdicts with and without --strict, where they differ, and so something
+    was left to luck. The other plan is made by what is taken for it. Raises Refused."""
     choices = plan.choices
-    other = make_plan(recordings, replace(choices, is_strict=not choices.is_strict))
+    if not plan.mpi.left_to_luck:
+        return plan
+    other = make_other(replace(choices, is_strict=not choices.is_strict))
     plain, strict = (other, plan) if choices.is_strict else (plan, other)
     verdicts = compare_verdicts(checker, write_plan(plain), write_plan(strict))
     return replace(plan, mpi=replace(plan.mpi, verdicts=verdicts))
+
+
+def say_verdicts(plan: Plan) -> None:
+    """Says the verdicts with and without --strict, where they differ."""
+    if plan.mpi.verdicts:
+        of_luck = f"which takes nothing from {plan.mpi.left_to_luck} ends of requests"
+        say(f"{plan.mpi.verdicts}, {of_luck}")
 
 
 def make_choices(output: Output, path: Optional[str]) -> Choices:
@@ -163,9 +173,8 @@ def make_choices(output: Output, path: Optional[str]) -> Choices:
     return Choices(output.with_mpi, output.is_strict, LARGE if is_large else VERSION_1)
 
 
-def read_run(paths: Sequence[str], choices: Choices) -> Run:
-    """One of several runs, by its files or folders. Raises Refused, OSError."""
-    recordings = read_recordings(paths, choices.most)
+def make_run(recordings: Sequence[Recording], choices: Choices) -> Run:
+    """One of several runs, by its recordings. Raises Refused, OSError."""
     plan = make_whole_plan(recordings, choices)
     folders = dict.fromkeys(os.path.dirname(it.path) for it in recordings)
     return Run(plan, find_places(plan.draft, read_places(folders)))
@@ -177,9 +186,15 @@ def merge(output: Output, runs: Sequence[Sequence[str]], folder: str) -> None:
     gc.disable()
     path = output.checker or find_checker(folder)
     choices = make_choices(output, path)
-    read = [read_run(it, choices) for it in runs]
-    plan = merge_plans(read)
-    text = write_plan(plan, read[0].places)
+    recordings = [read_recordings(it, choices.most) for it in runs]
+    made = [make_run(it, choices) for it in recordings]
+    plan = merge_plans(made)
+    if path is not None:
+        checker = Checker(path, choices.most is LARGE)
+        plan = add_verdicts(
+            plan, lambda other: merge_plans([make_run(it, other) for it in recordings]), checker
+        )
+    text = write_plan(plan, made[0].places)
     write_whole(output.plan, text)
     if output.answers:
         write_whole(output.answers, write_answers(plan))
@@ -188,9 +203,9 @@ def merge(output: Output, runs: Sequence[Sequence[str]], folder: str) -> None:
     for parting in plan.partings:
         say(f"the runs part: {parting}")
     say_part(plan.notes)
+    say_verdicts(plan)
     if path is not None:
-        checker = Checker(path, choices.most is LARGE)
-        own = [write_plan(it.plan, it.places) for it in read]
+        own = [write_plan(it.plan, it.places) for it in made]
         for verdict in judge_runs(checker, text, own, bool(plan.partings)):
             say(verdict)
         say_besides(checker, plan, text)
@@ -205,14 +220,13 @@ def make(output: Output, paths: Sequence[str], folder: str) -> None:
     choices = make_choices(output, path)
     recordings = read_recordings(paths, choices.most)
     plan = make_plan(recordings, choices)
-    if plan.mpi.left_to_luck and path is not None:
-        plan = add_verdicts(plan, recordings, Checker(path, choices.most is LARGE))
-    text = write_output(plan, recordings, output)
-    if plan.mpi.verdicts:
-        of_luck = f"which takes nothing from {plan.mpi.left_to_luck} ends of requests"
-        say(f"{plan.mpi.verdicts}, {of_luck}")
     if path is not None:
-        say_besides(Checker(path, choices.most is LARGE), plan, text)
+        checker = Checker(path, choices.most is LARGE)
+        plan = add_verdicts(plan, lambda other: make_plan(recordings, other), checker)
+    text = write_output(plan, recordings, output)
+    say_verdicts(plan)
+    if path is not None:
+        say_besides(checker, plan, text)
 
 
 def make_folder(output: Output) -> str:
