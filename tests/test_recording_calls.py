@@ -358,6 +358,22 @@ class CallsTest(unittest.TestCase):
                     plan = write_plan_of([first, second])
                     self.assertEqual(said in plan, is_other and not is_kept)
 
+    def test_what_the_library_tells_of_a_process(self) -> None:
+        """Its application, and its node, which its system may call otherwise."""
+        first = Tape(0).say("application 0").say("node n0").call("publish blocks n=text:v -")
+        second = Tape(1, host="box").say("application 1").say("node n0")
+        plan = write_plan_of([first, second.call("lookup blocks :n -", "0 n=text:v")])
+        self.assertIn("1 names that go away with their application", plan)
+        self.assertEqual(plan.count("\nnode "), 1)
+
+    def test_jobs_of_several_launches(self) -> None:
+        """Nobody knows whether they share names: unless one started the other."""
+        said = "#   2 jobs that no recorded process started"
+        tapes = [Tape(0).call(*FENCE), Tape(0, "more").call(*FENCE)]
+        self.assertIn(said, write_plan_of(tapes))
+        tapes[0].say("other PMIx_Spawn")
+        self.assertNotIn(said, write_plan_of(tapes))
+
     def test_unpublishes(self) -> None:
         everything = [("publish blocks n=text:v -", "0"), ("unpublish blocks every -", "0")]
         self.hold({

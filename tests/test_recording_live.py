@@ -21,6 +21,7 @@ from recorded import (
     CASES,
     DIRECT,
     HANDLES,
+    HANDLER,
     HIDDEN,
     IN_PART,
     LUCK,
@@ -323,6 +324,17 @@ class OtherWaysTest(LiveTest):
                 if self.program:
                     wrong = why_wrong(self.program, self.plan, self.answers, of.findings)
                     self.assertIsNone(wrong)
+
+    def test_handlers_that_are_hard_to_notice(self) -> None:
+        """One that ends with a jump, one deep below, and one after so many calls that the recorder
+        no longer looks at who made each."""
+        self.compile("liblookups.so")
+        path = self.compile("hidden")
+        for name in ("jumping-handler", "deep-handler", "late-handler"):
+            with self.subTest(name):
+                ran = self.record(*mpirun(2, path, name))
+                said = f"wire_up-record: {IN_PART}{HANDLER}"
+                self.assertEqual((ran.returncode, ran.stderr), (0, said))
 
     def test_a_rank_without_the_recorder(self) -> None:
         """A rank that left no recording is missed, where MPI doesn't say how many there are."""

@@ -162,6 +162,17 @@ class MergedTest(unittest.TestCase):
             said = "wire_up-record: findings 0: it holds for each of the 2 runs\n"
             self.assertEqual((ran.returncode, ran.stderr), (0, said))
 
+    def test_the_verdicts_with_and_without_luck(self) -> None:
+        """They are said of several runs as of one."""
+        program = support.program()
+        with tempfile.TemporaryDirectory(prefix="wire-up-") as room:
+            plan, poll = os.path.join(room, "plan"), os.path.join(SHIPPED, "poll")
+            words = ["-o", plan, "--checker", program, "--from", poll, "--from", poll]
+            ran = run_recorder(*words)
+            both = "findings 0, and findings 1 with --strict"
+            self.assertIn(f"wire_up-record: {both}, which takes nothing from 2 ends", ran.stderr)
+            self.assertIn(f"# Verdicts: {both}\n", read_file(plan))
+
     def test_no_files(self) -> None:
         with tempfile.TemporaryDirectory(prefix="wire-up-") as room:
             file = write_file(os.path.join(room, "a.recording"), Tape(0).text())

@@ -100,6 +100,10 @@ class GroupsTest(OrderTest):
         self.become(self.make_tapes(), scripts, "# PMIx: construct g\nfence")
         self.become(self.make_tapes("pmix.grp.actxid=number:1:1"), scripts, "# PMIx: destruct g")
 
+    def test_a_group_that_waits_for_a_short_time(self) -> None:
+        plan = write_plan_of(self.make_tapes("pmix.timeout=number:4:1"))
+        self.assertIn("2 waits for less than a minute", plan)
+
     def test_a_group_that_need_not_be_whole(self) -> None:
         tapes = self.make_tapes("pmix.grp.opt=number:1:1")
         self.become(tapes, [[], [], []], "4 calls that make or end groups")

@@ -7,7 +7,8 @@
  *               the second word is its path: a race that the plan doesn't have
  *   namespace, child, handler, thread, event
  *               process 0 publishes before it sends a message: no race; besides, each opens MPI in a namespace of its own, calls MPI in a
- *               forked child, publishes in a handler of a signal, waits for a send in another thread, or has a handler of events
+ *               forked child, publishes in a handler of a signal (jumping-, deep- and late-handler: in one that is hard to notice), waits for
+ *               a send in another thread, or has a handler of events
  */
 #define _GNU_SOURCE
 #include <dlfcn.h>
@@ -109,6 +110,49 @@ static void publish_in_handler(void)
     }
 }
 
+/* It ends with a jump, and so it has no frame. */
+__attribute__((optimize("O2"))) static void take_by_jump(int number)
+{
+    (void)number;
+    MPI_Publish_name("port", MPI_INFO_NULL, "port");
+}
+
+#define DEPTH 20
+__attribute__((optimize("O0"))) static void publish_deep(int left)
+{
+    if (left > 0)
+        publish_deep(left - 1);
+    else
+        publish();
+}
+
+static void take_deep(int number)
+{
+    (void)number;
+    publish_deep(DEPTH);
+}
+
+/* Calls from another depth each time, so that the recorder no longer looks at who called. */
+static void publish_after_many(int depth, int *memory)
+{
+    int here[256], is_there;
+    here[0] = memory ? memory[0] : 0;
+    for (int n = 0; n < 2; n++)
+        MPI_Iprobe(MPI_PROC_NULL, here[0], MPI_COMM_WORLD, &is_there, MPI_STATUS_IGNORE);
+    if (depth > 0)
+        publish_after_many(depth - 1, here);
+}
+
+static void publish_in_odd_handler(const char *which)
+{
+    if (rank != 0)
+        return;
+    for (int n = 0; n < 400 && !strcmp(which, "late-handler"); n++)
+        publish_after_many(100, NULL);
+    signal(SIGUSR1, !strcmp(which, "jumping-handler") ? take_by_jump : take_deep);
+    raise(SIGUSR1);
+}
+
 static MPI_Request sent;
 
 static void *wait_for_send(void *data)
@@ -154,7 +198,7 @@ int main(int count, char **words)
     else if (!strcmp(which, "opened"))
         exchange_by(dlopen(path, RTLD_NOW | RTLD_DEEPBIND));
     else {
-        if (rank == 0 && strcmp(which, "handler"))
+        if (rank == 0 && !strstr(which, "handler"))
             publish();
         if (!strcmp(which, "namespace"))
             open_again();
@@ -162,6 +206,8 @@ int main(int count, char **words)
             call_in_child();
         else if (!strcmp(which, "handler"))
             publish_in_handler();
+        else if (strstr(which, "handler"))
+            publish_in_odd_handler(which);
         else if (!strcmp(which, "thread"))
             wait_elsewhere();
         else if (!strcmp(which, "event"))
