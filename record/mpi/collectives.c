@@ -118,5 +118,8 @@ const char *name_counted_of_types(struct text *room, const struct collective *it
 
 const char *name_all_by_own(const struct collective *it, struct counts counts, MPI_Datatype type)
 {
-    return name_all(get_count(counts, it->comm.rank), type);
+    int rank = it->comm.rank;
+    if (it->comm.is_inter)
+        mpi.comm_rank((MPI_Comm)it->comm.handle, &rank); /* on its own side */
+    return name_all(get_count(counts, rank), type);
 }
