@@ -7,6 +7,7 @@ whether it ended recorded as by itself, how many findings its plan has, whether 
 its calls were answered, and what the recorder said. A line that isn't as it must be ends with a
 mark, and the status is 1 then.
 """
+import concurrent.futures
 import contextlib
 import itertools
 import os
@@ -29,8 +30,9 @@ from wire_up_tools.run.launchers import AS_ROOT, Kind, Launcher, find_launcher
 RECORDED = ("early", "told", "ring", "names", "collectives")
 # What fails by itself: Slurm publishes no names.
 FAIL = {Kind.SLURM: ("early", "told", "names")}
-# How often both are run, where their lines or statuses differ: `mpirun` may mix two lines.
-TRIES = 3
+# How often both are run, where they end in another way: `mpirun` may mix two lines, and `early` can
+# be too early. And how many programs are run at a time.
+TRIES, AT_A_TIME = 3, 2
 INSIDE, MARK = "--inside", "  <-- WRONG"
 RECORDER = "wire_up-record: "
 # How long the daemons of `prun` may take to be there, in seconds.
@@ -147,20 +149,21 @@ def run(place: Place, name: str, before: Sequence[str] = ()) -> Ran:
 
 def hold(place: Place, name: str) -> Seen:
     """Runs a program by itself and recorded, and holds its plan to what it must have."""
-    plan, answers = (os.path.join(place.folder, it) for it in ("plan", "answers"))
-    words = ["--checker", support.program(), "-o", plan, "--answers", answers]
-    for _ in range(TRIES):
-        plain, ran = run(place, name), run(place, name, [sys.executable, COMMAND, *words])
-        if plain.is_like(ran):
-            break
-    else:
-        ended = f"ended recorded with {ran.status}, by itself with {plain.status}"
-        return Seen([ended, *ran.said.splitlines()], False)
     fails = name in FAIL.get(place.launcher.kind, ())
-    if fails or plain.status:
-        is_well = fails and plain.status != 0 and IN_PART in ran.said
-        return Seen([f"fails with {plain.status} recorded as by itself", *ran.told], is_well)
-    return judge(name, ran, plan, answers)
+    with tempfile.TemporaryDirectory(dir=place.folder) as room:
+        plan, answers = (os.path.join(room, it) for it in ("plan", "answers"))
+        words = ["--checker", support.program(), "-o", plan, "--answers", answers]
+        for _ in range(TRIES):
+            plain, ran = run(place, name), run(place, name, [sys.executable, COMMAND, *words])
+            if plain.is_like(ran) and (plain.status != 0) == fails:
+                break
+        if not plain.is_like(ran):
+            ended = f"ends with {ran.status} recorded, and with {plain.status} by itself"
+            return Seen([ended, *ran.said.splitlines()], False)
+        if plain.status:
+            is_well = fails and IN_PART in ran.said
+            return Seen([f"fails with {plain.status} recorded as by itself", *ran.told], is_well)
+        return judge(name, ran, plan, answers)
 
 
 def judge(name: str, ran: Ran, plan: str, answers: str) -> Seen:
@@ -178,11 +181,15 @@ def judge(name: str, ran: Ran, plan: str, answers: str) -> Seen:
 def hold_launcher(folder: str, name: str) -> int:
     """Runs all programs under a launcher, where there are nodes, and answers the status."""
     launcher, status = find_launcher(name), 0
-    for nodes, program in itertools.product((1, len(NODES)), RECORDED):
-        seen = hold(Place(launcher, nodes, folder), program)
-        where = f"{launcher.name}, {launcher.version}; {nodes} node{'s' * (nodes > 1)}; {program}"
-        print(where, *seen.words, sep="; ", end="\n" if seen.is_well else f"{MARK}\n", flush=True)
-        status = status if seen.is_well else 1
+    # A launcher may have another one say its version.
+    version = " ".join(dict.fromkeys([launcher.name, *launcher.version.split()]))
+    every = list(itertools.product((1, len(NODES)), RECORDED))
+    with concurrent.futures.ThreadPoolExecutor(AT_A_TIME) as pool:
+        found = pool.map(lambda it: hold(Place(launcher, it[0], folder), it[1]), every)
+        for (nodes, program), seen in zip(every, found):
+            said = (version, f"{nodes} node{'s' * (nodes > 1)}", program, *seen.words)
+            print(*said, sep="; ", end="\n" if seen.is_well else f"{MARK}\n", flush=True)
+            status = status if seen.is_well else 1
     return status
 
 
