@@ -4,8 +4,8 @@ on two that are none.
 Usage: python3 -m tests.hold_launchers LAUNCHER..
 LAUNCHER is `mpirun`, `prterun`, `prun` or `srun`. It takes root. A line for each program says
 whether it ended recorded as by itself, how many findings its plan has, whether a replay answers as
-its calls were answered, and what the recorder said. A line that isn't as it must be ends with a
-mark, and the status is 1 then.
+its calls were answered, and what the recorder said. What isn't as it must be is tried again; if it
+stays so, the status is 1.
 """
 import concurrent.futures
 import contextlib
@@ -21,7 +21,7 @@ from collections.abc import Iterator, Sequence
 from dataclasses import dataclass
 
 import support
-from recorded import IN_PART, OTHERS, why_other_findings, why_other_replay
+from recorded import IN_PART, OTHERS, why_wrong
 from tapes import COMMAND, PATIENCE, PROGRAMS
 from two_nodes import INTERFACE, NODES, SHELL
 from wire_up_tools.files import write_file
@@ -30,10 +30,11 @@ from wire_up_tools.run.launchers import AS_ROOT, Kind, Launcher, find_launcher
 RECORDED = ("early", "told", "ring", "names", "collectives")
 # What fails by itself: Slurm publishes no names.
 FAIL = {Kind.SLURM: ("early", "told", "names")}
-# How often both are run, where they end in another way: `mpirun` may mix two lines, and `early` can
-# be too early. And how many programs are run at a time.
+# How often a program is tried: `mpirun` may mix two lines, `early` can be too early, and a process
+# can hear of another while its fence in MPI_Init is open. And how many are run at a time.
 TRIES, AT_A_TIME = 3, 2
-INSIDE, MARK = "--inside", "  <-- WRONG"
+INSIDE = "--inside"
+AGAIN, WRONG = "  <-- tried again", "  <-- WRONG"
 RECORDER = "wire_up-record: "
 # How long the daemons of `prun` may take to be there, in seconds.
 SECONDS = 20
@@ -147,35 +148,34 @@ def run(place: Place, name: str, before: Sequence[str] = ()) -> Ran:
             return run_words([*before, *there, *PLACES[kind], *program], hosts)
 
 
-def hold(place: Place, name: str) -> Seen:
+def try_once(place: Place, name: str, room: str) -> Seen:
     """Runs a program by itself and recorded, and holds its plan to what it must have."""
+    plan, answers = (os.path.join(room, it) for it in ("plan", "answers"))
+    words = ["--checker", support.program(), "-o", plan, "--answers", answers]
+    plain, ran = run(place, name), run(place, name, [sys.executable, COMMAND, *words])
+    if not plain.is_like(ran):
+        ended = f"ends with {ran.status} recorded, and with {plain.status} by itself"
+        return Seen([ended, *ran.said.splitlines()], False)
     fails = name in FAIL.get(place.launcher.kind, ())
-    with tempfile.TemporaryDirectory(dir=place.folder) as room:
-        plan, answers = (os.path.join(room, it) for it in ("plan", "answers"))
-        words = ["--checker", support.program(), "-o", plan, "--answers", answers]
-        for _ in range(TRIES):
-            plain, ran = run(place, name), run(place, name, [sys.executable, COMMAND, *words])
-            if plain.is_like(ran) and (plain.status != 0) == fails:
-                break
-        if not plain.is_like(ran):
-            ended = f"ends with {ran.status} recorded, and with {plain.status} by itself"
-            return Seen([ended, *ran.said.splitlines()], False)
-        if plain.status:
-            is_well = fails and IN_PART in ran.said
-            return Seen([f"fails with {plain.status} recorded as by itself", *ran.told], is_well)
-        return judge(name, ran, plan, answers)
+    if plain.status or fails:
+        is_well = plain.status != 0 and fails and IN_PART in ran.said
+        return Seen([f"ends with {plain.status} recorded as by itself", *ran.told], is_well)
+    count = OTHERS[name].findings
+    wrong = why_wrong(support.program(), plan, answers, count)
+    # There is no replay of a plan with a race.
+    replayed = "" if count else ", and replayed as answered"
+    found = f"{wrong}, not findings {count}" if wrong else f"findings {count} of {count}{replayed}"
+    is_well = not wrong and IN_PART not in ran.said
+    return Seen(["ends recorded as by itself", found, *ran.told], is_well)
 
 
-def judge(name: str, ran: Ran, plan: str, answers: str) -> Seen:
-    """Holds the plan of a program that ended well."""
-    program, count = support.program(), OTHERS[name].findings
-    otherwise = why_other_findings(program, plan, count)
-    other_replay = why_other_replay(program, plan, answers)
-    # What has a race can be answered in another way.
-    is_well = not otherwise and (count > 0 or not other_replay) and IN_PART not in ran.said
-    found = otherwise or f"findings {count}"
-    replayed = other_replay or "replayed as answered"
-    return Seen(["ends recorded as by itself", found, replayed, *ran.told], is_well)
+def hold(place: Place, name: str) -> list[Seen]:
+    """Tries a program until it does as it must, but not often; answers what was seen each time."""
+    seen: list[Seen] = []
+    while len(seen) < TRIES and not (seen and seen[-1].is_well):
+        with tempfile.TemporaryDirectory(dir=place.folder) as room:
+            seen.append(try_once(place, name, room))
+    return seen
 
 
 def hold_launcher(folder: str, name: str) -> int:
@@ -186,10 +186,12 @@ def hold_launcher(folder: str, name: str) -> int:
     every = list(itertools.product((1, len(NODES)), RECORDED))
     with concurrent.futures.ThreadPoolExecutor(AT_A_TIME) as pool:
         found = pool.map(lambda it: hold(Place(launcher, it[0], folder), it[1]), every)
-        for (nodes, program), seen in zip(every, found):
-            said = (version, f"{nodes} node{'s' * (nodes > 1)}", program, *seen.words)
-            print(*said, sep="; ", end="\n" if seen.is_well else f"{MARK}\n", flush=True)
-            status = status if seen.is_well else 1
+        for (nodes, program), tries in zip(every, found):
+            for it in tries:
+                said = (version, f"{nodes} node{'s' * (nodes > 1)}", program, *it.words)
+                mark = "" if it.is_well else WRONG if it is tries[-1] else AGAIN
+                print(*said, sep="; ", end=f"{mark}\n", flush=True)
+            status = status if tries[-1].is_well else 1
     return status
 
 
