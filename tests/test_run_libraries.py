@@ -18,7 +18,7 @@ from wire_up_tools.run.libraries.rules import Rule
 from wire_up_tools.run.libraries.traits import LIBRARIES, Library
 from wire_up_tools.run.profile import ProfileRule
 from wire_up_tools.run.reports import Report, read_report
-from wire_up_tools.run.suite import Kind, SuitePlan, read_suite
+from wire_up_tools.run.suite import Kind, read_suite
 from wire_up_tools.run.tables import Recorded, read_table
 
 # Plans that differ, and that the rules of a library don't explain, by the library's name.
