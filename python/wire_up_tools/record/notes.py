@@ -1,9 +1,7 @@
 """Notes what a plan can't say of the program: the head of the plan tells it."""
-import bisect
 import re
-import sys
 from collections import Counter
-from collections.abc import Iterable, Sequence
+from collections.abc import Sequence
 from dataclasses import dataclass, field
 
 from wire_up_tools.record.calls import (
@@ -15,7 +13,7 @@ from wire_up_tools.record.calls import (
     Publish,
     Unpublish,
 )
-from wire_up_tools.record.directives import KNOWN, find_ending, gives_up, stands_early
+from wire_up_tools.record.directives import KNOWN, find_ending, gives_up
 from wire_up_tools.record.messages import Messages
 from wire_up_tools.record.processes import Processes
 from wire_up_tools.record.recordings import Recording
@@ -101,34 +99,6 @@ def note_directives(call: Call, notes: Notes) -> None:
         for it in action.directives:
             if it.key not in KNOWN:
                 notes.left_out[f"directives {show(it.key)}"] += 1
-
-
-def find_early(calls: Iterable[Call]) -> list[tuple[int, int]]:
-    """From where to where calls are open that the plan puts before those that were made
-    meanwhile, in order and apart from each other."""
-    found: list[tuple[int, int]] = []
-    for call in calls:
-        if stands_early(call.action):
-            ends = call.ends or sys.maxsize
-            if found and call.begins < found[-1][1]:
-                found[-1] = found[-1][0], max(ends, found[-1][1])
-            else:
-                found.append((call.begins, ends))
-    return found
-
-
-def note_overlaps(calls: Sequence[Call], messages: Messages, notes: Notes) -> None:
-    """Notes the calls that were made while one is open that the plan puts before them."""
-    early = find_early(calls)
-    begins = [it.begins for it in calls] if early else ()
-    count = sum(
-        bisect.bisect_left(them, last) - bisect.bisect(them, first)
-        for first, last in early
-        for them in (begins, messages.begins)
-    )
-    notes.more_ordered[
-        "calls made while one that doesn't block was open: in the plan they come after it"
-    ] += count
 
 
 def note_unawaited(calls: Sequence[Call], messages: Messages, notes: Notes) -> None:
