@@ -6,10 +6,12 @@ It takes debootstrap, root, 4 GB of disk, of which it keeps 1, and some minutes.
 /var/tmp/wire-up-trixie, unless it is told or WIRE_UP_NEWER_ROOT names another. It has that name
 only once it is whole; what is made of one that fails or is stopped goes. Where the folder is, the
 gate runs live tests in it too, by tests/test_recording_newer.py and tests/test_run_newer.py.
+WIRE_UP_NEWER_RELEASE=forky takes another release than trixie, in a folder of its name.
 
 `.ci/run` runs this beside the proofs, and writes what it says to out/newer-root.log.
 """
 import os
+import re
 import shutil
 import signal
 import subprocess
@@ -20,12 +22,16 @@ from typing import NoReturn
 
 from build.places import LOGS
 
-RELEASE = "trixie"
+RELEASE = os.environ.get("WIRE_UP_NEWER_RELEASE") or "trixie"
+# The script of debootstrap that all releases share. It has none by the name of a later one.
+SCRIPT = "sid"
 MIRROR = os.environ.get("DEBIAN_MIRROR", "http://deb.debian.org/debian")
 PACKAGES = (
     "openmpi-bin libopenmpi-dev libpmix-dev pkg-config gcc gfortran libc6-dev make python3"
     " python3-mpi4py binutils procps hostname iproute2 slurm-wlm"
 ).split()
+# What apt in the folder takes over from apt of this machine: whether a mirror may be out of date.
+DATES = ("Acquire::Check-Valid-Until", "Acquire::Check-Date")
 # How many bytes must be free where it is made.
 ROOM = 4 << 30
 # What the gate wrote while it made the folder.
@@ -71,15 +77,24 @@ def run(what: str, words: Sequence[str]) -> None:
         raise OSError(f"{what} ended with {status}")
 
 
+def find_dates() -> list[str]:
+    """The options of apt that take over what this machine says of a mirror's dates."""
+    asked = shutil.which("apt-config")
+    if not asked:
+        return []
+    said = subprocess.run([asked, "dump", *DATES], capture_output=True, text=True, check=False)
+    return [f"-o{name}={it}" for name, it in re.findall(r'(?m)^(\S+) "(.*)";$', said.stdout)]
+
+
 def fill_root(made: str) -> None:
     """Puts Debian into an empty folder. Raises OSError."""
-    words = ["debootstrap", "--variant=minbase", "--include=ca-certificates", RELEASE, made, MIRROR]
-    run("debootstrap", [*ALONE, *words])
+    options = ["--variant=minbase", "--include=ca-certificates"]
+    run("debootstrap", [*ALONE, "debootstrap", *options, RELEASE, made, MIRROR, SCRIPT])
     with open("/etc/resolv.conf", "rb") as it, open(f"{made}/etc/resolv.conf", "wb") as to:
         to.write(it.read())
     install = ["install", "-y", "--no-install-recommends", *PACKAGES]
     for words in (["update"], install, ["clean"]):
-        run(f"apt-get {words[0]}", enter(made, ["apt-get", "-q", *words]))
+        run(f"apt-get {words[0]}", enter(made, ["apt-get", "-q", *find_dates(), *words]))
 
 
 def make_root(root: str) -> None:

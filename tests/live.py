@@ -11,8 +11,14 @@ import support
 from support import TOP
 from tapes import PATIENCE, PROGRAMS, run_recorder
 
-# Open MPI as root must be told that this is meant.
-ENVIRONMENT = {**os.environ, "OMPI_ALLOW_RUN_AS_ROOT": "1", "OMPI_ALLOW_RUN_AS_ROOT_CONFIRM": "1"}
+# Open MPI as root must be told that this is meant. Its windows by UCX complain where there is no
+# such network: Debian leaves them out itself, but of Open MPI 6.
+ENVIRONMENT = {
+    **os.environ,
+    "OMPI_ALLOW_RUN_AS_ROOT": "1",
+    "OMPI_ALLOW_RUN_AS_ROOT_CONFIRM": "1",
+    "OMPI_MCA_osc": "^ucx,pt2pt",
+}
 # How programs are compiled that aren't one source in C alone. A folder stands for that in which
 # they are put, where a program finds the libraries.
 COMPILED = {

@@ -368,7 +368,7 @@ class CallsTest(unittest.TestCase):
 
     def test_jobs_of_several_launches(self) -> None:
         """Nobody knows whether they share names: unless one started the other."""
-        said = "#   2 jobs that no recorded process started"
+        said = "#   2 jobs that none of them started"
         tapes = [Tape(0).call(*FENCE), Tape(0, "more").call(*FENCE)]
         self.assertIn(said, write_plan_of(tapes))
         tapes[0].say("other PMIx_Spawn")

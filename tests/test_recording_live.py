@@ -130,7 +130,10 @@ class ProgramsTest(LiveTest):
     def test_errors(self) -> None:
         """Who ignores the statuses of requests is told of an error as without the recorder, and an
         error of one communicator isn't told to others."""
-        ran = self.record_alike(mpirun(2, self.compile("errors")))
+        run = mpirun(2, self.compile("errors"))
+        if "0 without statuses: 0\n" in run_plainly(run).stdout:
+            self.skipTest("MPI_Waitall of this MPI tells of no error without statuses")
+        ran = self.record_alike(run)
         self.assertEqual((ran.returncode, ran.stdout.count("statuses: ")), (0, 8))
         self.assertIn("told to others: 0\n", ran.stdout)
 

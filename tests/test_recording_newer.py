@@ -1,11 +1,14 @@
 """Runs the live tests of the recorder with the MPI and PMIx of a newer Debian, in a folder that
-`make newer-root` makes. Where there is none, they are left out."""
+`make newer-root` makes, and some programs under other launchers. Where there is none, they are left
+out."""
 import re
 import unittest
 
+import support
 from newer import NewerCase
 
 TESTS = ["python3", "-m", "unittest", "-v", "tests.test_recording_live"]
+LAUNCHERS = ["prterun", "prun", "srun"]
 
 
 class NewerTest(NewerCase):
@@ -16,6 +19,12 @@ class NewerTest(NewerCase):
         ran = self.run_inside("mpirun", TESTS)
         self.assertEqual(ran.returncode, 0, ran.stderr[-3000:])
         print(*re.findall(r"skipped ['\"].*|^OK.*$", ran.stderr, re.M), sep="\n")
+
+    def test_launchers(self) -> None:
+        """Programs do the same recorded under launchers that the live tests don't take."""
+        support.program()
+        ran = self.run_inside("prterun", ["python3", "-m", "tests.hold_launchers", *LAUNCHERS])
+        self.assertEqual(ran.returncode, 0, ran.stdout[-6000:] + ran.stderr[-3000:])
 
 
 if __name__ == "__main__":

@@ -1,9 +1,12 @@
 """Tests the order of fences, of calls that don't block, and of collectives, in a plan."""
 import unittest
+from collections.abc import Sequence
 
 from order_case import BARRIER, COLLECTS, MARK, OrderTest
 from tapes import Tape, make_world, write_plan_of
 from wire_up_tools.words import MORE_ORDERED
+
+PUT, FENCE = ("put global k text:v", "commit"), "fence blocks all -"
 
 
 class FencesTest(OrderTest):
@@ -56,6 +59,27 @@ class FencesTest(OrderTest):
         plan = write_plan_of(tapes)
         self.assertIn("1 gets of a wildcard rank", plan)
         self.assertNotIn(MORE_ORDERED, plan)
+
+    def hold_get_in_a_fence(
+        self, owner: Sequence[str], is_settled: bool, get: str = "-", first: str = FENCE
+    ) -> None:
+        """Tests a get of rank 0, while a fence is open after a first one."""
+        tapes = Tape(0).call(first), Tape(1)
+        for call in (*owner, f"fence blocks all {COLLECTS}"):
+            tapes[1].call(call)
+        fence = tapes[0].begin(f"fence nb all {COLLECTS}")
+        tapes[0].call(f"get blocks job:1 :k {get}", "0 text:v").end(fence)
+        self.assertEqual(MORE_ORDERED not in write_plan_of(tapes), is_settled)
+
+    def test_a_get_of_what_is_there_in_a_fence(self) -> None:
+        """It isn't more ordered if it waits, and its owner puts the key before an earlier fence of
+        both, and never again."""
+        self.hold_get_in_a_fence([*PUT, FENCE], True)
+        self.hold_get_in_a_fence([FENCE, *PUT], False)
+        self.hold_get_in_a_fence([*PUT, FENCE, *PUT], False)
+        self.hold_get_in_a_fence([PUT[0], FENCE, PUT[1]], False)
+        self.hold_get_in_a_fence([*PUT, FENCE], False, get="pmix.immediate=number:1:1")
+        self.hold_get_in_a_fence(PUT, False, first="fence blocks job:0 -")
 
     def test_a_get_that_does_not_block(self) -> None:
         """It is where it ends."""

@@ -18,7 +18,7 @@ from wire_up_tools.run.libraries.rules import Rule
 from wire_up_tools.run.libraries.traits import LIBRARIES, Library
 from wire_up_tools.run.profile import ProfileRule
 from wire_up_tools.run.reports import Report, read_report
-from wire_up_tools.run.suite import Kind, SuitePlan, read_suite
+from wire_up_tools.run.suite import Kind, read_suite
 from wire_up_tools.run.tables import Recorded, read_table
 
 # Plans that differ, and that the rules of a library don't explain, by the library's name.
@@ -44,11 +44,34 @@ UNLIKE = {
     "slurm-24.11": {"collect-mixed-one-node"},
 }
 PLANS = {it.name: it for it in read_suite()}
+# A recorded plan: a barrier and a message of MPI, by which a key is there when it is asked for. As
+# calls of PMIx Slurm would fail the message, and wait with the fence for nobody.
+OF_MPI = """\
+rehearsal 1
+node a
+node b
+job app
+rank a
+put global early 1
+commit
+put global late 2
+commit
+# MPI: barrier
+fence all
+# MPI: send, tag 0
+publish mpi.0.1.1 sent
+rank b
+# MPI: barrier
+fence all
+get app:0 late
+# MPI: receive, tag 0
+lookup-wait mpi.0.1.1
+"""
 
 
-def rules_report(plan: SuitePlan) -> Report:
+def rules_report(text: str) -> Report:
     """The report of the rules, by the model of the tests."""
-    scripts = grammar.read(plan.text.encode())
+    scripts = grammar.read(text.encode())
     return read_report(model_runs.Run(model.Plan(scripts)).go().report().decode())
 
 
@@ -57,7 +80,7 @@ def list_seen(recorded: Recorded) -> set[str]:
     return {str(it) for it in recorded.differences}
 
 
-REPORTS = {name: rules_report(it) for name, it in PLANS.items()}
+REPORTS = {name: rules_report(it.text) for name, it in PLANS.items()}
 
 
 class Suite(unittest.TestCase):
@@ -144,6 +167,15 @@ class Predictions(unittest.TestCase):
             for it in explain_differences(plan, traits, REPORTS[name]):
                 needed.update(it.rules)
         self.assertEqual(traits.rules, needed)
+
+    def test_what_stands_for_mpi(self) -> None:
+        """It is none of a library's calls: it does what it does by the rules."""
+        without = OF_MPI.replace("# MPI: ", "# ")
+        verbs = {"publish", "get", "lookup-wait"}
+        for text, wanted in ((OF_MPI, set()), (without, verbs)):
+            plan, expected = read_plan(text.encode()), Expected(rules_report(text))
+            of = judge(plan, LIBRARIES["slurm-24.11"], expected)
+            self.assertEqual(wanted, {it.difference.place.verb for it in of.found})
 
     def test_an_order_is_taken(self) -> None:
         """The steps of an order come first."""

@@ -1,9 +1,7 @@
 """Notes what a plan can't say of the program: the head of the plan tells it."""
-import bisect
 import re
-import sys
 from collections import Counter
-from collections.abc import Container, Iterable, Sequence
+from collections.abc import Iterable, Sequence
 from dataclasses import dataclass, field
 
 from wire_up_tools.record.calls import (
@@ -15,7 +13,7 @@ from wire_up_tools.record.calls import (
     Publish,
     Unpublish,
 )
-from wire_up_tools.record.directives import KNOWN, find_ending, gives_up, stands_early
+from wire_up_tools.record.directives import KNOWN, find_ending, gives_up
 from wire_up_tools.record.messages import Messages
 from wire_up_tools.record.processes import Processes
 from wire_up_tools.record.recordings import Recording
@@ -97,7 +95,7 @@ def note_missing(processes: Processes, notes: Notes) -> None:
         ] += starts
     elif not starts:
         notes.more_ordered[
-            "jobs that no recorded process started: in the plan all run at one time, and share names"
+            "jobs that none of them started: in the plan all run at one time, and share names"
         ] += jobs
 
 
@@ -111,37 +109,6 @@ def note_directives(call: Call, notes: Notes) -> None:
         for it in action.directives:
             if it.key not in KNOWN:
                 notes.left_out[f"directives {show(it.key)}"] += 1
-
-
-def find_early(calls: Iterable[Call], fences: Container[Call]) -> list[tuple[int, int]]:
-    """From where to where calls are open that the plan puts before those that were made
-    meanwhile, in order and apart from each other. These fences are among them."""
-    found: list[tuple[int, int]] = []
-    for call in calls:
-        if stands_early(call.action) or call in fences:
-            ends = call.ends or sys.maxsize
-            if found and call.begins < found[-1][1]:
-                found[-1] = found[-1][0], max(ends, found[-1][1])
-            else:
-                found.append((call.begins, ends))
-    return found
-
-
-def note_overlaps(
-    calls: Sequence[Call], messages: Messages, fences: Container[Call], notes: Notes
-) -> None:
-    """Notes the calls that were made while one is open that the plan puts before them: also one of
-    these fences."""
-    early = find_early(calls, fences)
-    begins = [it.begins for it in calls] if early else ()
-    count = sum(
-        bisect.bisect_left(them, last) - bisect.bisect(them, first)
-        for first, last in early
-        for them in (begins, messages.begins)
-    )
-    notes.more_ordered[
-        "calls made while one that doesn't block was open: in the plan they come after it"
-    ] += count
 
 
 def note_unawaited(calls: Sequence[Call], messages: Messages, notes: Notes) -> None:

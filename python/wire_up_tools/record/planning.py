@@ -11,6 +11,7 @@ from wire_up_tools.record.mpi_order import MpiOrder, order_by_mpi
 from wire_up_tools.record.names import Spelling, find_spelling
 from wire_up_tools.record.notes import Notes
 from wire_up_tools.record.open_groups import note_open_groups, order_open_groups
+from wire_up_tools.record.overlaps import note_overlaps
 from wire_up_tools.record.pmix_calls import make_lines
 from wire_up_tools.record.pmix_fences import PmixFences, make_fences
 from wire_up_tools.record.pmix_waits import find_waits
@@ -114,7 +115,8 @@ def make_whole_plan(recordings: Sequence[Recording], choices: Choices) -> Plan:
     processes = arrange_processes(recordings, choices.most)
     spelling, sets = find_spelling(processes), Sets(processes)
     fences = make_fences(sets, spelling)
-    calls = make_lines(processes, spelling, fences, choices.with_mpi)
+    calls = make_lines(processes, spelling, choices.with_mpi)
+    note_overlaps(processes, calls, fences, choices.with_mpi)
     calls.notes.add(fences.notes)
     parts, notes, mpi = [calls.part, fences.part], calls.notes, MpiSummary()
     refuse_too_many(parts, choices.most)

@@ -1,7 +1,7 @@
 """Makes lines of the calls of PMIx of each process, but for fences."""
 import re
 import sys
-from collections.abc import Sequence
+from collections.abc import Mapping, Sequence
 from dataclasses import dataclass, field
 from typing import Optional, Union
 
@@ -37,17 +37,22 @@ from wire_up_tools.record.notes import (
     Notes,
     note_directives,
     note_missing,
-    note_overlaps,
     note_recording,
     note_unawaited,
 )
-from wire_up_tools.record.pmix_fences import PmixFences
 from wire_up_tools.record.processes import Process, Processes
 from wire_up_tools.record.puts import OTHER_SCOPE, PutsByProcess
 
 NOT_FOUND, DUPLICATE_KEY = -46, -53
 # Where a line stands whose call hasn't ended.
 AT_THE_END = sys.maxsize
+
+
+def find_owner(processes: Processes, caller: Process, get: Get) -> Optional[Process]:
+    """The process whose key is asked for; None where it isn't recorded."""
+    if get.owner is None or not isinstance(get.owner.rank, int):
+        return None
+    return processes.find(get.owner.namespace or caller.namespace, get.owner.rank)
 
 
 @dataclass
@@ -146,16 +151,9 @@ class ProcessLines:
             return "gets of reserved keys"
         return None
 
-    def find_owner(self, get: Get) -> Optional[Process]:
-        """The process whose key is asked for; None where it isn't recorded."""
-        if get.owner is None or not isinstance(get.owner.rank, int):
-            return None
-        namespace = get.owner.namespace or self.process.namespace
-        return self.processes.find(namespace, get.owner.rank)
-
     def take_get(self, call: Call, get: Get) -> None:
         """Makes the line of a get. One that waits stands where it ended."""
-        why, owner = self.why_no_get(get), self.find_owner(get)
+        why, owner = self.why_no_get(get), find_owner(self.processes, self.process, get)
         if why or not owner or not get.keys:
             self.leave_out(why or "gets of processes that aren't recorded")
             return
@@ -307,18 +305,19 @@ def note_names(part: Part, notes: Notes) -> None:
 
 @dataclass(frozen=True)
 class PmixLines:
-    """The lines of calls, and what is noted of them."""
+    """The lines of calls, and what is noted of them; the calls of each process that a plan has, of
+    MPI too; and what each puts."""
 
     part: Part
     notes: Notes
+    calls: Mapping[Process, Sequence[Call]]
+    puts: PutsByProcess
 
 
-def make_lines(
-    processes: Processes, spelling: Spelling, fences: PmixFences, with_mpi: bool
-) -> PmixLines:
+def make_lines(processes: Processes, spelling: Spelling, with_mpi: bool) -> PmixLines:
     """The lines of all calls of PMIx but fences, each process by itself."""
     part, notes, puts = Part(), Notes(), PutsByProcess()
-    early = fences.find_early()
+    calls: dict[Process, Sequence[Call]] = {}
     for process in processes.all:
         recording = process.recording
         note_recording(recording, notes)
@@ -330,14 +329,12 @@ def make_lines(
             note_directives(call, notes)
         with_lines = {it.call for it in part.lines[first:]}
         noted = recording.calls if with_mpi else of_pmix
-        in_plan = [
+        calls[process] = in_plan = [
             it
             for it in noted
             if not it.is_of_pmix or isinstance(it.action, (Fence, Group)) or it in with_lines
         ]
-        messages = recording.messages if with_mpi else Messages()
-        note_overlaps(in_plan, messages, early, notes)
-        note_unawaited(in_plan, messages, notes)
+        note_unawaited(in_plan, recording.messages if with_mpi else Messages(), notes)
     note_names(part, notes)
     note_missing(processes, notes)
-    return PmixLines(part, notes)
+    return PmixLines(part, notes, calls, puts)

@@ -12,12 +12,14 @@ OTHER_SCOPE = "other"
 
 @dataclass(frozen=True)
 class Puts:
-    """What a process puts: for each key where its first put begins, which keys it commits, and
-    in which scopes it puts each, failed puts among them."""
+    """What a process puts: for each key where its first put begins, which keys it commits, in
+    which scopes it puts each, failed puts among them, and where the commit of its last put ended,
+    if there is one."""
 
     first: Mapping[bytes, int]
     committed: frozenset[bytes]
     scopes: Mapping[bytes, set[str]]
+    done: Mapping[bytes, int]
 
 
 def find_puts(recording: Recording) -> Puts:
@@ -25,18 +27,21 @@ def find_puts(recording: Recording) -> Puts:
     first: dict[bytes, int] = {}
     waiting: set[bytes] = set()
     committed: set[bytes] = set()
+    done: dict[bytes, int] = {}
     scopes: dict[bytes, set[str]] = {}
     for call in recording.calls_of_pmix:
         action = call.action
         if isinstance(action, Put):
             scopes.setdefault(action.key, set()).add(action.scope)
+            done.pop(action.key, None)
             if action.scope != OTHER_SCOPE and not call.has_failed:
                 first.setdefault(action.key, call.begins)
                 waiting.add(action.key)
         elif isinstance(action, Commit) and not call.has_failed:
             committed |= waiting
+            done.update(dict.fromkeys(waiting, call.ends or sys.maxsize))
             waiting.clear()
-    return Puts(first, frozenset(committed), scopes)
+    return Puts(first, frozenset(committed), scopes, done)
 
 
 @dataclass

@@ -11,7 +11,7 @@ from wire_up_tools.run.libraries.world import SUCCESS, Arrival, Reply, World
 
 # What identifies a fence to the library: the job of a fence of all its ranks, or a list.
 Sign = tuple[str, ...]
-ALL, LIST = "all", "list"
+ALL, LIST, OF_MPI = "all", "list", "of MPI"
 
 
 @dataclass(eq=False)
@@ -33,7 +33,9 @@ class Fences:
     standing: dict[str, Meeting] = field(default_factory=dict)
 
     def find_sign(self, call: Call) -> Sign:
-        """How the library knows a fence."""
+        """How the library knows a fence. What stands for a collective of MPI isn't one of its."""
+        if call.remark is not None:
+            return (OF_MPI, *sorted(self.world.members(call)))
         job = call.rank.job
         if call.target in ("all", f"{job}:*"):
             return (ALL, job)
@@ -110,10 +112,14 @@ class End:
         return {it: met[self.node_of(it)][0].arrived[it] for it in there}
 
     @property
+    def is_of_node(self) -> bool:
+        """Whether it waits for its node alone, if it doesn't collect. MPI waits for all."""
+        return self.world.has(Rule.FENCE_OF_NODE) and self.call.remark is None
+
+    @property
     def meets_collecting(self) -> bool:
         """Whether it meets those that collect, and no others."""
-        of_node = self.world.has(Rule.FENCE_OF_NODE)
-        return of_node and self.is_collecting(self.meeting, self.here)
+        return self.is_of_node and self.is_collecting(self.meeting, self.here)
 
     @property
     def here(self) -> str:
@@ -145,18 +151,18 @@ class End:
         if repeats and self.world.has(Rule.LIST_AS_SPELT):
             return True
         is_list = self.meeting.sign[0] == LIST and len(self.nodes) > 1
-        return is_list and self.call.collects and self.world.has(Rule.FENCE_OF_NODE)
+        return is_list and self.call.collects and self.is_of_node
 
     def list_counted(self) -> list[str]:
         """The items of the set of which it waits for each, as they are spelt."""
         words = self.call.target.split(",")
-        if not self.world.has(Rule.FENCE_OF_NODE) or self.call.collects:
+        if not self.is_of_node or self.call.collects:
             return words
         return [it for it in words if it not in self.world.ranks or self.node_of(it) == self.here]
 
     def is_complete(self) -> bool:
         """Whether all have arrived that it waits for."""
-        if not self.world.has(Rule.FENCE_OF_NODE) or self.meets_collecting:
+        if not self.is_of_node or self.meets_collecting:
             return self.members <= self.arrived.keys()
         near = {it for it in self.members if self.node_of(it) == self.here}
         return near <= self.meeting.arrived.keys()

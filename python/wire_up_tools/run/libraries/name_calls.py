@@ -17,8 +17,9 @@ PARTIAL = "PMIX_STATUS(-104,PMIX_QUERY_PARTIAL_SUCCESS)"
 
 
 def answer_name_call(world: World, call: Call) -> Reply:
-    """What a publish, a lookup or an unpublish gives."""
-    if not world.traits.has_names and world.has(Rule.NAMES):
+    """What a publish, a lookup or an unpublish gives. What stands for a message of MPI is none."""
+    has_names = world.traits.has_names or call.remark is not None
+    if not has_names and world.has(Rule.NAMES):
         return UNSUPPORTED
     if is_reserved(call.about) and not world.has(Rule.RESERVED_KEYS):
         return BAD
