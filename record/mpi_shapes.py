@@ -363,7 +363,7 @@ note_child(&parent, result, made);
 """),
     "make-later": Shape(CALL + BEGIN_CHILD, """\
 if (parent.number && result == MPI_SUCCESS)
-    keep_duplicate(*request, &parent, made);
+    keep_duplicate(*request, &parent, *made);
 """),
     # Each process gets data of every other: it is a collective too.
     "make-gathering": Shape(BEGIN + BEGIN_CHILD, """\

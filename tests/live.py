@@ -50,6 +50,7 @@ COMPILED = {
     "profiled": ("mpicc", "told.c", "-L{folder}", "-Wl,-rpath,{folder}", "-lprofiler"),
     "mixed": ("mpifort", "-J{folder}", "mixed.c", "mixed_parts.f90"),
     "fortran": ("mpifort", "-J{folder}", "fortran.f90"),
+    "duplicate": ("mpifort", "-J{folder}", "duplicate.f90"),
 }
 SOURCES = (".c", ".f90")
 # The programs that call PMIx themselves.

@@ -384,6 +384,15 @@ class OtherWaysTest(LiveTest):
     def test_large_counts(self) -> None:
         self.hold_if_new("large", "functions with large counts")
 
+    def test_a_duplicate_in_fortran(self) -> None:
+        """Its handle stands nowhere once the call that begins it is over."""
+        if not shutil.which("mpifort"):
+            self.skipTest("there is no mpifort")
+        ran = self.record_alike(mpirun(2, self.compile("duplicate")), "--answers", self.answers)
+        self.assertEqual((ran.returncode, ran.stderr), (0, ""))
+        if self.program:
+            self.assertIsNone(why_wrong(self.program, self.plan, self.answers, 0))
+
     def test_fortran(self) -> None:
         """Alone and beside C, and its calls come from its lines."""
         if not shutil.which("mpifort"):

@@ -269,12 +269,12 @@ bool take_fence(uintptr_t window, int how)
     return is_end;
 }
 
-void note_duplicate(const struct communicator *parent, const MPI_Comm *made)
+void note_duplicate(const struct communicator *parent, MPI_Comm made)
 {
     if (parent->is_inter)
-        forget_communicator((uintptr_t)*made);
+        forget_communicator((uintptr_t)made);
     else
-        note_alike(parent, *made, 'c', (uintptr_t)*made);
+        note_alike(parent, made, 'c', (uintptr_t)made);
 }
 
 /* --- the world --- */

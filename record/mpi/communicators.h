@@ -55,7 +55,7 @@ void leave_session(void);
 void note_of_session(const struct call *call, int result, const MPI_Comm *made, const char *tag);
 
 /* Notes a communicator that was made of a parent, and has the same processes. */
-void note_duplicate(const struct communicator *parent, const MPI_Comm *made);
+void note_duplicate(const struct communicator *parent, MPI_Comm made);
 
 /* Takes a fence of a window, with what the program asserts of it, and answers whether it may end an
  * epoch. */

@@ -17,7 +17,7 @@ struct request {
     struct envelope message;
     long long bytes;
     struct communicator parent; /* of a duplicate */
-    const MPI_Comm *made;
+    MPI_Comm made;
     struct request *next;
 };
 
@@ -160,7 +160,7 @@ void keep_collective(MPI_Request request, unsigned long number, const char *sour
     keep(request, what);
 }
 
-void keep_duplicate(MPI_Request request, const struct communicator *parent, const MPI_Comm *made)
+void keep_duplicate(MPI_Request request, const struct communicator *parent, MPI_Comm made)
 {
     struct request what = {.kind = DUPLICATE, .made = made};
     what.parent = *parent;

@@ -20,8 +20,9 @@ void keep_persistent_send(MPI_Request request, struct envelope to, long long byt
                           bool is_synchronous);
 void keep_persistent_receive(MPI_Request request, struct envelope from);
 
-/* Keeps the request of a communicator that is made of a parent: it is there when that is over. */
-void keep_duplicate(MPI_Request request, const struct communicator *parent, const MPI_Comm *made);
+/* Keeps the request of a communicator that is made of a parent: it is there when that is over. Its
+ * handle is known at once, and may stand where only the call finds it, as in Fortran. */
+void keep_duplicate(MPI_Request request, const struct communicator *parent, MPI_Comm made);
 
 /* Forgets what had a handle that is new. */
 void forget_request(MPI_Request request);
