@@ -41,6 +41,9 @@ FAILED = (
 )
 FOUND_BY_TEST = "MPI_Test that found a request complete"
 HANDLER = "1 processes that called in a handler of a signal: another run may call elsewhere\n"
+CALLBACK = (
+    "1 processes that called PMIx in a function that MPI calls: another run may call elsewhere\n"
+)
 THREADS = (
     "1 processes that called from several threads: their calls stand in the order in which they "
     "began\n"

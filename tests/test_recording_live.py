@@ -21,6 +21,7 @@ from recorded import (
     CASES,
     DIRECT,
     HANDLES,
+    CALLBACK,
     HANDLER,
     HIDDEN,
     IN_PART,
@@ -330,13 +331,14 @@ class OtherWaysTest(LiveTest):
 
     def test_handlers_that_are_hard_to_notice(self) -> None:
         """One that ends with a jump, one deep below, and one after so many calls that the recorder
-        no longer looks at who made each."""
+        no longer looks at who made each; and a function that MPI calls."""
         self.compile("liblookups.so")
         path = self.compile("hidden")
-        for name in ("jumping-handler", "deep-handler", "late-handler"):
+        hidden = dict.fromkeys(("jumping-handler", "deep-handler", "late-handler"), HANDLER)
+        for name, told in {**hidden, "sum": CALLBACK}.items():
             with self.subTest(name):
                 ran = self.record(*mpirun(2, path, name))
-                said = f"wire_up-record: {IN_PART}{HANDLER}"
+                said = f"wire_up-record: {IN_PART}{told}"
                 self.assertEqual((ran.returncode, ran.stderr), (0, said))
 
     def test_a_rank_without_the_recorder(self) -> None:

@@ -84,21 +84,24 @@ static _Unwind_Reason_Code take_frame(struct _Unwind_Context *frame, void *to)
     return keep_frame(frame, &it->found);
 }
 
-/* Notes once that a handler of a signal makes calls: where they stand is luck. */
-static void note_handler(void)
+/* Notes once that a function makes calls that is called by a signal or by MPI: where they stand can
+ * be luck. */
+static void note_by_luck(bool *is_noted, const char *kind, const char *by)
 {
-    static bool is_noted;
-    if (!__atomic_exchange_n(&is_noted, true, __ATOMIC_RELAXED))
-        wire_up_note_unseen("handler", "signal");
+    if (!__atomic_exchange_n(is_noted, true, __ATOMIC_RELAXED))
+        wire_up_note_unseen(kind, by);
 }
 
 /* Walks the frames of a call that a place makes, which may itself be the program's. */
-static void walk_frames(struct walk *it, struct place *place)
+static void walk_frames(struct walk *it, struct place *place, bool is_for_pmix)
 {
+    static bool is_handler_noted, is_callback_noted;
     it->is_kept = true;
     _Unwind_Backtrace(take_frame, it);
     if (it->found.is_in_handler)
-        note_handler();
+        note_by_luck(&is_handler_noted, "handler", "signal");
+    if (it->found.is_of_mpi && is_for_pmix)
+        note_by_luck(&is_callback_noted, "callback", "MPI");
     it->place = join_frames(&it->found);
     if (!it->place && place->owner == OF_PROGRAM)
         it->place = place;
@@ -136,15 +139,15 @@ struct place *wire_up_place_called(struct place *place, const void *frame)
                     __atomic_load_n(&place->is_walked, __ATOMIC_RELAXED);
     if (is_known && __atomic_fetch_add(&walked, 1, __ATOMIC_RELAXED) > MOST_WALKS && is_as_usual())
         return wire_up_in_python(place);
-    return walk_from(place, frame);
+    return walk_from(place, frame, false);
 }
 
-struct place *walk_from(struct place *place, const void *frame)
+struct place *walk_from(struct place *place, const void *frame, bool is_for_pmix)
 {
     struct walk it = {.caller = place->address, .frame = frame};
     note_thread();
     note_past_if_loaded();
-    walk_frames(&it, place);
+    walk_frames(&it, place, is_for_pmix);
     if (!it.found.is_in_handler)
         read_signals(&usual);
     __atomic_store_n(&place->is_walked, true, __ATOMIC_RELAXED);

@@ -187,6 +187,7 @@ _Unwind_Reason_Code keep_frame(struct _Unwind_Context *frame, void *to)
         return _URC_END_OF_STACK;
     struct place *it = found->is_over ? NULL : wire_up_place(address);
     if (!it || it->owner != OF_PROGRAM) {
+        found->is_of_mpi |= it && found->count > 0 && it->owner == OF_MPI;
         found->is_over = found->count > 0;
         return _URC_NO_REASON;
     }

@@ -25,6 +25,7 @@ struct frames {
     size_t count, seen; /* of all frames that were looked at */
     bool is_over;       /* no more are kept */
     bool is_in_handler; /* a signal interrupted what was there before */
+    bool is_of_mpi;     /* the library of MPI called the outermost that is kept */
 };
 
 /* Keeps the place of a frame if it is the program's, up to the first behind it that isn't. Then it
@@ -38,8 +39,9 @@ struct place *join_frames(const struct frames *found);
  * calls of dlclose. */
 void note_past_if_loaded(void);
 
-/* Does what wire_up_place_called does, however often. */
-struct place *walk_from(struct place *place, const void *frame);
+/* Does what wire_up_place_called does, however often. Where it is for a call of PMIx, and MPI called
+ * the function that makes it, it notes that. */
+struct place *walk_from(struct place *place, const void *frame, bool is_for_pmix);
 
 /* Finds where in the program a call comes from that the code at `caller` makes, through however many
  * calls of libraries. Null on a thread that isn't the program's. The frame is that of the wrapper. */
@@ -49,7 +51,7 @@ static inline struct place *find_origin(const void *caller, const void *frame)
     if (wire_up_recall_place(caller, frame, &line))
         return line;
     struct place *place = wire_up_place(caller);
-    return place ? walk_from(place, frame) : NULL;
+    return place ? walk_from(place, frame, true) : NULL;
 }
 
 #endif

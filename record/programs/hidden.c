@@ -7,8 +7,8 @@
  *               the second word is its path: a race that the plan doesn't have
  *   namespace, child, handler, thread, event
  *               process 0 publishes before it sends a message: no race; besides, each opens MPI in a namespace of its own, calls MPI in a
- *               forked child, publishes in a handler of a signal (jumping-, deep- and late-handler: in one that is hard to notice), waits for
- *               a send in another thread, or has a handler of events
+ *               forked child, publishes in a handler of a signal (jumping-, deep- and late-handler: in one that is hard to notice; sum: in a
+ *               function of MPI_Op), waits for a send in another thread, or has a handler of events
  */
 #define _GNU_SOURCE
 #include <dlfcn.h>
@@ -153,6 +153,25 @@ static void publish_in_odd_handler(const char *which)
     raise(SIGUSR1);
 }
 
+static void add(void *in, void *out, int *count, MPI_Datatype *type)
+{
+    (void)type;
+    for (int n = 0; n < *count; n++)
+        ((int *)out)[n] += ((int *)in)[n];
+    if (rank == 0)
+        publish();
+}
+
+/* Which process adds is for MPI to choose: here each does. */
+static void publish_in_sum(void)
+{
+    MPI_Op op;
+    int sum = 0;
+    MPI_Op_create(add, 1, &op);
+    MPI_Allreduce(&rank, &sum, 1, MPI_INT, op, MPI_COMM_WORLD);
+    MPI_Op_free(&op);
+}
+
 static MPI_Request sent;
 
 static void *wait_for_send(void *data)
@@ -198,7 +217,7 @@ int main(int count, char **words)
     else if (!strcmp(which, "opened"))
         exchange_by(dlopen(path, RTLD_NOW | RTLD_DEEPBIND));
     else {
-        if (rank == 0 && !strstr(which, "handler"))
+        if (rank == 0 && !strstr(which, "handler") && strcmp(which, "sum"))
             publish();
         if (!strcmp(which, "namespace"))
             open_again();
@@ -208,6 +227,8 @@ int main(int count, char **words)
             publish_in_handler();
         else if (strstr(which, "handler"))
             publish_in_odd_handler(which);
+        else if (!strcmp(which, "sum"))
+            publish_in_sum();
         else if (!strcmp(which, "thread"))
             wait_elsewhere();
         else if (!strcmp(which, "event"))

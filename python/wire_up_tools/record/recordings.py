@@ -152,13 +152,14 @@ class Recording:
 
 # --- what isn't a call ---
 
+UNSEEN_KINDS = "call|object|pmix|namespace|child|handler|callback|stored"
 PLAIN = {
     "finalize": re.compile(r"finalize"),
     "other": re.compile(r"other (.+)"),
     "others": re.compile(r"others (\w+) (\d{1,18})"),
     "polled": re.compile(r"polled (MPI_\w+) (\d{1,18})"),
     "found": re.compile(r"found (MPI_\w+) (\d{1,18})"),
-    "unseen": re.compile(rf"unseen (call|object|pmix|namespace|child|handler|stored) ({WORD})"),
+    "unseen": re.compile(rf"unseen ({UNSEEN_KINDS}) ({WORD})"),
     "thread": re.compile(r"thread"),
     "job": re.compile(r"job (\d{1,10})"),
     "application": re.compile(r"application (\d{1,10})"),
@@ -197,6 +198,8 @@ UNSEEN_PMIX = {
     "namespace": "processes with {} in a namespace of its own: calls of it aren't seen",
     "child": "processes of which a child called PMIx or MPI by {}: its calls aren't seen",
     "handler": "processes that called in a handler of a {}: another run may call elsewhere",
+    "callback": "processes that called PMIx in a function that {} calls: another run may call "
+    "elsewhere",
     "stored": "processes that called {}: in the plan their gets of what they stored wait",
 }
 
