@@ -164,7 +164,9 @@ def try_once(place: Place, name: str, room: str) -> Seen:
     wrong = why_wrong(support.program(), plan, answers, count)
     # There is no replay of a plan with a race.
     replayed = "" if count else ", and replayed as answered"
-    found = f"{wrong}, not findings {count}" if wrong else f"findings {count} of {count}{replayed}"
+    found = f"findings {count} of {count}{replayed}"
+    if wrong:
+        found = f"{', '.join(wrong.splitlines())}, not findings {count}"
     is_well = not wrong and IN_PART not in ran.said
     return Seen(["ends recorded as by itself", found, *ran.told], is_well)
 
