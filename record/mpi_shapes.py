@@ -19,6 +19,18 @@ NOTE_RECEIVE = """\
 unsigned long number =
     call.is_noted ? note_receive(&call, (struct envelope){comm, from, tag}) : 0;
 """
+NOTE_BOTH = """\
+unsigned long number = 0, sent = 0;
+if (call.is_noted) {
+    number = note_receive(&call, (struct envelope){comm, from, in_tag});
+    sent = note_send(&call, (struct envelope){comm, to, out_tag}, count_bytes(count, type));
+}
+"""
+# Where the receive fails, the message is sent all the same, unless the call was refused.
+NOTE_REFUSED = """\
+if (is_refused(result))
+    note_unsent(sent);
+"""
 KEEP_RECEIVE = """\
 if (call.is_noted && result == MPI_SUCCESS)
     keep_receive(*request, number);
@@ -77,23 +89,11 @@ if (call.is_noted && result == MPI_SUCCESS)
 if (call.is_noted && result == MPI_SUCCESS)
     forget_request(*request);
 """),
-    "send-receive": Shape(CALL + """\
-unsigned long number = 0;
-if (call.is_noted) {
-    number = note_receive(&call, (struct envelope){comm, from, in_tag});
-    note_send(&call, (struct envelope){comm, to, out_tag}, count_bytes(count, type));
-}
-""" + TELL_STATUS, """\
+    "send-receive": Shape(CALL + NOTE_BOTH + TELL_STATUS, NOTE_REFUSED + """\
 note_received(number, result, told, WAITED);
 """, TOLD),
     # The request is over when both are; its status is that of the receive.
-    "nonblocking-send-receive": Shape(CALL + """\
-unsigned long number = 0;
-if (call.is_noted) {
-    number = note_receive(&call, (struct envelope){comm, from, in_tag});
-    note_send(&call, (struct envelope){comm, to, out_tag}, count_bytes(count, type));
-}
-""", KEEP_RECEIVE),
+    "nonblocking-send-receive": Shape(CALL + NOTE_BOTH, NOTE_REFUSED + KEEP_RECEIVE),
     "probe": Shape(CALL + """\
 unsigned long number = call.is_noted ? note_probe(&call, (struct envelope){comm, from, tag}) : 0;
 """ + TELL_STATUS, """\
@@ -335,8 +335,10 @@ COMMUNICATORS = {
 enter_call("$function", caller);
 """),
     "finalize": Shape(CALL + """\
-if (call.is_noted)
+if (call.is_noted) {
     wire_up_note_past();
+    leave_world();
+}
 """),
     "init-session": Shape(after=CALL + """\
 static void *known_taking;

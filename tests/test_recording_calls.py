@@ -245,7 +245,13 @@ class CallsTest(unittest.TestCase):
     def test_calls_whose_result_depends_on_speed(self) -> None:
         """They are told apart from calls that are left out."""
         names = (
-            "Accumulate", "Cancel of a receive", "Fetch_and_op", "Waitany of sends", "Win_lock_all"
+            "Accumulate",
+            "Cancel of a receive",
+            "Fetch_and_op",
+            "Iprobe in a communicator that isn't known",
+            "Recv of any source in a communicator that isn't known",
+            "Waitany of sends",
+            "Win_lock_all",
         )
         tape = Tape(0).say("other MPI_Win_flush")
         for name in names:

@@ -376,12 +376,23 @@ class OtherWaysTest(LiveTest):
 
     def hold_if_new(self, name: str, what: str) -> None:
         """Tests one that needs a newer MPI."""
-        if subprocess.run([self.compile(name)], check=False).returncode == TOO_OLD:
+        if run_plainly([self.compile(name)]).returncode == TOO_OLD:
             self.skipTest(f"this MPI has no {what}")
         self.hold(name)
 
     def test_sessions(self) -> None:
         self.hold_if_new("sessions", "sessions")
+
+    def test_sessions_after_the_end_of_mpi(self) -> None:
+        """Their communicators are known too. The library's own keys are put twice then."""
+        path = self.compile("sessions")
+        if run_plainly([path]).returncode == TOO_OLD:
+            self.skipTest("this MPI has no sessions")
+        ran = self.record(*mpirun(2, path, "later"))
+        self.assertEqual((ran.returncode, ran.stdout), (0, "sessions done\n"), ran.stderr[:300])
+        if self.program:
+            found = ask_program(self.program, "check", self.plan).stdout
+            self.assertNotIn(" name ", found)
 
     def test_large_counts(self) -> None:
         self.hold_if_new("large", "functions with large counts")

@@ -13,7 +13,7 @@ static unsigned changes = 1;
 
 /* The group of the world: of MPI_COMM_WORLD, once it is noted, or of a session. */
 static MPI_Group world_group;
-static bool has_world, has_group;
+static bool has_world, is_world_over, has_group;
 static int sessions;
 
 /* --- the table --- */
@@ -143,7 +143,7 @@ static void add_ranges(struct text *to, const int ranks[], int size)
 static bool add_members(struct text *to, MPI_Comm comm, __typeof__(&PMPI_Comm_group) take, int size)
 {
     MPI_Group group;
-    if (take(comm, &group) != MPI_SUCCESS)
+    if (!has_group || take(comm, &group) != MPI_SUCCESS)
         return false;
     int *ranks = translate_ranks(group, size);
     bool are_known = ranks != NULL;
@@ -314,6 +314,18 @@ void note_world(void)
     note_communicator(mpi.self, (struct making){.parent = 0, .how = "o", .nth = 0});
 }
 
+void leave_world(void)
+{
+    pthread_mutex_lock(&table);
+    bool is_last = has_group && sessions == 0;
+    is_world_over = true;
+    if (is_last)
+        has_group = false;
+    pthread_mutex_unlock(&table);
+    if (is_last)
+        mpi.group_free(&world_group);
+}
+
 /* --- sessions --- */
 
 /* Keeps the group of the world, if there is none yet. */
@@ -345,7 +357,7 @@ void note_session(MPI_Group world)
 void leave_session(void)
 {
     pthread_mutex_lock(&table);
-    bool is_last = sessions > 0 && --sessions == 0 && has_group && !has_world;
+    bool is_last = sessions > 0 && --sessions == 0 && has_group && (!has_world || is_world_over);
     if (is_last)
         has_group = false;
     pthread_mutex_unlock(&table);

@@ -29,8 +29,10 @@ unsigned number_of_communicator(uintptr_t handle);
  * held by a thread that it hasn't. */
 void forget_communicator(uintptr_t handle);
 
-/* Notes the world the first time that MPI is there. */
+/* Notes the world the first time that MPI is there; and lets go of it, before MPI_Finalize: sessions
+ * may come later. */
 void note_world(void);
+void leave_world(void);
 
 /* Answers the parent of a communicator that is to be made, where the call is noted, with which one
  * of its children that will be. Its number is 0 where nothing is known of it. */

@@ -5,11 +5,12 @@
 #include <string.h>
 
 /* Counts a call in a communicator that isn't known: it tells nothing of those that are. */
-static void note_unknown(const struct call *call)
+static void note_unknown(const struct call *call, int rank)
 {
     struct text what;
     wire_up_text_open(&what);
-    wire_up_text_add(&what, "other %s in a communicator that isn't known", call->function);
+    wire_up_text_add(&what, "other %s%s in a communicator that isn't known", call->function,
+                     rank == MPI_ANY_SOURCE ? " of any source" : "");
     write_plain(&what);
 }
 
@@ -21,7 +22,7 @@ static unsigned find_number(const struct call *call, struct envelope message)
         return 0;
     unsigned number = number_of_communicator((uintptr_t)message.comm);
     if (!number)
-        note_unknown(call);
+        note_unknown(call, message.rank);
     return number;
 }
 
@@ -72,6 +73,19 @@ void note_unsent(unsigned long number)
     const struct numbers what = {.first = "1"};
     if (number)
         wire_up_write_numbers('-', number, NULL, &what);
+}
+
+bool is_refused(int result)
+{
+    static const int refused[] = {MPI_ERR_BUFFER, MPI_ERR_COUNT, MPI_ERR_TYPE, MPI_ERR_TAG,
+                                  MPI_ERR_COMM,   MPI_ERR_RANK,  MPI_ERR_ARG};
+    int class = MPI_SUCCESS;
+    if (result == MPI_SUCCESS || mpi.error_class(result, &class) != MPI_SUCCESS)
+        return false;
+    for (size_t n = 0; n < sizeof refused / sizeof *refused; n++)
+        if (class == refused[n])
+            return true;
+    return false;
 }
 
 /* Answers how many bytes came, or -1 where the status doesn't tell. */

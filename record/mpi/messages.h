@@ -46,6 +46,9 @@ void note_sent(unsigned long number, int result, const char *how);
 /* Notes that a send failed. Nothing where its number is 0. */
 void note_unsent(unsigned long number);
 
+/* Whether a call was refused for what it was given. */
+bool is_refused(int result);
+
 /* Whether a receive that is over got no message, since it was cancelled in time. */
 bool is_cancelled(int result, const MPI_Status *status);
 

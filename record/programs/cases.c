@@ -274,6 +274,7 @@ static void unsent(void)
     if (rank == 0) {
         MPI_Send(two, -1, MPI_INT, 1, 0, MPI_COMM_WORLD);
         MPI_Send(two, 2, MPI_INT, 1, 0, MPI_COMM_WORLD);
+        MPI_Sendrecv(two, 2, MPI_INT, 1, 0, &x, 1, MPI_INT, 1, -5, MPI_COMM_WORLD, MPI_STATUS_IGNORE);
         publish("port");
         MPI_Send(two, 2, MPI_INT, 1, 0, MPI_COMM_WORLD);
     }

@@ -1,5 +1,5 @@
 /* A program of two processes without MPI_Init: names that are published before a barrier and a message in communicators of a session, and looked up
- * after them. Where MPI has no sessions it ends with status 77. */
+ * after them. With a word, MPI_Init and MPI_Finalize come before. Where MPI has no sessions it ends with status 77. */
 #include <mpi.h>
 #include <pmix.h>
 #include <stdio.h>
@@ -37,11 +37,15 @@ static void exchange(MPI_Comm comm)
     }
 }
 
-int main(void)
+int main(int count, char **words)
 {
     MPI_Session session;
     MPI_Group group;
     MPI_Comm all, copy;
+    if (count > 1) {
+        MPI_Init(&count, &words);
+        MPI_Finalize();
+    }
     MPI_Session_init(MPI_INFO_NULL, MPI_ERRORS_ARE_FATAL, &session);
     MPI_Group_from_session_pset(session, "mpi://WORLD", &group);
     MPI_Comm_create_from_group(group, "all", MPI_INFO_NULL, MPI_ERRORS_ARE_FATAL, &all);

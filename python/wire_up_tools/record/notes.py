@@ -22,9 +22,11 @@ from wire_up_tools.words import show
 # Functions whose result depends on which rank was faster, or behind which another rank's memory is
 # read, or that say what is done when an event comes. They order nothing.
 OF_LUCK = re.compile(
-    r"MPI_(Cancel( of a receive)?|Fetch_and_op|Compare_and_swap|(Get_a|Rget_a|A|Ra)ccumulate(_c)?"
-    r"|File_i?(read|write)_shared(_c)?|File_get_(position_shared|size)|Parrived"
-    r"|Request_get_status_\w+|Win_lock(_all)?|Win_shared_query(_c)?|Wait(any|some) of sends)"
+    r"MPI_(Cancel( of a receive)?|Comm_accept|Fetch_and_op|Compare_and_swap"
+    r"|(Get_a|Rget_a|A|Ra)ccumulate(_c)?|File_i?(read|write)_shared(_c)?"
+    r"|File_get_(position_shared|size)|Parrived|Request_get_status_\w+|Win_lock(_all)?"
+    r"|Win_shared_query(_c)?|Wait(any|some) of sends"
+    r"|(\w+ of any source|Im?probe) in a communicator that isn't known)"
     r"|PMIx_Register_event_handler"
 )
 # Functions by which processes are started. A library of MPI calls them too.
