@@ -330,6 +330,19 @@ BEGIN_CHILD = """\
 struct communicator parent = begin_child(&call, comm);
 """
 
+
+def shape_free(freed: str, before: str = "", after: str = "") -> Shape:
+    """A call that frees what has a handle. While it runs that is still there: it calls functions of
+    the program."""
+    return Shape(f"""\
+uintptr_t handle = {freed} ? (uintptr_t)*{freed} : 0;
+unsigned freed = number_of_communicator(handle);
+{before}""", f"""\
+{after}if (result == MPI_SUCCESS && freed)
+    forget_freed(handle, freed);
+""")
+
+
 COMMUNICATORS = {
     "init": Shape(after="""\
 enter_call("$function", caller);
@@ -385,10 +398,7 @@ if (call.is_noted)
 """, """\
 note_child_of_group(&parent, result, made, tag);
 """),
-    "free-communicator": Shape("""\
-if (comm)
-    forget_communicator((uintptr_t)*comm);
-"""),
+    "free-communicator": shape_free("comm"),
 }
 
 WINDOWS = {
@@ -403,13 +413,11 @@ bool is_end = it.number && take_fence((uintptr_t)window, how);
 """, """\
 end_collective(&it, result, is_end ? "all" : "none");
 """),
-    "free-window": Shape(CALL + """\
-uintptr_t handle = window ? (uintptr_t)*window : 0;
-struct collective it = begin_collective(&call, "$kind", handle);
-forget_communicator(handle);
-""", """\
-end_collective(&it, result, "all");
-"""),
+    "free-window": shape_free(
+        "window",
+        CALL + 'struct collective it = begin_collective(&call, "$kind", handle);\n',
+        'end_collective(&it, result, "all");\n',
+    ),
     "start-epoch": Shape(CALL, """\
 keep_epoch(&call, ORIGIN, result, group, window);
 """),

@@ -80,6 +80,7 @@ FORGETTING = {
     "MPI_Request": "forget_request(*{})",
     "MPI_Comm": "forget_communicator((uintptr_t)*{})",
 }
+KEEPING = "keep_counted(*{})"
 
 
 def find_names(text: str, prefix: str) -> set[str]:
@@ -94,13 +95,14 @@ def is_local(name: str, prefix: str) -> bool:
     return name not in NOT_LOCAL and any(re.fullmatch(it, short) for it in LOCAL[prefix])
 
 
-def write_forgetting(parameter: Parameter) -> str:
-    """The C that forgets what had the handle that a call puts where a parameter points, if it puts
-    one there."""
+def write_forgetting(name: str, parameter: Parameter) -> str:
+    """The C that forgets what had the handle that a call of this name puts where a parameter
+    points, if it puts one there; a persistent request is kept."""
     found = re.fullmatch(r"\s*(\w+) ?\* ?", parameter.start)
     if not found or found[1] not in FORGETTING or parameter.end:
         return ""
-    call = FORGETTING[found[1]].format(parameter.name)
+    is_kept = found[1] == "MPI_Request" and name.removesuffix(LARGE).endswith("_init")
+    call = (KEEPING if is_kept else FORGETTING[found[1]]).format(parameter.name)
     return f"if (call.is_noted && result == MPI_SUCCESS)\n    {call};\n"
 
 
@@ -108,7 +110,7 @@ def write_counted(library: Library, function: Function) -> str:
     """The wrapper of a function that is only counted."""
     parameters = function.parameters()
     note = NOTES_OF_PROGRAM if function.name in OF_PROGRAM else NOTES[library.prefix]
-    shape = Shape(note, "".join(write_forgetting(it) for it in parameters))
+    shape = Shape(note, "".join(write_forgetting(function.name, it) for it in parameters))
     return write_wrapper(library, function, parameters, shape)
 
 

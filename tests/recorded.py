@@ -190,7 +190,9 @@ LUCK = {
 }
 # Those of `handles`.
 HANDLES = {
+    "ended": Program(2, 0, 1),
     "freed": Program(2, 0, 1),
+    "kept": Program(2, 0, 1),
     "restarted": Program(2, 1, 1),
     "refused": Program(2, 0, 1),
 }

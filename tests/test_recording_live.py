@@ -394,6 +394,16 @@ class OtherWaysTest(LiveTest):
             found = ask_program(self.program, "check", self.plan).stdout
             self.assertNotIn(" name ", found)
 
+    def test_a_collective_that_is_started(self) -> None:
+        """It is counted, and takes no message from those that are matched."""
+        path = self.compile("persistent")
+        if run_plainly([path]).returncode == TOO_OLD:
+            self.skipTest("this MPI has no persistent collectives")
+        ran = self.record_alike(mpirun(2, path))
+        self.assertEqual((ran.returncode, ran.stderr), (0, ""))
+        if self.program:
+            self.assertIsNone(why_other_findings(self.program, self.plan, 0))
+
     def test_large_counts(self) -> None:
         self.hold_if_new("large", "functions with large counts")
 

@@ -53,18 +53,25 @@ unsigned number_of_communicator(uintptr_t handle)
     return last.number;
 }
 
-void forget_communicator(uintptr_t handle)
+/* Forgets what has a handle, if it has a number, or where that is 0. */
+static void forget(uintptr_t handle, unsigned number)
 {
     if (!wire_up_is_recording())
         return;
     pthread_mutex_lock(&table);
     struct communicator **at = find_slot(handle), *it = *at;
+    if (it && number && it->number != number)
+        it = NULL;
     if (it)
         *at = it->next;
     __atomic_add_fetch(&changes, 1, __ATOMIC_RELEASE);
     pthread_mutex_unlock(&table);
     free(it);
 }
+
+void forget_communicator(uintptr_t handle) { forget(handle, 0); }
+
+void forget_freed(uintptr_t handle, unsigned number) { forget(handle, number); }
 
 /* Keeps a communicator whose handle was forgotten. */
 static void keep_communicator(struct communicator it)

@@ -25,9 +25,11 @@ struct communicator find_communicator(uintptr_t handle);
 /* Answers its number alone, 0 where nothing is known: mostly without a lock. */
 unsigned number_of_communicator(uintptr_t handle);
 
-/* Forgets what had a handle that is free or new. A forked child does nothing: it may find the lock
+/* Forgets what had a handle that is free or new, or, where it was freed, what had that and a number:
+ * another thread may have made what has it now. A forked child does nothing: it may find the lock
  * held by a thread that it hasn't. */
 void forget_communicator(uintptr_t handle);
+void forget_freed(uintptr_t handle, unsigned number);
 
 /* Notes the world the first time that MPI is there; and lets go of it, before MPI_Finalize: sessions
  * may come later. */

@@ -6,10 +6,19 @@
 #include <string.h>
 
 /* What a request is for: a receive that is posted, a collective that has begun, a communicator that
- * is being made, a synchronous send, or a send or a receive that each start makes. */
+ * is being made, a synchronous send, or a send, a receive or something that is only counted, which each
+ * start makes. */
 struct request {
     uintptr_t handle;
-    enum { RECEIVE, COLLECTIVE, DUPLICATE, SEND, PERSISTENT_SEND, PERSISTENT_RECEIVE } kind;
+    enum {
+        RECEIVE,
+        COLLECTIVE,
+        DUPLICATE,
+        SEND,
+        PERSISTENT_SEND,
+        PERSISTENT_RECEIVE,
+        COUNTED
+    } kind;
     unsigned long number; /* of the call whose end is noted; 0 where none is open */
     bool is_synchronous;  /* a persistent send */
     bool is_cancelled;    /* it was asked for, which may come too late */
@@ -122,7 +131,7 @@ bool is_active_send(MPI_Request request)
         return false;
     wire_up_lock(&is_locked);
     const struct request *it = *find_slot(request);
-    bool is_send = !it || is_of_send(it) || it->kind == DUPLICATE;
+    bool is_send = !it || is_of_send(it) || it->kind == DUPLICATE || it->kind == COUNTED;
     wire_up_unlock(&is_locked);
     return is_send;
 }
@@ -189,6 +198,8 @@ void keep_persistent_receive(MPI_Request request, struct envelope from)
     keep(request, (struct request){.kind = PERSISTENT_RECEIVE, .message = from});
 }
 
+void keep_counted(MPI_Request request) { keep(request, (struct request){.kind = COUNTED}); }
+
 void note_freed(MPI_Request request)
 {
     if (is_open(request) && !is_active_send(request))
@@ -237,6 +248,8 @@ static void note_start(const struct call *call, MPI_Request request)
         start_send(&start, request, &it);
     else if (it.handle && it.kind == PERSISTENT_RECEIVE)
         set_number(request, note_receive(&start, it.message));
+    else if (it.handle && it.kind == COUNTED)
+        note_other("MPI_Start of a collective or a partitioned message");
     else
         note_other("MPI_Start of a request that isn't known");
 }
@@ -310,7 +323,7 @@ static struct request take_complete(MPI_Request request)
 static bool is_persistent(MPI_Request request)
 {
     struct request it = find_request(request);
-    return it.handle && (it.kind == PERSISTENT_SEND || it.kind == PERSISTENT_RECEIVE);
+    return it.handle && it.kind >= PERSISTENT_SEND;
 }
 
 bool is_over(int result, MPI_Request before, const MPI_Request *now)

@@ -20,6 +20,10 @@ void keep_persistent_send(MPI_Request request, struct envelope to, long long byt
                           bool is_synchronous);
 void keep_persistent_receive(MPI_Request request, struct envelope from);
 
+/* Keeps a persistent request of which the starts are only counted: that of a collective, or of a
+ * partitioned message. None of the messages that are noted is matched with it. */
+void keep_counted(MPI_Request request);
+
 /* Keeps the request of a communicator that is made of a parent: it is there when that is over. Its
  * handle is known at once, and may stand where only the call finds it, as in Fortran. */
 void keep_duplicate(MPI_Request request, const struct communicator *parent, MPI_Comm made);

@@ -4,6 +4,8 @@
  *   restarted  a buffered send that is started again before its message is fetched, for which MPI may take another handle: a race
  *   refused    a test that MPI refuses for its arguments, so that the receive stays open: no race
  *   freed      a communicator that is a duplicate of one which is freed before it is taken: no race
+ *   kept       a communicator that can't be freed: no race
+ *   ended      a communicator in which a message is sent while it is freed, by a function of one of its attributes: no race
  */
 #include <mpi.h>
 #include <stdio.h>
@@ -85,6 +87,50 @@ static void freed(void)
     MPI_Comm_free(&made);
 }
 
+/* A message by which process 1 knows that the name is there. */
+static void tell(MPI_Comm comm)
+{
+    if (rank == 0) {
+        MPI_Publish_name("port", MPI_INFO_NULL, "port");
+        MPI_Send(bytes, 1, MPI_CHAR, 1, 0, comm);
+    }
+    if (rank == 1) {
+        MPI_Recv(bytes, 1, MPI_CHAR, 0, 0, comm, MPI_STATUS_IGNORE);
+        look_up();
+    }
+}
+
+static void kept(void)
+{
+    MPI_Comm copy = MPI_COMM_WORLD;
+    MPI_Comm_free(&copy);
+    tell(MPI_COMM_WORLD);
+}
+
+static int send_last(MPI_Comm comm, int key, void *value, void *more)
+{
+    (void)key, (void)value, (void)more;
+    if (rank == 0)
+        MPI_Send(bytes, 1, MPI_CHAR, 1, 0, comm);
+    if (rank == 1)
+        MPI_Recv(bytes, 1, MPI_CHAR, 0, 0, comm, MPI_STATUS_IGNORE);
+    return MPI_SUCCESS;
+}
+
+static void ended(void)
+{
+    MPI_Comm made;
+    int key;
+    MPI_Comm_dup(MPI_COMM_WORLD, &made);
+    MPI_Comm_create_keyval(MPI_COMM_NULL_COPY_FN, send_last, &key, NULL);
+    MPI_Comm_set_attr(made, key, NULL);
+    if (rank == 0)
+        MPI_Publish_name("port", MPI_INFO_NULL, "port");
+    MPI_Comm_free(&made);
+    if (rank == 1)
+        look_up();
+}
+
 int main(int count, char **words)
 {
     const char *which = count > 1 ? words[1] : "";
@@ -97,6 +143,10 @@ int main(int count, char **words)
         refused();
     if (!strcmp(which, "freed"))
         freed();
+    if (!strcmp(which, "kept"))
+        kept();
+    if (!strcmp(which, "ended"))
+        ended();
     if (rank == 0)
         printf("%s done\n", which);
     MPI_Finalize();
