@@ -352,9 +352,12 @@ class OtherWaysTest(LiveTest):
         self.assertEqual((ran.returncode, ran.stderr), (0, f"wire_up-record: {IN_PART}{said}"))
 
     def test_a_tool_of_pmix(self) -> None:
-        ran = self.record(self.compile("alone"), "tool")
-        self.assertEqual((ran.returncode, ran.stderr), (0, ""))
-        self.assertEqual(read_scripts(read_file(self.plan)), [["put global key number:1"]])
+        """Also one whose name begins like that of a launcher."""
+        path = self.compile("alone")
+        for it in (path, shutil.copy(path, os.path.join(self.folder.name, "prun_tests"))):
+            ran = self.record(it, "tool")
+            self.assertEqual((ran.returncode, ran.stderr), (0, ""))
+            self.assertEqual(read_scripts(read_file(self.plan)), [["put global key number:1"]])
 
     def test_other_names(self) -> None:
         self.hold("pmpi")

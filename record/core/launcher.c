@@ -1,5 +1,6 @@
 /* What a launcher hands on to the processes that it starts, and what shows that it has no PMIx. */
 #define _GNU_SOURCE
+#include "core/launcher.h"
 #include "core/text.h"
 
 #include <errno.h>
@@ -14,17 +15,15 @@
 #define LIST "OMPI_MCA_mca_base_env_list"
 #define OWN_LIST "LD_PRELOAD;WIRE_UP_RECORD"
 
-/* Whether a name is that of a command, or one with a version, such as mpirun.openmpi. */
-static bool is_command(const char *name, const char *command)
+bool is_command(const char *command)
 {
+    const char *name = program_invocation_short_name;
     return begins_with(name, command) && strchr(".-0123456789", name[strlen(command)]);
 }
 
-static bool is_launcher(void)
+static bool is_launcher_of_open_mpi(void)
 {
-    const char *name = program_invocation_short_name;
-    return is_command(name, "mpirun") || is_command(name, "mpiexec") ||
-           is_command(name, "orterun");
+    return is_command("mpirun") || is_command("mpiexec") || is_command("orterun");
 }
 
 /* Whether this is PRRTE's own launcher, which knows the option alone. */
@@ -54,7 +53,8 @@ static bool has_option(int count, char **words, const char *option)
 __attribute__((constructor)) static void hand_on_by_options(int count, char **words)
 {
     static char option[] = "-x", preload[] = "LD_PRELOAD", folder[] = "WIRE_UP_RECORD";
-    bool is_due = is_launcher_of_prrte() || (is_launcher() && has_option(count, words, option));
+    bool is_due = is_launcher_of_prrte() ||
+                  (is_launcher_of_open_mpi() && has_option(count, words, option));
     bool is_launched = getenv("PMIX_NAMESPACE") != NULL;
     if (!is_due || is_launched || !has_own_list())
         return;

@@ -66,13 +66,27 @@ __attribute__((noinline)) static void *find_for_lookup(wire_up_find_symbol *find
     return own;
 }
 
+static int take_library(struct dl_phdr_info *object, size_t size, void *with)
+{
+    (void)size;
+    return find_object_owner(get_path(object)) == *(const enum owner *)with;
+}
+
+/* Whether the process has a library of MPI or PMIx that may have a function of a name. */
+static bool has_library(const char *name)
+{
+    enum owner wanted = begins_with(name, "PMIx_") ? OF_PMIX : OF_MPI;
+    return list_objects(take_library, &wanted) != 0;
+}
+
 /* Answers where to look: not where a lookup finds a function that the recorder alone has, as whoever
  * asks for it is to be told that there is none. */
 __attribute__((noinline)) static void *choose_object(wire_up_find_symbol *find, void *object,
                                                      const char *name)
 {
     const void *found = object == RTLD_NEXT ? NULL : find(object, name);
-    bool is_alone = found && find_owner(found) == OF_RECORDER && !find_behind(name, found);
+    bool is_own = found && find_owner(found) == OF_RECORDER;
+    bool is_alone = is_own && !find_behind(name, found) && !has_library(name);
     return is_alone ? dlopen("libc.so.6", RTLD_LAZY | RTLD_NOLOAD) : object;
 }
 

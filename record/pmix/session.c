@@ -1,6 +1,7 @@
 /* From PMIx_Init to PMIx_Finalize. */
 #define _GNU_SOURCE
 #include "pmix/session.h"
+#include "core/launcher.h"
 #include "core/recording.h"
 #include "core/text.h"
 
@@ -23,9 +24,10 @@ static const char *find_version(void *caller)
 
 bool is_launcher(void)
 {
-    static const char *const names[] = {"mpirun", "mpiexec", "orterun", "prte", "prun", "pterm"};
+    static const char *const names[] = {"mpirun", "mpiexec", "orterun", "prte",
+                                        "prted",  "prterun", "prun",    "pterm"};
     for (size_t n = 0; n < sizeof names / sizeof *names; n++)
-        if (begins_with(program_invocation_short_name, names[n]))
+        if (is_command(names[n]))
             return true;
     return false;
 }
