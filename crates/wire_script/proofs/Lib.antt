@@ -35,3 +35,5 @@ pub mod Parsing
 pub mod Cutting
 pub mod Declaring
 mod Onwards
+mod Passed
+mod SameScripts

@@ -1,5 +1,6 @@
 -- What lines declare that are read while those above them are declared.
-use Rattle.std.proofs.Common.{◌≡◌, ◌⊎◌, inl, inr, ap, sym, subst, refl, List, [], Result, Ok, Err, IfOk, IfErr}
+use Rattle.std.proofs.Common.{◌≡◌, ◌⊎◌, inl, inr, ap, sym, subst, refl, List, [], Vec, Result, Ok, Err, IfOk, IfErr}
+use Rattle.std.specs.declared.alloc.Global.{Global}
 use Rattle.wire_types.specs.declared.Fault.{Fault}
 use Rattle.wire_lines.specs.Text.{lines_of}
 use Rattle.wire_script.specs.Statements.{Statement, statements_from}
@@ -10,6 +11,7 @@ use Rattle.wire_script.specs.Pieces.{ArePieces, all_left}
 use Rattle.wire_script.specs.Ahead.{IsReadAhead, IsProgress, Declares}
 use Rattle.wire_script.specs.declared.draft.Draft.{Draft}
 use Rattle.wire_script.specs.declared.lines.Cursor.{Cursor}
+use Rattle.wire_script.specs.declared.pieces.Parsed.{Parsed}
 use Rattle.wire_script.specs.declared.shared_pass.Progress.{Progress}
 use Rattle.wire_script.proofs.Declaring.{judged_on, judged_off}
 
@@ -48,3 +50,29 @@ module _ (first p : Progress) (so_far : (start : Declared) (lines : List Stateme
   ends_refused (Ok d) judged = tt
   ends_refused (Err fault) (inl memory) = inl memory
   ends_refused (Err fault) (inr judged) = inr (λ start lines was. refused_ahead start lines p (so_far start lines was) fault judged)
+
+  pub refused_after : (f : Fault) → (f ≡ Fault.Memory) ⊎ ((start : Declared) (lines : List Statement) → IsProgress start lines p → JudgesAll start lines (Err f)) →
+      (f ≡ Fault.Memory) ⊎ ((start : Declared) (lines : List Statement) → IsProgress start lines first → JudgesAll start lines (Err f))
+  refused_after f (inl memory) = inl memory
+  refused_after f (inr judged) = inr (λ start lines was. judged start lines (so_far start lines was))
+
+-- before a line is read, all are left
+pub first_progress : (start : Declared) (draft : Draft) (rows : Vec (Vec Parsed Global) Global) (left : Cursor) → declared_of draft ≡ start → rows.items ≡ []
+    → IsProgress start (statements_left left) (record { reading = record { draft = draft; rows = rows }; left = left })
+first_progress start draft rows left is none = record {
+  pieces = [];
+  read = rw none tt;
+  so_far = λ judged more. subst (λ d. JudgesAll d (statements_left left) judged) is more;
+}
+
+-- what holds of all progress holds of that at the start
+module _ (start : Declared) (lines : List Statement) (p : Progress) (is : IsProgress start lines p) where
+  pub all_declared : (r : Result Draft Fault) → IfOk r (λ d. (s : Declared) (ls : List Statement) → IsProgress s ls p → JudgesAll s ls (Ok (declared_of d))) → IfOk r (λ d. JudgesAll start lines (Ok (declared_of d)))
+  all_declared (Ok d) judged = judged start lines is
+  all_declared (Err fault) judged = tt
+
+  pub one_refused : (r : Result Draft Fault) → IfErr r (λ e. (e ≡ Fault.Memory) ⊎ ((s : Declared) (ls : List Statement) → IsProgress s ls p → JudgesAll s ls (Err e)))
+      → IfErr r (λ e. (e ≡ Fault.Memory) ⊎ JudgesAll start lines (Err e))
+  one_refused (Ok d) judged = tt
+  one_refused (Err fault) (inl memory) = inl memory
+  one_refused (Err fault) (inr judged) = inr (judged start lines is)

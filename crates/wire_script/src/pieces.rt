@@ -2,10 +2,11 @@
 //! declares depends on the lines above it, so all lines are judged in their order.
 
 ghost use Rattle.std.specs.Prelude.{◌≡◌, ◌≤◌, ◌<◌, ◌++◌, length, IfOk, OnOk};
+ghost use Rattle.wire_types.specs.Texts.{texts_of};
 ghost use Rattle.wire_lines.specs.Text.{lines_of};
 ghost use Rattle.std.specs.List.{All};
 ghost use Rattle.wire_script.specs.Left.{statements_left};
-ghost use Rattle.wire_script.specs.Pieces.{HasRoom, AreParsed, ArePieces, all_left};
+ghost use Rattle.wire_script.specs.Pieces.{HasRoom, IsParsed, AreParsed, ArePieces, all_left};
 
 use crate::lines::Cursor;
 use rayon::prelude::*;
@@ -55,6 +56,14 @@ fn lines_at_most(bytes: &[u8]) -> usize
     count_lines(bytes).min(bytes.len() / 6 + 1)
 }
 
+/// What the line of this number says, which has these words.
+fn parse_line<'a>(alloc: Global, number: u64, words: &[&'a [u8]]) -> Result<Parsed<'a>, AllocError>
+    ensures { IfOk result (λ parsed. IsParsed (number, texts_of words.now) parsed) }
+{
+    let said = read_line(alloc, words)?;
+    Ok(Parsed { number, said })
+}
+
 /// What the lines of a piece say, up to the first that is no line of a plan.
 fn parse_piece<'a>(alloc: Global, piece: &Cursor<'a>) -> Result<Vec<Parsed<'a>>, AllocError>
     requires { HasRoom piece.now }
@@ -67,9 +76,9 @@ fn parse_piece<'a>(alloc: Global, piece: &Cursor<'a>) -> Result<Vec<Parsed<'a>>,
     let mut words = Vec::new(alloc);
     let mut parsed = Vec::with_capacity(alloc, lines_at_most(piece.rest))?;
     'statements: while let Some(number) = left.next_words(&mut words)? {
-        let said = read_line(alloc, &words)?;
-        let is_wrong = said.is_none();
-        parsed.push(Parsed { number, said })?;
+        let line = parse_line(alloc, number, &words)?;
+        let is_wrong = line.said.is_none();
+        parsed.push(line)?;
         if is_wrong {
             return Ok(parsed);
         }

@@ -261,15 +261,18 @@ fn declare_shared<'a>(
     ensures ok { IfOk result (λ d. JudgesAll (nothing size version) (statements_left cursor.entry) (Ok (declared_of d))) }
     ensures err { IfErr result (λ e. (e ≡ Fault.Memory) ⊎ JudgesAll (nothing size version) (statements_left cursor.entry) (Err e)) }
 {
-    let draft = new_draft(alloc, size, version);
-    if cursor.rest.is_empty() {
-        return Ok(draft);
-    }
-    let ahead = read_ahead(rt, alloc, &cursor);
-    match with_ahead(draft, ahead) {
-        Ok(first) => declare_left(rt, alloc, first),
-        Err(error) => Err(Fault::from(error)),
-    }
+    let reading = Reading {
+        draft: new_draft(alloc, size, version),
+        rows: Vec::new(alloc),
+    };
+    declare_left(
+        rt,
+        alloc,
+        Progress {
+            reading,
+            left: cursor,
+        },
+    )
 }
 
 /// What a large file declares.

@@ -1,6 +1,6 @@
-use Rattle.std.proofs.Common.{arith}
+use Rattle.std.proofs.Common.{inr, arith}
 use Rattle.wire_script.specs.Left.{statements_left, stated}
-use Rattle.wire_script.proofs.OrderSteps.{one_more}
+use Rattle.wire_script.proofs.OrderSteps.{one_more, refused}
 use Rattle.wire_script.proofs.order.read_steps.Goals as goal
 
 pub statements-preserved : goal.statements-preserved
@@ -12,3 +12,9 @@ statements-preserved c = record {
       c.in_ok-add_step.ensures;
   room = omega (arith, c.in_ok-statement.ensures.room, c.statements.invariant.room);
 }
+
+pub returns-in_default-step_of-clause-err : goal.returns-in_default-step_of-clause-err
+returns-in_default-step_of-clause-err c =
+    inr (refused c.args.scripts.now (stated c.in-Some.statement) (statements_left c.next_line.new.self) (statements_left c.statements.cursor) c.statements.order.items _
+    c.statements.invariant.so_far (rw c.in-Some.is at c.in_ok-statement.ensures.left)
+    (rw c.deref.ensures.value at (c.in_default-step_of.ensures c.args.scripts.now c.in_ok-table.ensures)))

@@ -16,3 +16,9 @@ pieces-preserved c =
       room = c.cut.ensures.room;
       shorter = omega (arith, more, was, cut);
     }
+
+pub returns-then-len-eq-PIECES_AT_ONCE-clause-left : goal.returns-then-len-eq-PIECES_AT_ONCE-clause-left
+returns-then-len-eq-PIECES_AT_ONCE-clause-left c = c.pieces.invariant.so_far
+
+pub returns-then-len-eq-PIECES_AT_ONCE-clause-room : goal.returns-then-len-eq-PIECES_AT_ONCE-clause-room
+returns-then-len-eq-PIECES_AT_ONCE-clause-room c = c.pieces.invariant.room
