@@ -49,6 +49,10 @@ pub record Keeps (old new : Clocks) : Type 0 where
   pub roots : (n : ℕ) → IsRoot old.trees n → IsRoot new.trees n
   pub bases : (n : ℕ) → IsRoot old.trees n → (q : ℕ) → base_at new n q ≡ base_at old n q
 
+-- nothing has grown
+pub grown_none : (clocks : Clocks) → IsGrown clocks clocks
+grown_none clocks = record { roots = refl; updates = refl; trees = record { width = refl; roots = λ n is. is; same = λ n is q. refl } }
+
 pub grown_through : (a b c : Clocks) → IsGrown a b → IsGrown b c → IsGrown a c
 grown_through a b c ab bc = record {
   roots = bc.roots ∙ ab.roots;
