@@ -35,7 +35,7 @@ fn only_follows(kind: &Kind) -> bool
 
 /// Whether there is a kind at this place, of events that only follow the one before them.
 fn follows_at(kinds: &[Kind], at: usize) -> bool
-    ensures { IsTrue result → (k : CodeKind) × (slice_get kinds.now at ≡ Some k) × ((sets : List (List ℕ)) → OnlyFollows (kind_of sets k)) }
+    ensures { IsTrue result ↔ ((k : CodeKind) × (slice_get kinds.now at ≡ Some k) × ((sets : List (List ℕ)) → OnlyFollows (kind_of sets k))) }
 {
     match kinds.get(at) {
         Some(kind) => only_follows(kind),

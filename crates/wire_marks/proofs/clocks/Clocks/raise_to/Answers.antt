@@ -41,3 +41,6 @@ returns-clause-based c = trees_grown c.join_base.new.self _ c.in_ok-join_base.en
 pub returns-clause-grown : goal.returns-clause-grown
 returns-clause-grown c =
     grown_through c.args.self.now c.join_base.new.self _ c.in_ok-join_base.ensures.grown (record { roots = refl; updates = refl; trees = c.in_ok-raise.ensures.keeps })
+
+pub join_base-requires-clause-last : goal.join_base-requires-clause-last
+join_base-requires-clause-last c = c.requires.last
