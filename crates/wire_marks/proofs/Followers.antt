@@ -1,5 +1,5 @@
 -- An event that waits for nothing but the event before it has the base of that event.
-use Rattle.std.proofs.Common.{◌≡◌, inl, ℕ, zero, suc, ◌<◌, ◌^◌, List, [], ◌++◌, Option, Some, None, length, refl, sym, ap, ◌∙◌, subst, arith, add-one}
+use Rattle.std.proofs.Common.{◌≡◌, ℕ, zero, suc, ◌<◌, ◌^◌, List, [], ◌++◌, Option, Some, None, length, refl, sym, ap, ◌∙◌, subst, arith, add-one}
 use Rattle.std.specs.Prelude.{slice_get, option_map, option_to_list}
 use Rattle.std.proofs.lemmas.List.{length-map, length_push}
 use Rattle.std.proofs.lemmas.Option.{same_Some, slice_get-map, slice_get_within}
@@ -15,14 +15,14 @@ use Rattle.wire_plan.specs.Kinds.{kind_of}
 use Rattle.wire_plan.specs.declared.kind.Kind.{Kind as CodeKind}
 use Rattle.wire_plan.proofs.Planning.{count_fits}
 use Rattle.wire_marks.specs.declared.joins.Meeting.{Meeting}
-use Rattle.wire_marks.specs.Clocks.{Clocks, marked_count, root_at, base_at, items_at}
+use Rattle.wire_marks.specs.Clocks.{Clocks, marked_count, root_at, items_at}
 use Rattle.wire_marks.specs.Updates.{updates_at, IsNoted}
-use Rattle.wire_marks.specs.Marking.{AreClocks, next_of, IsNextBase, IsGrown, Adds, Notes, IsRaised, root_before, root_or_zero, unmarked}
+use Rattle.wire_marks.specs.Marking.{AreClocks, next_of, IsNextBase, Adds, Notes, root_before, root_or_zero, unmarked}
 use Rattle.wire_marks.specs.Meeting.{AreMeetings}
 use Rattle.wire_marks.specs.Following.{OnlyFollows, AreKindsOf, last_root}
 use Rattle.wire_marks.proofs.Noting.{nothing_noted}
-use Rattle.wire_marks.proofs.Growing.{left_falls, next_there}
-use Rattle.wire_marks.proofs.Joining.{before_fits, growing_added, next_unmet}
+use Rattle.wire_marks.proofs.Growing.{grown_none, left_falls, next_there}
+use Rattle.wire_marks.proofs.Joining.{before_fits, growing_added, next_unmet, raised_none}
 
 follows_is : (z y : Event) → z.proc ≡ y.proc → suc z.at ≡ y.at → previous_of y ≡ Some z
 follows_is z y same next =
@@ -50,16 +50,6 @@ follower_sources plan y k is follows = record {
   all = λ z e. single (previous_of y) z (follows.alone plan z y is e);
 }
 
-grown_none : (clocks : Clocks) → IsGrown clocks clocks
-grown_none clocks = record { roots = refl; updates = refl; trees = record { width = refl; roots = λ n is. is; same = λ n is q. refl } }
-
-raised_none : (clocks : Clocks) (previous : Option Event) → IsRaised clocks previous None (base_at clocks (root_before clocks previous))
-raised_none clocks previous = record {
-  from = λ q n lt. inl lt;
-  keeps = λ q. omega arith;
-  covers = λ z e. absurd (cc);
-}
-
 -- the root of the event before is one of a base for it
 pub follower_base : (plan : Plan) (clocks : Clocks) (p : ℕ) (k : Kind) → AreClocks plan clocks → kind plan (next_of clocks p) ≡ Some k → OnlyFollows k → suc (marked_count clocks p) < 2 ^ 32 →
     IsNextBase plan clocks p (last_root clocks p)
@@ -81,9 +71,12 @@ follower_noted plan z k old new is follows same =
     (nothing_noted plan z (updates_at old.updates) (λ name published. ap (λ o. name_after published z o name) is ∙ follows.keeps z name published))
 
 -- the next event of the process, where it only follows the one before it, is marked with the root of that one
-module _ (s : Scripts) (old : Clocks) (p root : ℕ) (list : List CodeKind) (k : CodeKind) (sound : AreClocks (plan_of s) old) (are : AreKindsOf s p list) (counted : call_count s.processes < 2 ^ 31)
-    (item : slice_get list (marked_count old p) ≡ Some k) (follows : OnlyFollows (kind_of s.sets k)) (is : root ≡ last_root old p) where
-  next_kind : kind (plan_of s) (next_of old p) ≡ Some (kind_of s.sets k)
+module _ (s : Scripts) (old : Clocks) (p root at : ℕ) (list : List CodeKind) (sound : AreClocks (plan_of s) old) (are : AreKindsOf s p list) (counted : call_count s.processes < 2 ^ 31)
+    (next_at : at ≡ marked_count old p) (found : (k : CodeKind) × (slice_get list at ≡ Some k) × ((sets : List (List ℕ)) → OnlyFollows (kind_of sets k))) (is : root ≡ last_root old p) where
+  item : slice_get list (marked_count old p) ≡ Some found.0
+  item = subst (λ n. slice_get list n ≡ Some found.0) next_at found.1
+
+  next_kind : kind (plan_of s) (next_of old p) ≡ Some (kind_of s.sets found.0)
   unfolding kind_at
   next_kind = rw (← are) (slice_get-map (kind_of s.sets) list (marked_count old p) ∙ ap (option_map (kind_of s.sets)) item)
 
@@ -92,11 +85,11 @@ module _ (s : Scripts) (old : Clocks) (p root : ℕ) (list : List CodeKind) (k :
   next_few =
       let same : length list ≡ event_count (plan_of s) p = sym (length-map list (kind_of s.sets)) ∙ ap length are in
       let fits = count_fits s p counted in
-      let low = slice_get_within list (marked_count old p) k item in
+      let low = slice_get_within list (marked_count old p) found.0 item in
       omega (arith, low, same, fits)
 
   next : IsNextBase (plan_of s) old p root
-  next = subst (λ n. IsNextBase (plan_of s) old p n) (sym is) (follower_base (plan_of s) old p (kind_of s.sets k) sound next_kind follows next_few)
+  next = subst (λ n. IsNextBase (plan_of s) old p n) (sym is) (follower_base (plan_of s) old p (kind_of s.sets found.0) sound next_kind (found.2 s.sets) next_few)
 
   there : p < process_count (plan_of s)
   there = next_there (plan_of s) old p root next
@@ -107,7 +100,7 @@ module _ (s : Scripts) (old : Clocks) (p root : ℕ) (list : List CodeKind) (k :
   module _ (new : Clocks) (adds : Adds old new p root) (same : new.updates ≡ old.updates) where
     pub follower_growing : (table : FenceTable) (meetings : List Meeting) → AreMeetings (plan_of s) table old meetings → AreClocks (plan_of s) new × AreMeetings (plan_of s) table new meetings
     follower_growing table meetings kept =
-        growing_added (plan_of s) table old new meetings p root there sound kept next adds (follower_noted (plan_of s) (next_of old p) (kind_of s.sets k) old new next_kind follows same)
+        growing_added (plan_of s) table old new meetings p root there sound kept next adds (follower_noted (plan_of s) (next_of old p) (kind_of s.sets found.0) old new next_kind (found.2 s.sets) same)
 
     pub follower_falls : unmarked (plan_of s) new < unmarked (plan_of s) old
     follower_falls = left_falls (plan_of s) old new p root there sound next adds

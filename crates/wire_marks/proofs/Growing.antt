@@ -1,6 +1,7 @@
 -- One more event is marked.
-use Rattle.std.proofs.Common.{◌≡◌, ◌⊎◌, ◌↔◌, inl, inr, ℕ, zero, suc, ◌-◌, ◌^◌, ◌<◌, ◌≤◌, [], ◌∷◌, true, max, Option, Some, None, length, refl, sym, ap, ◌∙◌, subst, arith, length-append}
+use Rattle.std.proofs.Common.{◌≡◌, ◌⊎◌, ◌↔◌, inl, inr, ℕ, zero, suc, ◌+◌, ◌-◌, ◌^◌, ◌<◌, ◌≤◌, [], ◌∷◌, Bool, true, false, if◌then◌else◌, max, Option, Some, None, length, refl, sym, ap, ◌∙◌, subst, arith, length-append}
 use Rattle.std.specs.Prelude.{slice_get}
+use Rattle.std.specs.Bool.{OnTrue}
 use Rattle.std.proofs.lemmas.Bool.{cases_eq, cases_lt}
 use Rattle.std.proofs.lemmas.Option.{slice_get_past, slice_get_within, same_Some}
 use Rattle.wire_runs.specs.Plan.{Event}
@@ -48,6 +49,10 @@ pub record Keeps (old new : Clocks) : Type 0 where
   pub clocks : (y : Event) → y.at < marked_count old y.proc → (q : ℕ) → clock_of new y q ≡ clock_of old y q
   pub roots : (n : ℕ) → IsRoot old.trees n → IsRoot new.trees n
   pub bases : (n : ℕ) → IsRoot old.trees n → (q : ℕ) → base_at new n q ≡ base_at old n q
+
+-- nothing has grown
+pub grown_none : (clocks : Clocks) → IsGrown clocks clocks
+grown_none clocks = record { roots = refl; updates = refl; trees = record { width = refl; roots = λ n is. is; same = λ n is q. refl } }
 
 pub grown_through : (a b c : Clocks) → IsGrown a b → IsGrown b c → IsGrown a c
 grown_through a b c ab bc = record {
@@ -238,6 +243,12 @@ pub stuck_same : (s t : Scripts) (old new : Clocks) (p : ℕ) → t ≡ s → ne
 stuck_same s t old new p is same stuck =
     let here : IsStuckAt (plan_of t) old p = subst (λ v. IsStuckAt (plan_of v) old p) (sym is) stuck in
     subst (λ ns. IsReady (plan_of t) (λ q. length (items_at ns q)) (record { proc = p; at = length (items_at ns p) }) → ⊥) (sym same) here
+
+-- a pass marks an event more, or is the last one
+pub pass_falls : (moved before : Bool) (new between old : ℕ) → before ≡ true → between ≤ old → new ≤ between → OnTrue moved (new < between) → new + (if moved then 1 else 0) < old + (if before then 1 else 0)
+pass_falls true true new between old e down more falls = omega (arith, down, falls)
+pass_falls false true new between old e down more falls = omega (arith, down, more)
+pass_falls moved false new between old e down more falls = absurd (cc)
 
 -- where no process of the plan has a ready event, the marks are whole
 pub marks_whole : (plan : Plan) (clocks : Clocks) → AreClocks plan clocks → ((p : ℕ) → p < process_count plan → IsStuckAt plan clocks p) → AreMarks plan clocks

@@ -260,6 +260,21 @@ before_fits clocks (Some z) based = go (root_at clocks z) refl
     go None e = based.zeros.root
     go (Some n) e = based.there z n e
 
+-- where nothing is awaited, or the event before counts it, its base is raised
+pub raised_none : (clocks : Clocks) (previous : Option Event) → IsRaised clocks previous None (base_at clocks (root_before clocks previous))
+raised_none clocks previous = record {
+  from = λ q n lt. inl lt;
+  keeps = λ q. omega arith;
+  covers = λ z e. absurd (cc);
+}
+
+pub raised_counted : (clocks : Clocks) (previous : Option Event) (z : Event) → Counts clocks previous z → IsRaised clocks previous (Some z) (base_at clocks (root_before clocks previous))
+raised_counted clocks previous z counts = record {
+  from = λ q n lt. inl lt;
+  keeps = λ q. omega arith;
+  covers = λ y e. inl (subst (λ v. Counts clocks previous v) (same_Some z y e) counts);
+}
+
 -- the base of the event before, raised to the clock of what is awaited
 pub raised_here : (clocks : Clocks) (previous : Option Event) (z : Event) (base : ℕ → ℕ) → ((q : ℕ) → base q ≡ max (base_at clocks (root_before clocks previous) q) (clock_of clocks z q)) →
     IsRaised clocks previous (Some z) base

@@ -1,5 +1,5 @@
 -- Lists in a list: one of them takes one more, and the others stay.
-use Rattle.std.proofs.Common.{◌≡◌, ◌≢◌, ◌∙◌, ap, refl, ℕ, zero, suc, ◌<◌, List, [], ◌∷◌, ◌++◌, length, arith, map, get_or}
+use Rattle.std.proofs.Common.{◌≡◌, ◌≢◌, ◌∙◌, ap, refl, sym, ℕ, zero, suc, ◌<◌, ◌≤◌, List, [], ◌∷◌, ◌++◌, length, arith, map, get_or}
 use Rattle.std.specs.Prelude.{slice_set, Vec}
 use Rattle.std.specs.declared.alloc.Global.{Global}
 use Rattle.wire_marks.specs.Clocks.{items_at}
@@ -44,3 +44,14 @@ none_more [] new none_there all zero = none_there
 none_more [] new none_there all (suc p) = refl
 none_more (list ∷ lists) new none_there all zero = all zero
 none_more (list ∷ lists) new none_there all (suc p) = none_more lists new none_there (λ k. all (suc k)) p
+
+-- the list at an index, and none past the end
+pub list_there : {A : Type 0} (lists : List (Vec A Global)) (i : ℕ) (list : Vec A Global) → i < length lists → list ≡ get_or lists i list → get_or (map items_in lists) i [] ≡ list.items
+list_there [] i list lt is = absurd (omega (arith, lt))
+list_there {A = A} (first ∷ lists) zero list lt is = ap (λ (v : Vec A Global). v.items) (sym is)
+list_there (first ∷ lists) (suc i) list lt is = list_there lists i list (omega (arith, lt)) is
+
+pub list_past : {A : Type 0} (lists : List (Vec A Global)) (i : ℕ) → length lists ≤ i → get_or (map items_in lists) i [] ≡ []
+list_past [] i le = refl
+list_past (first ∷ lists) zero le = absurd (omega (arith, le))
+list_past (first ∷ lists) (suc i) le = list_past lists i (omega (arith, le))

@@ -155,8 +155,7 @@ impl Clocks {
         if root == last {
             return Ok(());
         }
-        rising.join(&mut self.trees, root)?;
-        Ok(())
+        rising.join(&mut self.trees, root)
     }
 
     /// Raises a clock to that of a marked event, where it is raised to the base of the root `last` before. The
@@ -193,8 +192,7 @@ impl Clocks {
         for event in events {
             last = self.raise_to(&mut rising, *event, last)?;
         }
-        let root = rising.finish(&mut self.trees)?;
-        Ok(root)
+        rising.finish(&mut self.trees)
     }
 
     /// The root of the base of a root, raised to the clock of a marked event.
@@ -209,8 +207,7 @@ impl Clocks {
     {
         let base = self.root(event).unwrap();
         let joined = self.trees.join(root, base)?;
-        let raised = self.trees.raise(joined, event.proc.number, event.at + 1)?;
-        Ok(raised)
+        self.trees.raise(joined, event.proc.number, event.at + 1)
     }
 
     /// The root of a base for an event that waits for these at most: that of the event before it, unless that
@@ -234,8 +231,7 @@ impl Clocks {
         if self.counts(previous, event) {
             return Ok(root);
         }
-        let raised = self.raise_root(root, event)?;
-        Ok(raised)
+        self.raise_root(root, event)
     }
 
     /// Adds the root of the base of the next event of a process. No change of a name is noted.

@@ -1,10 +1,11 @@
 //! Runs of events that wait for nothing but the event before them: each has the base of that event.
 
-ghost use Rattle.std.specs.Prelude.{◌≡◌, ◌<◌, ◌≤◌, ◌↔◌, ℕ, List, IsTrue, IfOk, OnOk};
+ghost use Rattle.std.specs.Prelude.{◌≡◌, ◌<◌, ◌≤◌, ◌↔◌, ℕ, List, Some, IsTrue, IfOk, OnOk, slice_get};
 ghost use Rattle.std.specs.Bool.{OnTrue, OnFalse};
 ghost use Rattle.wire_plan.specs.Kinds.{kind_of};
+ghost use Rattle.wire_plan.specs.declared.kind.Kind.{Kind as CodeKind};
 ghost use Rattle.wire_marks.specs.Meeting.{left_in, IsGrowing};
-ghost use Rattle.wire_marks.specs.Following.{OnlyFollows, AreKindsOf, last_root};
+ghost use Rattle.wire_marks.specs.Following.{OnlyFollows};
 
 use crate::joins::Growth;
 use std::alloc::AllocError;
@@ -32,32 +33,14 @@ fn only_follows(kind: &Kind) -> bool
     }
 }
 
-/// Marks the next event of a process with the root of its last event, where it only follows that one. Whether it
-/// does.
-fn mark_follower(
-    growth: &mut Growth<'_>,
-    kinds: &[Kind],
-    proc: Proc,
-    root: u32,
-) -> Result<bool, AllocError>
-    requires growing { IsGrowing growth.old }
-    requires kinds { AreKindsOf growth.old.plan.now proc.number kinds.now }
-    requires root { root ≡ last_root growth.old.clocks proc.number }
-    ensures growing { OnOk result (IsGrowing growth.new) }
-    ensures plan { growth.new.plan.now ≡ growth.old.plan.now }
-    ensures falls { IfOk result (λ b. OnTrue b (left_in growth.new < left_in growth.old)) }
-    ensures same { IfOk result (λ b. OnFalse b (growth.new.clocks.roots.items ≡ growth.old.clocks.roots.items)) }
-    ensures root { OnOk result (root ≡ last_root growth.new.clocks proc.number) }
+/// Whether there is a kind at this place, of events that only follow the one before them.
+fn follows_at(kinds: &[Kind], at: usize) -> bool
+    ensures { IsTrue result ↔ ((k : CodeKind) × (slice_get kinds.now at ≡ Some k) × ((sets : List (List ℕ)) → OnlyFollows (kind_of sets k))) }
 {
-    let at = growth.clocks.marked(proc);
-    let Some(kind) = kinds.get(at) else {
-        return Ok(false);
-    };
-    if !only_follows(kind) {
-        return Ok(false);
+    match kinds.get(at) {
+        Some(kind) => only_follows(kind),
+        None => false,
     }
-    growth.clocks.push(proc, root)?;
-    Ok(true)
 }
 
 /// Marks the next events of a process as long as each only follows the one before it. Whether any did.
@@ -73,7 +56,8 @@ pub(crate) fn mark_followers(growth: &mut Growth<'_>, proc: Proc) -> Result<bool
     let kinds = plan.events(proc);
     let root = growth.clocks.last_root(proc);
     let mut moved = false;
-    'events: while mark_follower(growth, kinds, proc, root)? {
+    'events: while follows_at(kinds, growth.clocks.marked(proc)) {
+        growth.clocks.push(proc, root)?;
         moved = true;
     }
     Ok(moved)

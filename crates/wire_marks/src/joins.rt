@@ -126,8 +126,7 @@ pub(crate) fn meet(
         (λ n. IsJoined clocks.new (map event_of arrivals.now) n)) }
 {
     add_meetings(meetings, fence)?;
-    let met = meetings[fence.number as usize].meet(clocks, arrivals)?;
-    Ok(met)
+    meetings[fence.number as usize].meet(clocks, arrivals)
 }
 
 /// The process of the first arrival at a fence that isn't met, if there is one.

@@ -36,3 +36,9 @@ mark-requires c =
     let within = come_within (plan_in growth) (next_of growth.clocks c.args.proc.number) next.ready.comes in
     let at = c.marked-at.ensures in
     record { process = omega (arith, there, processes); there = omega (arith, within, at) }
+
+pub returns-in_default-clause-stuck : goal.returns-in_default-clause-stuck
+returns-in_default-clause-stuck c = rw c.in_default.is at c.in_ok-root.ensures.next
+
+pub returns-clause-plan : goal.returns-clause-plan
+returns-clause-plan c = c.next_base.ensures.plan

@@ -1,5 +1,5 @@
 use Rattle.std.proofs.Common.{◌≡◌, ◌∙◌, inl, inr, ap, sym, subst, arith}
-use Rattle.std.proofs.lemmas.Bool.{cases_eq, true≢false, OnTrue_at, OnFalse_at, OnFalse_from}
+use Rattle.std.proofs.lemmas.Bool.{cases_eq, true≢false, OnTrue_at, OnTrue_from, OnFalse_at, OnFalse_from}
 use Rattle.wire_runs.specs.Plan.{process_count}
 use Rattle.wire_content.specs.Planned.{plan_of}
 use Rattle.wire_marks.specs.Meeting.{IsStuckIn}
@@ -34,3 +34,6 @@ returns-clause-stuck c = OnFalse_from c.loop-number.moved _ (λ none p lt.
     let count = c.process_count-number-end.ensures in
     let over = c.loop-number-test.false in
     c.loop-number.invariant.stuck none p (omega (arith, lt, same, count, over)))
+
+pub returns-clause-falls : goal.returns-clause-falls
+returns-clause-falls c = OnTrue_from c.loop-number.moved _ c.loop-number.invariant.falls

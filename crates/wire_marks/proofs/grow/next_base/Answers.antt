@@ -105,3 +105,15 @@ returns-in_default-clause-next c =
     (c.is_source_marked.ensures.0 c.if-not-is_source_marked.false)
     (omega arith)
     c.in_ok-root.ensures.grown c.in_ok-root.ensures.there c.in_ok-root.ensures.raised
+
+pub sources-sources-requires : goal.sources-sources-requires
+sources-sources-requires c = let count = c.event_count.ensures in let low = c.if-at-event_count.false in omega (arith, count, low)
+
+pub find_ended_fence-requires-clause-there : goal.find_ended_fence-requires-clause-there
+find_ended_fence-requires-clause-there c = let count = c.event_count.ensures in let low = c.if-at-event_count.false in omega (arith, count, low)
+
+pub returns-then-not-may_come-clause-next : goal.returns-then-not-may_come-clause-next
+returns-then-not-may_come-clause-next c = λ ready. true≢false (sym ready.comes ∙ (sym (rw c.marked-at.ensures at c.may_come.ensures) ∙ c.if-not-may_come.true))
+
+pub base_after-requires-clause-awaited : goal.base_after-requires-clause-awaited
+base_after-requires-clause-awaited c = c.is_source_marked.ensures.0 c.if-not-is_source_marked.false

@@ -1,18 +1,19 @@
-use Rattle.std.proofs.Common.{◌≡◌, ◌∙◌, Some, map, length, max, ap, subst, arith}
+use Rattle.std.proofs.Common.{◌≡◌, ◌∙◌, ℕ, Some, map, length, max, refl, ap, subst, arith}
 use Rattle.std.specs.Prelude.{option_map, slice_get}
 use Rattle.std.proofs.lemmas.Option.{slice_get-map, slice_get-get_or}
+use Rattle.std.proofs.lemmas.Result.{IfOk-weaker}
 use Rattle.wire_runs.specs.Plan.{event_of}
-use Rattle.wire_clocks.specs.ClockTrees.{says}
+use Rattle.wire_clocks.specs.ClockTrees.{IsRoot, says}
 use Rattle.wire_clocks.specs.Rising.{rising_says}
 use Rattle.wire_marks.specs.Meeting.{IsJoin}
-use Rattle.wire_marks.proofs.Growing.{clock_grown, grown_keeps, grown_through}
+use Rattle.wire_marks.proofs.Growing.{clock_grown, grown_keeps, grown_none, grown_through, trees_grown}
 use Rattle.wire_marks.proofs.Joining.{join_step, join_as}
 use Rattle.wire_marks.proofs.clocks.Clocks.join.Goals as goal
 
 pub loop-event-init : goal.loop-event-init
 loop-event-init c = record {
   based = c.requires.based;
-  grown = search;
+  grown = grown_none c.args.self.now;
   rising = c.new-rising.ensures.rising;
   join = record {
     from = λ q m lt. absurd (let none = c.new-rising.ensures.zeros q in omega (arith, lt, none));
@@ -45,7 +46,18 @@ loop-event-preserved c =
 pub returns-clause-join : goal.returns-clause-join
 returns-clause-join c =
     let all : c.loop-event.event-index ≡ length c.args.events.now = omega arith in
-    let root = c.in_ok-root.root in
-    subst (λ n. IsJoin c.args.self.now (map event_of c.args.events.now) n (λ q. says c.finish.new.trees root q)) all
-    (join_as c.args.self.now (map event_of c.args.events.now) c.loop-event.event-index (rising_says c.loop-event.self.trees c.loop-event.rising) (λ q. says c.finish.new.trees root q)
-    c.in_ok-root.ensures.says c.loop-event.invariant.join)
+    let before = rising_says c.loop-event.self.trees c.loop-event.rising in
+    IfOk-weaker c.finish.result (λ root. (q : ℕ) → says c.finish.new.trees root q ≡ before q)
+    (λ root. IsJoin c.args.self.now (map event_of c.args.events.now) (length c.args.events.now) (λ q. says c.finish.new.trees root q))
+    (λ root same. subst (λ n. IsJoin c.args.self.now (map event_of c.args.events.now) n (λ q. says c.finish.new.trees root q)) all
+    (join_as c.args.self.now (map event_of c.args.events.now) c.loop-event.event-index before (λ q. says c.finish.new.trees root q) same c.loop-event.invariant.join)) c.finish.ensures.says
+
+pub returns-clause-based : goal.returns-clause-based
+returns-clause-based c =
+    let grown = trees_grown c.loop-event.self _ c.loop-event.invariant.based (record { roots = refl; updates = refl; trees = c.finish.ensures.keeps }) in
+    IfOk-weaker c.finish.result (λ root. IsRoot c.finish.new.trees root) _ (λ root there. grown) c.finish.ensures.root
+
+pub returns-clause-grown : goal.returns-clause-grown
+returns-clause-grown c =
+    let grown = grown_through c.args.self.now c.loop-event.self _ c.loop-event.invariant.grown (record { roots = refl; updates = refl; trees = c.finish.ensures.keeps }) in
+    IfOk-weaker c.finish.result (λ root. IsRoot c.finish.new.trees root) _ (λ root there. grown) c.finish.ensures.root

@@ -1,9 +1,10 @@
-use Rattle.std.proofs.Common.{◌≡◌, ◌∙◌, ◌==◌, Some, max, sym, ap, arith}
+use Rattle.std.proofs.Common.{◌≡◌, ◌∙◌, ◌==◌, Some, max, refl, sym, ap, arith}
 use Rattle.wire_runs.specs.Plan.{event_of}
 use Rattle.wire_clocks.specs.ClockTrees.{says}
 use Rattle.wire_clocks.specs.Rising.{rising_says}
 use Rattle.wire_clocks.proofs.Staying.{holds_kept}
 use Rattle.wire_marks.specs.Clocks.{base_at, root_at, clock_over}
+use Rattle.wire_marks.proofs.Growing.{grown_through, trees_grown}
 use Rattle.wire_marks.proofs.Joining.{raised_not_below, joined_with_both, marked_room}
 use Rattle.wire_marks.proofs.clocks.Clocks.raise_to.Goals as goal
 
@@ -33,3 +34,13 @@ returns-clause-last c = λ q.
     let raised = raised_not_below (q == c.args.event.proc.number) (rising_says c.raise.new.trees c.raise.new.self q) (rising_says c.join_base.new.self.trees c.join_base.new.rising q) _
     (c.in_ok-raise.ensures.raised q) in
     omega (arith, first, second, joined, raised)
+
+pub returns-clause-based : goal.returns-clause-based
+returns-clause-based c = trees_grown c.join_base.new.self _ c.in_ok-join_base.ensures.based (record { roots = refl; updates = refl; trees = c.in_ok-raise.ensures.keeps })
+
+pub returns-clause-grown : goal.returns-clause-grown
+returns-clause-grown c =
+    grown_through c.args.self.now c.join_base.new.self _ c.in_ok-join_base.ensures.grown (record { roots = refl; updates = refl; trees = c.in_ok-raise.ensures.keeps })
+
+pub join_base-requires-clause-last : goal.join_base-requires-clause-last
+join_base-requires-clause-last c = c.requires.last
