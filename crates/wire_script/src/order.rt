@@ -65,8 +65,7 @@ fn read_steps(
 pub(crate) fn add_step(order: &mut Vec<Proc>, step: Proc) -> Result<(), AllocError>
     ensures { OnOk result (order.new.items ≡ order.old.items ++ step ∷ []) }
 {
-    order.push(step)?;
-    Ok(())
+    order.push(step)
 }
 
 /// The process that the words of a line name.

@@ -45,6 +45,10 @@ front_reads : (p : Pattern) (cast : Cast) (text : List ℕ) (r : Result Scripts 
     → Reads OfVersion text r → Reads OfVersion (instance_text p cast) r
 front_reads p cast text r is reads = reads_limited OfVersion (instance_text p cast) r (subst (λ t. Reads OfVersion t r) is reads)
 
+-- a text that is written up to a bound which is the limit and one byte more
+pub front_of : (n : ℕ) (whole text : List ℕ) → n ≡ file_bytes OfVersion + 1 → text ≡ take n whole → text ≡ take (file_bytes OfVersion + 1) whole
+front_of n whole text is written = subst (λ m. text ≡ take m whole) is written
+
 -- a fault of the text, as one of the instance
 pub text_fault : (p : Pattern) (cast : Cast) (text : List ℕ) (told fault : Fault) → text ≡ take (file_bytes OfVersion + 1) (instance_text p cast)
     → (told ≡ Memory) ⊎ Reads OfVersion text (Err told)
