@@ -13,3 +13,4 @@ pub mod Ranked
 pub mod NodeLines
 pub mod Casts
 pub mod Leasts
+pub mod Wholes

@@ -8,3 +8,4 @@ pub mod Answered
 pub mod Replied
 pub mod Leads
 pub mod AllNodes
+pub mod Pieces

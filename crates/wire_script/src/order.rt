@@ -65,7 +65,8 @@ fn read_steps(
 pub(crate) fn add_step(order: &mut Vec<Proc>, step: Proc) -> Result<(), AllocError>
     ensures { OnOk result (order.new.items ≡ order.old.items ++ step ∷ []) }
 {
-    order.push(step)
+    order.push(step)?;
+    Ok(())
 }
 
 /// The process that the words of a line name.
