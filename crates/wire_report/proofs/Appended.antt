@@ -17,6 +17,12 @@ pub last_slice : {A E : Type 0} (r : Result A E) (start one new a b text : List 
 last_slice (Ok x) start one new a b text first second same = then_more start one new a b first second ∙ ap (λ t. start ++ t) same
 last_slice (Err e) start one new a b text first second same = tt
 
+-- the last two pieces, by a function that may fail
+pub last_two : {A E : Type 0} (r : Result A E) (start one new a b c text : List ℕ) → one ≡ start ++ a → OnOk r (new ≡ one ++ b ++ c) → a ++ b ++ c ≡ text → OnOk r (new ≡ start ++ text)
+last_two (Ok x) start one new a b c text first second same =
+    second ∙ ap (λ t. t ++ b ++ c) first ∙ ap (λ t. t ++ c) (append_assoc start a b) ∙ append_assoc start (a ++ b) c ∙ ap (λ t. start ++ t) same
+last_two (Err e) start one new a b c text first second same = tt
+
 -- what has no room for the first piece has none for both
 pub no_room_at_first : {A E : Type 0} (r : Result A E) (capacity : ℕ) (start a b text : List ℕ) → capacity < length start + length a → a ++ b ≡ text →
     OnErr r (capacity < length start + length text)

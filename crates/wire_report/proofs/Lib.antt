@@ -2,6 +2,8 @@ pub mod Appended
 pub mod Chains
 pub mod Counts
 mod Distinct
+pub mod Ends
+pub mod Forms
 mod GroupLaws
 pub mod Grouped
 mod Groups

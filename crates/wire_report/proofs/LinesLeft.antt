@@ -3,7 +3,7 @@ use Rattle.std.proofs.Common.{◌≡◌, ◌∙◌, ap, sym, refl, ℕ, ◌+◌,
 use Rattle.wire_types.specs.declared.Call.{Call}
 use Rattle.wire_types.specs.declared.CallEnd.{CallEnd}
 use Rattle.wire_content.specs.Scripts.{Scripts, Process}
-use Rattle.wire_report.specs.Report.{call_line, lines_from, all_lines}
+use Rattle.wire_report.specs.Report.{call_line, lines_from, process_lines, all_lines}
 
 -- one more line of a process, of its call number i from 0
 pub one_line : (scripts : Scripts) (process : Process) (i n n' : ℕ) (call : Call) (end : CallEnd) (calls calls' : List Call) (ends ends' : List CallEnd) (out out' all : List ℕ) →
@@ -37,4 +37,14 @@ pub no_row : {R : Type 0} (scripts : Scripts) (processes : List Process) (f : R 
 no_row scripts processes f rows out all none before =
     sym (append-nil out)
     ∙ ap (λ t. out ++ t) (sym (elim none [ inl e ↦ ap (λ t. all_lines scripts t (map f rows)) e | inr e ↦ ap (λ t. all_lines scripts processes (map f t)) e ∙ rows_after scripts processes ]))
+    ∙ before
+
+-- the lines of one more process, with its row
+pub one_row : {R : Type 0} (scripts : Scripts) (process : Process) (processes processes' : List Process) (f : R → List CallEnd) (row : R) (ends : List CallEnd) (rows rows' : List R) (out out' all : List ℕ) →
+    processes ≡ process ∷ processes' → rows ≡ row ∷ rows' → ends ≡ f row → out ++ all_lines scripts processes (map f rows) ≡ all → out' ≡ out ++ process_lines scripts process ends →
+    out' ++ all_lines scripts processes' (map f rows') ≡ all
+one_row scripts process processes processes' f row ends rows rows' out out' all first second is before written =
+    ap (λ t. t ++ all_lines scripts processes' (map f rows')) (written ∙ ap (λ e. out ++ process_lines scripts process e) is)
+    ∙ append_assoc out (process_lines scripts process (f row)) (all_lines scripts processes' (map f rows'))
+    ∙ sym (ap (λ t. out ++ all_lines scripts t (map f rows)) first ∙ ap (λ t. out ++ all_lines scripts (process ∷ processes') (map f t)) second)
     ∙ before

@@ -178,8 +178,7 @@ fn push_both_dead(
     if is_same(x, y) {
         return Ok(());
     }
-    push_dead(out, marked, y)?;
-    Ok(())
+    push_dead(out, marked, y)
 }
 
 /// Whether two calls are one.
