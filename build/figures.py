@@ -25,7 +25,7 @@ from build.large_plans import LARGE_PLANS
 from build.minutes import minutes_of
 from build.places import LOGS, TOP, WIRE_UP, shown
 from build.plain_program import build_plain
-from build.timing import Command, Taken, best_of, findings_in, floor, mebibytes
+from build.timing import BETWEEN, Command, Taken, best_of, findings_in, floor, mebibytes
 
 PAGE = os.path.join(TOP, "docs", "figures.md")
 RUNS, LARGE_RUNS = 5, 2
@@ -243,6 +243,8 @@ def main() -> int:
     program = os.path.abspath(args.program)
     if not os.access(program, os.X_OK):
         sys.exit(f"there is no {args.program}: make run builds ./wire_up")
+    if not args.small and not os.path.exists(BETWEEN):
+        sys.exit(f"{BETWEEN} isn't there: Debian's package time")
     with tempfile.TemporaryDirectory(prefix="wire-up-") as room:
         text = page(Figures(program, room, args.small))
     with open(f"{args.output}.new", "w", encoding="utf-8") as it:

@@ -79,26 +79,38 @@ pub fn verb_of(word: &[u8]) -> Option<Verb>
     ensures found { IfSome result (λ v. word.now ≡ text_of_verb v) }
     ensures none { IfNone result ((v : Verb) → word.now ≢ text_of_verb v) }
 {
-    if is_text(word, b"put") {
-        Some(Verb::Put)
-    } else if is_text(word, b"commit") {
-        Some(Verb::Commit)
-    } else if is_text(word, b"fence") {
-        Some(Verb::Fence)
-    } else if is_text(word, b"get") {
-        Some(Verb::Get)
-    } else if is_text(word, b"get-now") {
-        Some(Verb::GetNow)
-    } else if is_text(word, b"publish") {
-        Some(Verb::Publish)
-    } else if is_text(word, b"lookup") {
-        Some(Verb::Lookup)
-    } else if is_text(word, b"lookup-wait") {
-        Some(Verb::LookupWait)
-    } else if is_text(word, b"unpublish") {
-        Some(Verb::Unpublish)
-    } else {
-        None
+    match word.len() {
+        3 => {
+            if is_text(word, b"get") {
+                Some(Verb::Get)
+            } else if is_text(word, b"put") {
+                Some(Verb::Put)
+            } else {
+                None
+            }
+        }
+        5 if is_text(word, b"fence") => Some(Verb::Fence),
+        6 => {
+            if is_text(word, b"commit") {
+                Some(Verb::Commit)
+            } else if is_text(word, b"lookup") {
+                Some(Verb::Lookup)
+            } else {
+                None
+            }
+        }
+        7 => {
+            if is_text(word, b"get-now") {
+                Some(Verb::GetNow)
+            } else if is_text(word, b"publish") {
+                Some(Verb::Publish)
+            } else {
+                None
+            }
+        }
+        9 if is_text(word, b"unpublish") => Some(Verb::Unpublish),
+        11 if is_text(word, b"lookup-wait") => Some(Verb::LookupWait),
+        _ => None,
     }
 }
 

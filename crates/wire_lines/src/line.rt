@@ -95,18 +95,21 @@ fn kind_of(word: &[u8]) -> Option<Kind>
     ensures found { IfSome result (λ k. word.now ≡ text_of k) }
     ensures none { IfNone result ((k : Kind) → word.now ≢ text_of k) }
 {
-    if is_text(word, b"rehearsal") {
-        Some(Kind::Header)
-    } else if is_text(word, b"keep") {
-        Some(Kind::Keep)
+    if let Some(verb) = verb_of(word) {
+        return Some(Kind::Calls(verb));
+    }
+    if is_text(word, b"rank") {
+        Some(Kind::Rank)
     } else if is_text(word, b"node") {
         Some(Kind::Node)
+    } else if is_text(word, b"keep") {
+        Some(Kind::Keep)
     } else if is_text(word, b"job") {
         Some(Kind::Job)
-    } else if is_text(word, b"rank") {
-        Some(Kind::Rank)
+    } else if is_text(word, b"rehearsal") {
+        Some(Kind::Header)
     } else {
-        verb_of(word).map(Kind::Calls)
+        None
     }
 }
 

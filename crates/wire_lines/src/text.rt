@@ -4,6 +4,7 @@ ghost use Rattle.std.specs.Prelude.{◌≡◌, ◌+◌, ◌<◌, ◌≤◌, ◌=
 ghost use Rattle.std.specs.Prelude.{OnOk};
 ghost use Rattle.std.specs.Str.Lines.{strip_carriage_return};
 ghost use Rattle.wire_types.specs.Texts.{texts_of};
+ghost use Rattle.std.specs.Prelude.{filter, not};
 ghost use Rattle.wire_lines.specs.Text.{pieces_of, lines_of, line_end, words_of, is_blank};
 
 use std::alloc::AllocError;
@@ -76,18 +77,45 @@ pub fn trim_return(line: &[u8]) -> &[u8]
     }
 }
 
+/// Whether a byte is a space or a tab.
+fn is_blank_byte(byte: u8) -> bool
+    ensures { result ≡ is_blank byte }
+{
+    byte == b' ' || byte == b'\t'
+}
+
+/// The place of the first blank.
+fn blank(bytes: &[u8]) -> Option<usize>
+    ensures { result ≡ position is_blank bytes.now }
+{
+    bytes.iter().position(|b| is_blank_byte(*b))
+}
+
+/// What stands before the first blank of a line, and what after it.
+fn cut_word(line: &[u8]) -> (&[u8], &[u8])
+    requires { 0 < length line.now }
+    ensures words { words_of line.now ≡ filter (λ w. not (length w == 0)) (result.0.now ∷ []) ++ words_of result.1.now }
+    ensures shorter { length result.1.now < length line.now }
+{
+    match blank(line) {
+        Some(at) => (&line[..at], &line[at + 1..]),
+        None => line.split_at(line.len()),
+    }
+}
+
 /// Puts the words of a line in the place of what the list held. It takes memory only where the line has
 /// more words than the list has room for. If memory runs out, some of them may stand there.
 pub fn cut_words<'a>(words: &mut Vec<&'a [u8]>, line: &'a [u8]) -> Result<(), AllocError>
     ensures { OnOk result (texts_of words.new.items ≡ words_of line.now) }
 {
     words.clear();
-    words.extend(
-        line.split(
-            |b| -> bool
-                ensures { result ≡ is_blank b.now }
-            { *b == b' ' || *b == b'\t' },
-        )
-        .filter(|w| !w.is_empty()),
-    )
+    let mut left = line;
+    'left: while !left.is_empty() {
+        let (word, rest) = cut_word(left);
+        if !word.is_empty() {
+            words.push(word)?;
+        }
+        left = rest;
+    }
+    Ok(())
 }

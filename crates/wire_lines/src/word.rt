@@ -1,14 +1,13 @@
 //! Words, and what they may be: names, keys, scopes, ranks and processes.
 
 ghost use Rattle.std.specs.List.{list_all};
-ghost use Rattle.std.specs.Prelude.{not, true, position, ◌==◌, ◌≡◌, ◌≢◌, ℕ, ◌+◌, ◌^◌, ◌<◌, ◌↔◌, List, ◌∷◌, ◌++◌};
+ghost use Rattle.std.specs.Prelude.{not, true, position, ◌==◌, ◌≡◌, ◌≢◌, ℕ, ◌+◌, ◌^◌, ◌<◌, ◌≤◌, ◌↔◌, List, ◌∷◌, ◌++◌};
 ghost use Rattle.std.specs.Prelude.{IsTrue, decimal, codes, get_or, length};
 ghost use Rattle.std.specs.Prelude.{IfSome, IfNone};
 ghost use Rattle.wire_types.specs.declared.Scope.{Scope};
 ghost use Rattle.wire_types.specs.Said as spec;
 ghost use Rattle.wire_types.specs.Said.{spelled_proc, spelled_scope};
 
-use std::str;
 use wire_types::Scope;
 
 /// A process as a word names it: the name of its job, and its rank there.
@@ -90,16 +89,23 @@ pub fn scope_of(word: &[u8]) -> Option<Scope>
     }
 }
 
-/// Whether a word begins without a plus, and with a zero only if that is all of it. A word that can be
-/// parsed as a number has just its decimal digits if this holds.
-fn begins_as_digits(word: &[u8]) -> bool
-    ensures { IsTrue result ↔ ((get_or word.now 0 0 ≢ 43) × (get_or word.now 0 0 ≡ 48 → length word.now ≡ 1)) }
+/// Whether a word isn't empty, and begins with a zero only if that is all of it. Digits of which this holds
+/// are those of a decimal number.
+fn begins_as_number(word: &[u8]) -> bool
+    ensures { IsTrue result ↔ ((0 < length word.now) × (get_or word.now 0 0 ≡ 48 → length word.now ≡ 1)) }
 {
     match word.first() {
-        Some(b'+') => false,
+        None => false,
         Some(b'0') => word.len() == 1,
         _ => true,
     }
+}
+
+/// Whether a byte is a decimal digit.
+fn is_digit(byte: u8) -> bool
+    ensures { IsTrue result ↔ ((48 ≤ byte) × (byte ≤ 57)) }
+{
+    48 <= byte && byte <= 57
 }
 
 /// The number that the word is the decimal digits of, one to nine of them.
@@ -107,16 +113,20 @@ pub fn number_of(word: &[u8]) -> Option<u32>
     ensures found { IfSome result (λ n. (word.now ≡ decimal n) × (n < 10 ^ 9)) }
     ensures none { IfNone result ((n : ℕ) → n < 10 ^ 9 → word.now ≢ decimal n) }
 {
-    if !begins_as_digits(word) {
+    if !begins_as_number(word) {
         return None;
     }
-    let Ok(text) = str::from_utf8(word) else {
-        return None;
-    };
-    match text.parse::<u32>() {
-        Ok(number) if number < 1_000_000_000 => Some(number),
-        _ => None,
+    let mut number: u32 = 0;
+    for byte in word {
+        if !is_digit(*byte) {
+            return None;
+        }
+        if number >= 100_000_000 {
+            return None;
+        }
+        number = 10 * number + (*byte - 48) as u32;
     }
+    Some(number)
 }
 
 /// The process that the word names.

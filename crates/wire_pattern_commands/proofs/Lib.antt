@@ -9,3 +9,5 @@ pub mod CheckedPattern
 pub mod StringsBack
 mod InstancesShown
 mod ShownJson
+mod SettledJson
+mod Emptied

@@ -15,10 +15,14 @@ use Rattle.wire_pattern_commands.specs.Strings.{lines_list, text_string}
 abbrev pub answers_member : Bool → Pattern → List LineAnswers → List ℕ
 answers_member asked p answers = if asked then codes "\"answers\":" ++ (lines_list (answers_text p answers) ++ codes ",") else []
 
+-- the member of that no call waits with any number of ranks, where that is known
+abbrev pub answered_member : Bool → List ℕ
+answered_member everywhere = if everywhere then codes "\"answered\":\"every number of ranks\"," else []
+
 -- that nothing is found, for which instances that is said, and each line that tells where something waits
-abbrev pub json_settled : Bool → Pattern → List CallLine → List LineAnswers → List ℕ
-json_settled asked p lines answers =
-    codes "{" ++ (answers_member asked p answers
+abbrev pub json_settled : Bool → Bool → Pattern → List CallLine → List LineAnswers → List ℕ
+json_settled asked everywhere p lines answers =
+    (codes "{" ++ answered_member everywhere) ++ (answers_member asked p answers
     ++ (codes "\"findings\":[],\"for\":\"every number of ranks on every placement\",\"waits\":" ++ (lines_list (waits_text p lines) ++ codes "}\n")))
 
 -- a finding: its words

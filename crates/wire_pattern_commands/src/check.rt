@@ -14,6 +14,8 @@ ghost use Rattle.wire_sweep_laws.specs.Promised.{IsSettledForAll};
 ghost use Rattle.wire_pattern_answers.specs.Answers.{AreAnswers};
 ghost use Rattle.wire_commands.specs.Ending.{ended_of};
 ghost use Rattle.wire_pattern_commands.specs.CheckPattern as spec;
+ghost use Rattle.wire_size_laws.specs.Stages.{Stages};
+ghost use Rattle.wire_reply_laws.specs.Promised.{AllStaged};
 ghost use Rattle.wire_pattern_commands.specs.CheckPattern.{BreaksOffPatternVerdict, EndsInOneStateForAll};
 ghost use Rattle.wire_pattern_commands.specs.CheckPattern.{IsPatternVerdict, IsSettledSaid, StopsBeforePattern, WritesPatternVerdict};
 
@@ -27,7 +29,9 @@ use wire_content::Scripts;
 use wire_findings::Finding;
 use wire_pattern::Pattern;
 use wire_pattern_answers::{LineAnswers, find_answers, write_answers};
+use wire_pattern_stages::stages_of;
 use wire_pattern_waits::{CallLine, waiting_lines, write_waits};
+use wire_reply_laws::laws::all_answered;
 use wire_report::{push_count, push_finding};
 use wire_sweep::laws::texts_settled;
 use wire_sweep::{Counterexample, judge_pattern};
@@ -148,13 +152,20 @@ fn count_failing(all: &[LineAnswers]) -> usize
 }
 
 /// How the command ends where nothing is found.
-fn settled_end(asked: PatternAsked, lines: &[CallLine], answers: &[LineAnswers]) -> Ended
-    ensures { result ≡ spec.settled_end asked lines.now answers.now }
+fn settled_end(
+    asked: PatternAsked,
+    everywhere: bool,
+    lines: &[CallLine],
+    answers: &[LineAnswers],
+) -> Ended
+    ensures { result ≡ spec.settled_end asked everywhere lines.now answers.now }
 {
     if !asked.complete {
         Ended::Clean
     } else if !lines.is_empty() {
         Ended::of_count(lines.len())
+    } else if !everywhere {
+        Ended::of_count(1)
     } else {
         Ended::of_count(count_failing(answers))
     }
@@ -178,22 +189,62 @@ fn answers_asked(
     Ok(Vec::new(alloc))
 }
 
+/// Whether stages are found that all instances that are judged keep.
+fn has_stages(alloc: Global, pattern: &Pattern) -> Result<bool, Fault>
+    requires { total_of (most_sizes pattern.now.roles) < 2 ^ 31 }
+    ensures ok { IfOk result (λ staged. staged ≡ true → (stages : Stages) × AllStaged pattern.now stages) }
+    ensures err { IfErr result (λ e. IsJudgeFault pattern.now e) }
+{
+    let Some(stages) = stages_of(alloc, pattern)? else {
+        return Ok(false);
+    };
+    drop(stages);
+    Ok(true)
+}
+
+/// Whether no call waits for ever in any instance: told where nothing waits in those that are judged, and these keep
+/// stages.
+fn is_answered(alloc: Global, pattern: &Pattern, lines: &[CallLine]) -> Result<bool, Fault>
+    requires { total_of (most_sizes pattern.now.roles) < 2 ^ 31 }
+    ensures ok { IfOk result (λ everywhere. everywhere ≡ true → (lines.now ≡ []) × ((stages : Stages) × AllStaged pattern.now stages)) }
+    ensures err { IfErr result (λ e. IsJudgeFault pattern.now e) }
+{
+    if !lines.is_empty() {
+        return Ok(false);
+    }
+    let staged = has_stages(alloc, pattern)?;
+    Ok(staged)
+}
+
+/// Appends that no call waits with any number of ranks, where that is known.
+fn push_answered(out: &mut Vec<u8>, everywhere: bool) -> Result<(), AllocError>
+    ensures { OnOk result (out.new.items ≡ out.old.items ++ spec.answered_line everywhere) }
+{
+    if everywhere {
+        out.extend_from_slice(b"every call is answered for every number of ranks\n")
+    } else {
+        Ok(())
+    }
+}
+
 /// The text about a pattern in which nothing is found: so it says, at which call lines something waits, and if that is
 /// asked for with which statuses each get-now is answered.
 fn settled_text(
     alloc: Global,
     pattern: &Pattern,
     asked: PatternAsked,
+    everywhere: bool,
     lines: &[CallLine],
     answers: &[LineAnswers],
 ) -> Result<Vec<u8>, AllocError>
-    ensures { IfOk result (λ text. text.items ≡ spec.settled_text asked.answers pattern.now lines.now answers.now) }
+    ensures { IfOk result (λ text. text.items ≡ spec.settled_text asked.answers everywhere pattern.now lines.now answers.now) }
 {
     let mut text = Vec::from_slice(
         alloc,
         b"findings 0 for every number of ranks on every placement\n",
     )?;
     write_waits(&mut text, pattern, lines)?;
+    push_answered(&mut text, everywhere)?;
     if !asked.answers {
         return Ok(text);
     }
@@ -206,15 +257,16 @@ fn settled_form(
     alloc: Global,
     pattern: &Pattern,
     asked: PatternAsked,
+    everywhere: bool,
     lines: &[CallLine],
     answers: &[LineAnswers],
 ) -> Result<Vec<u8>, AllocError>
-    ensures { IfOk result (λ text. text.items ≡ spec.settled_form asked pattern.now lines.now answers.now) }
+    ensures { IfOk result (λ text. text.items ≡ spec.settled_form asked everywhere pattern.now lines.now answers.now) }
 {
     if asked.json {
-        settled_json(alloc, pattern, asked, lines, answers)
+        settled_json(alloc, pattern, asked, everywhere, lines, answers)
     } else {
-        settled_text(alloc, pattern, asked, lines, answers)
+        settled_text(alloc, pattern, asked, everywhere, lines, answers)
     }
 }
 
@@ -225,12 +277,22 @@ fn answer_settled(alloc: Global, pattern: &Pattern, asked: PatternAsked) -> Resu
     ensures ok { IfOk result (λ answer. IsSettledSaid pattern.now asked answer.text.items answer.ended) }
     ensures err { IfErr result (λ e. IsJudgeFault pattern.now e) }
 {
+    all_answered();
+    note_sound(pattern);
     let lines = waiting_lines(alloc, pattern)?;
+    let everywhere = is_answered(alloc, pattern, lines.as_slice())?;
     let answers = answers_asked(alloc, pattern, asked)?;
-    let text = settled_form(alloc, pattern, asked, lines.as_slice(), answers.as_slice())?;
+    let text = settled_form(
+        alloc,
+        pattern,
+        asked,
+        everywhere,
+        lines.as_slice(),
+        answers.as_slice(),
+    )?;
     Ok(Answer {
         text,
-        ended: settled_end(asked, lines.as_slice(), answers.as_slice()),
+        ended: settled_end(asked, everywhere, lines.as_slice(), answers.as_slice()),
     })
 }
 

@@ -1,6 +1,6 @@
 //! The verdict about a pattern as JSON.
 
-ghost use Rattle.std.specs.Prelude.{◌≡◌, ◌++◌, map, IfOk, OnOk};
+ghost use Rattle.std.specs.Prelude.{◌≡◌, ◌++◌, codes, map, IfOk, OnOk};
 ghost use Rattle.wire_types.specs.Texts.{lists_of};
 ghost use Rattle.wire_json.specs.Json.{bracketed};
 ghost use Rattle.wire_pattern_waits.specs.Lines.{waits_text};
@@ -54,18 +54,29 @@ fn push_waits(
     push_lines(alloc, out, text.as_slice())
 }
 
+/// The start of the object: the member of that no call waits with any number of ranks, where that is known.
+fn settled_start(alloc: Global, everywhere: bool) -> Result<Vec<u8>, AllocError>
+    ensures { IfOk result (λ text. text.items ≡ codes "{" ++ spec.answered_member everywhere) }
+{
+    if everywhere {
+        Vec::from_slice(alloc, b"{\"answered\":\"every number of ranks\",")
+    } else {
+        Vec::from_slice(alloc, b"{")
+    }
+}
+
 /// The object about a pattern in which nothing is found.
 pub(crate) fn settled_json(
     alloc: Global,
     pattern: &Pattern,
     asked: PatternAsked,
+    everywhere: bool,
     lines: &[CallLine],
     answers: &[LineAnswers],
 ) -> Result<Vec<u8>, AllocError>
-    ensures { IfOk result (λ text. text.items ≡ spec.json_settled asked.answers pattern.now lines.now answers.now) }
+    ensures { IfOk result (λ text. text.items ≡ spec.json_settled asked.answers everywhere pattern.now lines.now answers.now) }
 {
-    let mut out = Vec::new(alloc);
-    out.extend_from_slice(b"{")?;
+    let mut out = settled_start(alloc, everywhere)?;
     push_answers(alloc, &mut out, pattern, asked, answers)?;
     out.extend_from_slice(
         b"\"findings\":[],\"for\":\"every number of ranks on every placement\",\"waits\":",

@@ -7,3 +7,5 @@ pub mod Replies
 pub mod Verbs
 pub mod Said
 pub mod Texts
+pub mod Packed
+pub mod SameCall

@@ -1,0 +1,4 @@
+pub mod Library
+pub mod Portable
+pub mod Promised
+pub mod Anywhere

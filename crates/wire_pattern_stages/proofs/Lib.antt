@@ -1,0 +1,4 @@
+mod Lists
+mod Sources
+mod Kept
+mod Swept

@@ -1,0 +1,26 @@
+-- Of one selection, and of all.
+use Rattle.std.proofs.Common.{◌≡◌, ap, subst, Ok, Result, Err}
+use Rattle.wire_types.specs.declared.Fault.{Fault}
+use Rattle.wire_content.specs.Scripts.{Scripts}
+use Rattle.wire_content.specs.Planned.{plan_of}
+use Rattle.wire_script.specs.declared.Size.TheVariants.{OfVersion}
+use Rattle.wire_script.specs.Reads.{Reads, ReadsOnce}
+use Rattle.wire_pattern.specs.Pattern.{Pattern}
+use Rattle.wire_pattern.specs.Planned.{pattern_of}
+use Rattle.wire_pattern.specs.Instances.{Cast, cast_of, instance_text}
+use Rattle.wire_size_laws.specs.Stages.{Stages}
+use Rattle.wire_sweep.specs.Selections.{Selection}
+use Rattle.wire_pattern_waits.specs.Waits.{alone}
+use Rattle.wire_reply_laws.specs.Kept.{KeepsStages}
+use Rattle.wire_pattern_stages.specs.Staged.{SelectionKeeps}
+
+abbrev read_or : Scripts → Result Scripts Fault → Scripts
+read_or other (Ok scripts) = scripts
+read_or other (Err fault) = other
+
+pub selection_kept : (p : Pattern) (stages : Stages) (s : Selection) (cast : Cast) (scripts : Scripts) → ReadsOnce → cast ≡ alone p s
+    → Reads OfVersion (instance_text p cast) (Ok scripts) → KeepsStages stages (pattern_of p) (cast_of cast) (plan_of scripts) → SelectionKeeps p stages s
+selection_kept p stages s cast scripts once is reads keeps other other_reads =
+    let read_alone : Reads OfVersion (instance_text p (alone p s)) (Ok scripts) = subst (λ c. Reads OfVersion (instance_text p c) (Ok scripts)) is reads in
+    let same : scripts ≡ other = ap (read_or scripts) (once OfVersion (instance_text p (alone p s)) (Ok scripts) (Ok other) read_alone other_reads) in
+    subst (λ t. KeepsStages stages (pattern_of p) (cast_of (alone p s)) (plan_of t)) same (subst (λ c. KeepsStages stages (pattern_of p) (cast_of c) (plan_of scripts)) is keeps)

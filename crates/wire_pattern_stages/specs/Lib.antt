@@ -1,0 +1,5 @@
+pub mod Shown
+pub mod Lines
+pub mod Rising
+pub mod Tables
+pub mod Staged

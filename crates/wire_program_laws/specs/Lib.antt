@@ -1,0 +1,4 @@
+pub mod Runs
+pub mod Programs
+pub mod Elsewhere
+pub mod Going

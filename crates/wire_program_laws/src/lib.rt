@@ -1,0 +1,4 @@
+//! What one run of a program tells of all its runs.
+#![tactic(auto)]
+
+pub mod laws;

@@ -1,0 +1,5 @@
+mod Rise
+mod FullerLabels
+mod AllDone
+mod Judged
+mod Lawful
