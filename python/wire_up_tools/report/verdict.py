@@ -3,11 +3,12 @@ from wire_up_tools.report.causes import Cause
 from wire_up_tools.report.contents import Report
 from wire_up_tools.report.findings import MOST_GROUPS, Kind
 from wire_up_tools.report.library_page import say_otherwise
-from wire_up_tools.report.partial import hides_race
+from wire_up_tools.report.partial import hides_race, is_of_each_run
 from wire_up_tools.report.patterns import say_counterexample
 from wire_up_tools.report.phrases import count_of
 from wire_up_tools.report.placements import Placed
 from wire_up_tools.report.runs import SECONDS, Outcome
+from wire_up_tools.words import EACH_RUN_SENTENCE
 
 # What it means that there are no two runs.
 WITHOUT_RUNS = {
@@ -88,7 +89,9 @@ def say_pattern(report: Report) -> list[str]:
 def say_besides(report: Report) -> list[str]:
     """What is said below the verdict: of the pattern, of other placements, and of a library."""
     of_library = [say_otherwise(report.judged)] if report.judged else []
-    return [*say_pattern(report), *say_placements(report), *of_library]
+    is_of_runs = not report.causes and is_of_each_run(report.plan)
+    of_runs = [EACH_RUN_SENTENCE] if is_of_runs else []
+    return [*of_runs, *say_pattern(report), *say_placements(report), *of_library]
 
 
 def say_reasons(report: Report) -> str:
