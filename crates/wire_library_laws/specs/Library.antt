@@ -247,12 +247,13 @@ pub data OwesGet (plan : Plan) (h : List Moment) (p owner key : ℕ) : Type 0 wh
       × (admits (scope_of plan owner v) false ≡ true)) → OwesGet plan h p owner key
 
 -- to which open calls the library owes an answer: to all that don't wait; to those that wait, once what they wait for is
--- there
+-- there; of calls of reserved keys and names to those that are known. (Measured: some others wait for ever)
 abbrev pub Owes : Family → Words → Plan → List Moment → ℕ → Kind → Type 0
 Owes family words plan h p (Get owner key) = OwesGet plan h p owner key
 Owes family words plan h p (Leave members) =
     IsPlainSoFar words plan h p members × (is_complete plan (told plan h).done members (arrivals plan p members ((told plan h).done p)) ≡ true)
 Owes family words plan h p (LookupWait name) = KeepsName family plan name h × (is_some ((told plan h).names name) ≡ true)
+Owes family words plan h p (Fixed r) = words.known (next_event (told plan h) p) ≡ true
 Owes family words plan h p _ = Unit {0}
 
 -- the run has come to its end: each process that has a call left has made it, and is owed no answer
