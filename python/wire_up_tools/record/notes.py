@@ -16,7 +16,7 @@ from wire_up_tools.record.calls import (
 from wire_up_tools.record.directives import KNOWN, find_ending, gives_up
 from wire_up_tools.record.messages import Messages
 from wire_up_tools.record.processes import Processes
-from wire_up_tools.record.recordings import Recording
+from wire_up_tools.record.recordings import NO_USE, Recording
 from wire_up_tools.words import show
 
 # Functions whose result depends on which rank was faster, or behind which another rank's memory is
@@ -29,6 +29,8 @@ OF_LUCK = re.compile(
     r"|(\w+ of any source|Im?probe) in a communicator that isn't known)"
     r"|PMIx_Register_event_handler"
 )
+# Stands for the functions that own code refers to where the recording doesn't tell them.
+NOT_NOTED = "(not noted)"
 # Functions by which processes are started. A library of MPI calls them too.
 STARTING = ("PMIx_Spawn", "PMIx_Spawn_nb")
 
@@ -37,13 +39,20 @@ STARTING = ("PMIx_Spawn", "PMIx_Spawn_nb")
 class Notes:
     """What a plan can't say of the program, each with how often that was: where the run was cut
     off; what was left out; what is more ordered than the program, so that a race can be missed;
-    after what another run may do otherwise; and what is written otherwise."""
+    after what another run may do otherwise; what is written otherwise; and the functions to which
+    the program's own code refers that can lead to a call of PMIx."""
 
     cut_off: Counter[str] = field(default_factory=Counter)
     left_out: Counter[str] = field(default_factory=Counter)
     more_ordered: Counter[str] = field(default_factory=Counter)
     of_luck: Counter[str] = field(default_factory=Counter)
     otherwise: Counter[str] = field(default_factory=Counter)
+    uses: Counter[str] = field(default_factory=Counter)
+
+    @property
+    def can_call_pmix(self) -> bool:
+        """Whether what luck decides can lead to a call of PMIx by the program's own code."""
+        return any(self.uses.values())
 
     def add(self, others: "Notes") -> None:
         """Takes other notes too, also those that say that something was never so."""
@@ -52,6 +61,7 @@ class Notes:
         self.more_ordered.update(others.more_ordered)
         self.of_luck.update(others.of_luck)
         self.otherwise.update(others.otherwise)
+        self.uses.update(others.uses)
 
 
 def note_recording(recording: Recording, notes: Notes) -> None:
@@ -63,6 +73,8 @@ def note_recording(recording: Recording, notes: Notes) -> None:
             "processes whose recordings end before PMIx_Finalize: how they went on isn't known"
         ] += 1
     notes.more_ordered.update(recording.unseen_pmix)
+    uses = recording.uses.decode() if recording.uses else NOT_NOTED
+    notes.uses[uses] += recording.uses != NO_USE
     for name, count in recording.others.items():
         noted = notes.of_luck if OF_LUCK.fullmatch(name) else notes.left_out
         noted[f"calls of {name}"] += count

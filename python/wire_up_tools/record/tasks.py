@@ -13,7 +13,6 @@ from wire_up_tools.failures import Refused
 from wire_up_tools.files import STANDARD_OUTPUT, write_whole
 from wire_up_tools.limits import LARGE, VERSION_1
 from wire_up_tools.record.merging import merge_plans
-from wire_up_tools.record.notes import Notes
 from wire_up_tools.record.partings import Run
 from wire_up_tools.record.patterns.finding import Broken
 from wire_up_tools.record.patterns.scripts import ANY_VALUE, Script
@@ -28,7 +27,7 @@ from wire_up_tools.record.verdicts import (
     judge_placements,
     judge_runs,
 )
-from wire_up_tools.record.writing import write_answers, write_plan
+from wire_up_tools.record.writing import is_by_mpi_alone, write_answers, write_plan
 
 
 @dataclass(frozen=True)
@@ -94,13 +93,14 @@ def count_notes(notes: Mapping[str, int]) -> str:
     return ", ".join(f"{count} {what}" for what, count in sorted(notes.items()) if count)
 
 
-def say_part(notes: Notes) -> None:
+def say_part(plan: Plan) -> None:
     """Says why a verdict over a plan holds only in part, if it does."""
+    notes = plan.notes
     in_part = "a verdict over this plan holds only in part"
     for before, noted in (("the run was cut off: ", notes.cut_off), ("", notes.more_ordered)):
         if any(noted.values()):
             say(f"{before}{in_part}: {count_notes(noted)}")
-    if any(notes.of_luck.values()):
+    if any(notes.of_luck.values()) and not is_by_mpi_alone(plan):
         received = count_notes(notes.of_luck)
         say(f"{received}: another run may do otherwise after them")
 
@@ -133,7 +133,7 @@ def write_output(plan: Plan, recordings: Sequence[Recording], output: Output) ->
         write_whole(output.answers, answers)
     if output.pattern:
         write_pattern(plan, output.pattern)
-    say_part(plan.notes)
+    say_part(plan)
     return text
 
 
@@ -202,7 +202,7 @@ def merge(output: Output, runs: Sequence[Sequence[str]], folder: str) -> None:
         write_pattern(plan, output.pattern)
     for parting in plan.partings:
         say(f"the runs part: {parting}")
-    say_part(plan.notes)
+    say_part(plan)
     say_verdicts(plan)
     if path is not None:
         own = [write_plan(it.plan, it.places) for it in made]
