@@ -13,7 +13,7 @@ from wire_up_tools.record.calls import (
     Publish,
     Unpublish,
 )
-from wire_up_tools.record.directives import KNOWN, find_ending, gives_up
+from wire_up_tools.record.directives import KNOWN, find_ending, gives_up, stands_early
 from wire_up_tools.record.messages import Messages
 from wire_up_tools.record.processes import Processes
 from wire_up_tools.record.recordings import NO_USE, Recording
@@ -29,6 +29,11 @@ OF_LUCK = re.compile(
     r"|(\w+ of any source|Im?probe) in a communicator that isn't known)"
     r"|PMIx_Register_event_handler"
 )
+# Calls whose end the plan takes to be waited for: gets that can stand anywhere, and others.
+WAITED_FOR = (
+    "of the program that don't block and ended before others: in the plan it waited for them"
+)
+FLOATING, UNAWAITED = f"gets {WAITED_FOR}", f"calls {WAITED_FOR}"
 # Stands for the functions that own code refers to where the recording doesn't tell them.
 NOT_NOTED = "(not noted)"
 # Functions by which processes are started. A library of MPI calls them too.
@@ -125,12 +130,18 @@ def note_directives(call: Call, notes: Notes) -> None:
                 notes.left_out[f"directives {show(it.key)}"] += 1
 
 
+def is_floating(call: Call) -> bool:
+    """Whether a call is a get of the program that doesn't block, waits for its key, and has it."""
+    action = call.action
+    is_get = isinstance(action, Get) and not stands_early(action)
+    return is_get and find_ending(action) is Ending.CALLS_PROGRAM and call.status == 0
+
+
 def note_unawaited(calls: Sequence[Call], messages: Messages, notes: Notes) -> None:
     """Notes the calls of the program that didn't block, ended, and were followed by others."""
     last = max(calls[-1].begins if calls else 0, messages.begins[-1] if messages.begins else 0)
-    unawaited = (it for it in calls if it.is_of_pmix and it.ends and it.ends < last)
-    count = sum(find_ending(it.action) is Ending.CALLS_PROGRAM for it in unawaited)
-    notes.more_ordered[
-        "calls of the program that don't block and ended before others: in the plan it waited for "
-        "them"
-    ] += count
+    ended = (it for it in calls if it.is_of_pmix and it.ends and it.ends < last)
+    unawaited = [it for it in ended if find_ending(it.action) is Ending.CALLS_PROGRAM]
+    floating = sum(is_floating(it) for it in unawaited)
+    notes.more_ordered[FLOATING] += floating
+    notes.more_ordered[UNAWAITED] += len(unawaited) - floating
