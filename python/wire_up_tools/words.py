@@ -33,6 +33,13 @@ EACH_RUN = "each run of this program on these nodes makes these calls, if it goe
 EACH_RUN_SENTENCE = f"{EACH_RUN[0].upper()}{EACH_RUN[1:]}."
 ANSWERED = "Answered otherwise than by the rules, so that the verdict doesn't hold of this run:"
 TIMED = "Known to be answered by which rank is fast, so that the verdict says less:"
+# The title in place of `OTHERWISE_AFTER`, and a line with it, where the program's own code refers
+# to nothing that leads to a call of PMIx.
+OTHERWISE_ALONE = "Another run may do otherwise after these, but its own code calls no PMIx:"
+OWN_CODE = (
+    "The program's own code refers to no function of PMIx, to none of MPI for names or for other "
+    "processes, and to none that opens or starts other code."
+)
 # What the head says of ends that were left to luck, after their number, and how it ends where
 # their order is taken. And how the line begins that has the verdicts with and without --strict.
 LEFT_TO_LUCK = "ends of requests that another run may have found open"
