@@ -41,8 +41,8 @@ TRIED_IN_HEAD = {
     "not-made": "Not made in this program",
 }
 TRIED_BY = "Tried by: "
-TURNED, TURNED_IN_VAIN = "Turned round on", "Turned round in vain on"
-TURN_STOPPED = "Trying was stopped on"
+TURNED_ROUND, TURNED_IN_VAIN = "Turned round on", "Turned round in vain on"
+TRIED_STOPPED = "Trying was stopped on"
 # How the line of the head begins that says that no order of MPI is known.
 WITHOUT_MPI = "MPI's order isn't recorded"
 

@@ -62,34 +62,36 @@ static const char *find_word(const char *text, unsigned index, size_t *length)
     return text;
 }
 
-/* Adds the items of a word of a text, behind a space. */
-static void add_list(struct name *to, const char *text, unsigned index)
+/* Adds the item of a word of a text that has an index, from 0, behind a space. False where there are
+ * not so many. */
+static bool add_item_of(struct name *to, const char *text, unsigned word, unsigned index)
 {
     size_t left;
-    const char *at = find_word(text, index, &left);
-    add_byte(to, ' ');
-    while (left) {
-        const char *comma = memchr(at, ',', left);
-        size_t length = comma ? (size_t)(comma - at) : left;
-        add_item(to, at, length);
-        if (comma)
-            add_byte(to, ',');
-        at += length + (comma != NULL);
-        left -= length + (comma != NULL);
+    const char *at = find_word(text, word, &left), *comma;
+    for (; index && (comma = memchr(at, ',', left)); index--) {
+        left -= (size_t)(comma - at) + 1;
+        at = comma + 1;
     }
+    comma = memchr(at, ',', left);
+    add_byte(to, ' ');
+    add_item(to, at, comma ? (size_t)(comma - at) : left);
+    return !index;
 }
 
-void name_call(char to[NAME_ROOM], const char *what)
+bool name_call(char to[NAME_ROOM], const char *what, unsigned index)
 {
     struct name made = {.at = to};
     size_t length;
     const char *verb = find_word(what, 0, &length);
+    bool is_bare = begins_with(what, "commit") || begins_with(what, "fence");
+    bool is_get = begins_with(what, "get "), is_there = !index;
     add_masked(&made, verb, length);
-    if (!begins_with(what, "commit") && !begins_with(what, "fence"))
-        add_list(&made, what, 2);
-    if (begins_with(what, "get "))
-        add_list(&made, what, 3);
+    if (!is_bare)
+        is_there = add_item_of(&made, what, 2, index) && !(is_get && index);
+    if (is_get)
+        add_item_of(&made, what, 3, 0);
     to[made.is_lost ? 0 : made.length] = 0;
+    return is_there;
 }
 
 void name_send(char to[NAME_ROOM], const struct numbers *what)

@@ -8,10 +8,11 @@
 #define NAME_ROOM 512
 
 /* Puts the name of a call whose record has this text: its verb, and whom and what it is about, as in
- * `lookup a,b`, `put k` or `get 1 k`, without namespaces, values, the members of a fence, and the way
+ * `lookup a`, `put k` or `get 1 k`, without namespaces, values, the members of a fence, and the way
  * in which the call waits. A number of six digits or more is `#`: such differ between runs. Empty
- * where there is no room for it. */
-void name_call(char to[NAME_ROOM], const char *what);
+ * where there is no room for it. A call on several names has a name for each: `index` says which,
+ * from 0. False where there are not so many. */
+bool name_call(char to[NAME_ROOM], const char *what, unsigned index);
 
 /* Puts the name of a send: its communicator, target and tag. */
 void name_send(char to[NAME_ROOM], const struct numbers *what);

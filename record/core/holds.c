@@ -201,10 +201,9 @@ static struct named *find_named(const char *name)
     return found;
 }
 
-/* Holds a call of a name, if it is one of the named. */
-static unsigned hold_name(const char *name, bool may_wait)
+/* Holds a call, if it is one of the named. Answers which, from 1. */
+static unsigned hold_named(const struct named *of, bool may_wait)
 {
-    struct named *of = *name ? find_named(name) : NULL;
     if (!of)
         return 0;
     int error = errno;
@@ -220,10 +219,14 @@ static unsigned hold_name(const char *name, bool may_wait)
 unsigned hold_call(const struct text *what, const struct place *place)
 {
     char name[NAME_ROOM];
+    const struct named *found = NULL;
     if (what->is_lost)
         return 0;
-    name_call(name, what->at);
-    return hold_name(name, place != NULL);
+    for (unsigned n = 0; name_call(name, what->at, n); n++) {
+        const struct named *of = find_named(name);
+        found = found ? found : of;
+    }
+    return hold_named(found, place != NULL);
 }
 
 void hold_numbers(const struct numbers *what)
@@ -232,7 +235,7 @@ void hold_numbers(const struct numbers *what)
     if (strcmp(what->first, "send"))
         return;
     name_send(name, what);
-    hold_name(name, true);
+    hold_named(find_named(name), true);
 }
 
 void number_held(unsigned which, unsigned long number)

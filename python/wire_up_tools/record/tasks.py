@@ -25,7 +25,8 @@ from wire_up_tools.record.planning import Choices, Plan, make_plan, make_whole_p
 from wire_up_tools.record.recordings import Recording, has_recordings, read_recordings
 from wire_up_tools.record.running import BY_SIGNAL, find_libraries, make_environment, run
 from wire_up_tools.record.showing.asking import Asked
-from wire_up_tools.record.showing.showing import Material, show
+from wire_up_tools.record.showing.material import First, Material
+from wire_up_tools.record.showing.showing import show
 from wire_up_tools.record.showing.traces import read_traces
 from wire_up_tools.record.verdicts import (
     compare_verdicts,
@@ -319,8 +320,8 @@ def record(asked: CommandRequest, folder: str) -> int:
         is_made = True
         if asked.asked:
             material = find_material(asked, text, recordings, folder)
-            traces = read_traces(recordings)
-            show(asked.asked, replace(material, seconds=seconds, traces=traces), say)
+            first = First(seconds, status, read_traces(recordings))
+            show(asked.asked, replace(material, first=first), say)
         return status if status >= 0 else BY_SIGNAL - status
     finally:
         if not output.kept and (is_made or not has_recordings(recordings)):

@@ -32,11 +32,24 @@ OPTIONS = (
         "--show-race", "RACE", "does so for two calls of the plan, such as 'app:0 2 app:1 1'"
     ),
     Option(
+        "--turn",
+        "",
+        "tries the other order of each two calls that the plan orders, of which one could change "
+        "what the other is told: the\n"
+        "                   first is held back until the second is over. If it never comes, the "
+        "program keeps the order",
+    ),
+    Option(
+        "--turn-waits",
+        "COUNT",
+        "besides so many orders of calls that wait for each other, which a library may give up",
+    ),
+    Option(
         "--of",
         "PLAN",
         "takes the calls of a plan that was recorded before, whose head then says what came of it",
     ),
-    Option("--most", "COUNT", f"how many races are tried; else {MOST}"),
+    Option("--most", "COUNT", f"how many races or orders are tried; else {MOST}"),
     Option(
         "--hold",
         "SECONDS",
@@ -49,27 +62,40 @@ OPTIONS = (
         f"how long such a run may take; else {LIMIT:g} and {LIMIT_TIMES:g} times the first",
     ),
     Option(
-        "--input", "FILE", "what all runs read as standard input; else it is empty for --show"
+        "--input",
+        "FILE",
+        "what all runs read as standard input; else it is empty for --show and --turn",
     ),
     Option("--shown", "FILE", "writes also what came of it as JSON"),
 )
 # Those that say how something is shown.
-OF_SHOWING = ("most", "hold", "limit", "input", "shown")
+OF_SHOWING = ("of", "most", "hold", "limit", "input", "shown", "turn_waits")
 
 
 @dataclass(frozen=True)
 class Asked:
-    """What is to be shown: the first race of each cause, or two calls; of the plan of this run or
-    of one that is there; and how."""
+    """What is to be shown: the first race of each cause, or two calls; whether orders are turned
+    round, and how many of calls that wait; of the plan of this run or of one that is there; and
+    how."""
 
     does_show: bool
     race: Optional[tuple[str, int, str, int]]
+    does_turn: bool
+    turn_waits: int
     of: Optional[str]
     most: int
     hold: Optional[float]
     limit: Optional[float]
     source: Optional[str]
     shown: Optional[str]
+
+    @property
+    def task(self) -> list[str]:
+        """The options that say what is to be shown."""
+        race = " ".join(map(str, self.race or ()))
+        found = ["--show"] * self.does_show + (["--show-race", race] if race else [])
+        found += ["--turn"] * self.does_turn
+        return found + (["--turn-waits", str(self.turn_waits)] if self.turn_waits else [])
 
     def find_hold(self, first: Optional[float]) -> float:
         """How long nothing may move before a hold ends, by how long the first run took."""
@@ -100,35 +126,48 @@ def read_seconds(name: str, text: Optional[str]) -> Optional[float]:
     return float(text)
 
 
-def read_count(name: str, text: Optional[str]) -> int:
-    """How many are tried. Raises Unusable."""
+def read_count(name: str, text: Optional[str], other: int) -> int:
+    """How many are tried; where nothing says it, as many as `other`. Raises Unusable."""
     if text is not None and not re.fullmatch(r"[1-9]\d{0,3}", text):
         raise Unusable(f"{name} {text}: needs a number from 1 to 9999")
-    return int(text) if text else MOST
+    return int(text) if text else other
 
 
 def is_asked(found: argparse.Namespace) -> bool:
     """Whether something is to be shown."""
-    return bool(found.show or found.show_race is not None)
+    return bool(found.show or found.show_race is not None or found.turn)
 
 
 def read_asked(found: argparse.Namespace) -> Optional[Asked]:
     """What a command line asks to be shown; None if nothing. Raises Unusable."""
     if not is_asked(found):
-        given = [it for it in (*OF_SHOWING, "of") if getattr(found, it) is not None]
+        given = [it for it in OF_SHOWING if getattr(found, it) is not None]
         if given:
-            raise Unusable(f"--{given[0]} goes with --show or --show-race")
+            named = given[0].replace("_", "-")
+            raise Unusable(f"--{named} goes with --show, --show-race or --turn")
         return None
     if found.show and found.show_race is not None:
         raise Unusable("--show and --show-race are two tasks")
+    if found.turn_waits is not None and not found.turn:
+        raise Unusable("--turn-waits goes with --turn")
     if found.files is not None:
-        raise Unusable("--show runs the command again: it doesn't go with --from")
+        raise Unusable("the command runs again: --from has none")
     hold, limit = read_seconds("--hold", found.hold), read_seconds("--limit", found.limit)
     if hold and limit and limit < hold:
         raise Unusable("--limit is below --hold")
     race = read_race(found.show_race) if found.show_race is not None else None
-    most = read_count("--most", found.most)
-    return Asked(found.show, race, found.of, most, hold, limit, found.input, found.shown)
+    return Asked(
+        does_show=found.show,
+        race=race,
+        does_turn=found.turn,
+        turn_waits=read_count("--turn-waits", found.turn_waits, 0),
+        of=found.of,
+        most=read_count("--most", found.most, MOST),
+        hold=hold,
+        limit=limit,
+        source=found.input,
+        shown=found.shown,
+    )
 
 
 def has_input() -> bool:

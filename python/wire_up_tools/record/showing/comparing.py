@@ -49,9 +49,9 @@ def compare_replies(
     process: str, first: Sequence[TracedCall], second: Sequence[TracedCall]
 ) -> Iterator[Difference]:
     """The calls that a process made in both runs and that were answered otherwise."""
-    known = {it.key: it for it in second}
+    known = {it.keys[0]: it for it in second}
     for it in first:
-        other = known.get(it.key)
+        other = known.get(it.keys[0])
         if other and other.reply != it.reply:
             yield Difference(process, it.name, it.reply, other.reply)
 
@@ -99,7 +99,7 @@ def compare(runs: Sequence[HeldRun], targets: Sequence[Target]) -> Compared:
     named = {(it.process, it.name, it.ordinal) for it in targets}
     for process in list_processes(runs):
         first, second = (list_calls(run, process) for run in runs)
-        left = [it for it in first if (process, *it.key) not in named]
+        left = [it for it in first if not any((process, *key) in named for key in it.keys)]
         others += compare_replies(process, left, second)
         parting = find_parting(process, first, second)
         partings += [parting] if parting else []

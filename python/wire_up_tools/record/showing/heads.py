@@ -1,10 +1,10 @@
 """The lines that the head of a plan has of what was tried."""
 from collections.abc import Sequence
 
-from wire_up_tools.words import TRIED_BY, TRIED_IN_HEAD, TURN_STOPPED, TURNED, TURNED_IN_VAIN
+from wire_up_tools.words import TRIED_BY, TRIED_IN_HEAD, TRIED_STOPPED, TURNED_IN_VAIN, TURNED_ROUND
 
 # How each of these lines begins.
-STARTS = (*TRIED_IN_HEAD.values(), TRIED_BY, TURN_STOPPED, TURNED, TURNED_IN_VAIN)
+STARTS = (*TRIED_IN_HEAD.values(), TRIED_BY, TRIED_STOPPED, TURNED_ROUND, TURNED_IN_VAIN)
 
 
 def is_of_trial(line: str) -> bool:

@@ -29,9 +29,7 @@ def find_sends(process: str, trace: Trace, to: int) -> list[Target]:
         words = call.text.split(" ")
         if words[0] == "send" and words[1:3] == [WORLD, str(to)]:
             job = number_job(trace.namespace)
-            found.append(
-                Target(process, number, job, trace.rank, call.name, call.ordinal, "send")
-            )
+            found.append(Target(process, number, job, trace.rank, *call.keys[0], "send"))
     return found
 
 

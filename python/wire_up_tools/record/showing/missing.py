@@ -13,8 +13,9 @@ WENT_ON = "a longer --hold may show it"
 IN_CALLBACK = "a callback of the library made it, where no call can be held"
 # Verbs of records whose ends aren't noted.
 WITHOUT_END = "send"
-# A call that began so short before a hold ended, in seconds, shows that its process went on.
-RECENT = 0.4
+# A call that began so short before a hold ended, in seconds, shows that its process went on. The
+# times of recordings can be wrong by the other number.
+RECENT, MARGIN = 0.4, 0.05
 
 
 @dataclass(frozen=True)
@@ -33,18 +34,20 @@ def shorten(call: TracedCall) -> str:
     words = mask(call.text).split(" ")
     if words[0] == "collective":
         return f"MPI_{words[1].capitalize()}"
+    if words[0] in ("receive", "probe"):
+        return f"a {words[0]} from {words[2]}, tag {words[3]}"
     return call.name if call.is_of_pmix else " ".join(words[:4])
 
 
 def tell_standing(run: HeldRun, process: str, when: float) -> Missed:
-    """Where a process stood at some time, in seconds since 1970."""
-    trace = run.traces.get(process)
-    calls = [it for it in trace.calls if it.began <= when] if trace else []
+    """Where a process stood when a hold ended, in seconds since 1970."""
+    trace, before = run.traces.get(process), when - MARGIN
+    calls = [it for it in trace.calls if it.began <= before] if trace else []
     if not calls:
         return Missed(f"{process} had called nothing yet")
     last = calls[-1]
     ended = last.began if last.text.startswith(WITHOUT_END) else last.ended
-    is_open = ended is None or ended > when
+    is_open = ended is None or ended > before
     since = when - (last.began if is_open or ended is None else ended)
     how = "stood in" if is_open else "had left"
     why = f"{process} {how} {shorten(last)} for {since:.1f} s"

@@ -57,21 +57,22 @@ def mask(text: str) -> str:
     return OF_RUN.sub(MASK, text)
 
 
-def cut_items(word: str) -> str:
-    """The items of a list: of each what is behind its last colon and before its value."""
-    return ",".join(it.partition("=")[0].rpartition(":")[2] for it in word.split(","))
+def cut_item(item: str) -> str:
+    """What of an item of a list is behind its last colon and before its value."""
+    return item.partition("=")[0].rpartition(":")[2]
 
 
-def name_call(text: str) -> str:
-    """The name of a call whose record has this text."""
+def name_call(text: str) -> list[str]:
+    """The names of a call whose record has this text: one on several names has one for each."""
     words = text.split(" ")
     verb = words[0]
     if verb == "send":
-        return mask(" ".join(words[:4]))
+        return [mask(" ".join(words[:4]))]
     if verb not in OF_PMIX or verb in BARE:
-        return verb if verb in BARE else mask(text)
-    named = words[2:4] if verb == "get" else words[2:3]
-    return mask(" ".join([verb, *map(cut_items, named)]))
+        return [verb if verb in BARE else mask(text)]
+    if verb == "get":
+        return [mask(" ".join([verb, *map(cut_item, words[2:4])]))]
+    return [mask(f"{verb} {cut_item(it)}") for it in words[2].split(",")]
 
 
 def number_job(namespace: str) -> int:

@@ -5,11 +5,13 @@ from typing import Any, Optional
 from wire_up_tools.record.showing.comparing import NEVER_CAME, Compared, Difference
 from wire_up_tools.record.showing.held_runs import HeldRun
 from wire_up_tools.record.showing.naming import Target
-from wire_up_tools.record.showing.orders import FIRST, NOT_MADE, SECOND, SHOWN, Shown
+from wire_up_tools.record.showing.orders import FIRST, NOT_MADE, SECOND, Shown
 from wire_up_tools.words import TRIED_IN_HEAD
 
 # How many differences are named of each kind.
 NAMED = 4
+# The verbs of calls that ask for something end so.
+ASKING = ("lookup", "lookup-wait", "get-now", "get")
 ENDED_ALIKE = "and they end alike"
 
 
@@ -67,7 +69,8 @@ def sum_up(shown: Shown) -> str:
     if shown.word == NOT_MADE:
         return "; ".join(str(it) for it in dict.fromkeys(shown.missed) if it)
     compared = shown.compared
-    told = compared.targets if shown.word == SHOWN else [*compared.others, *compared.partings]
+    asking = [it for it in compared.targets if it.what.endswith(ASKING)]
+    told = asking or compared.targets or [*compared.others, *compared.partings]
     replies = [f"{it.process} {it.what}: {it.first} and {it.second}" for it in told[:1]]
     if not compared.is_alike:
         replies.append(say_ending(shown).replace(" | ", " and "))

@@ -16,22 +16,28 @@ from wire_up_tools.record.writing import STATUSES, WAITING
 HEAD_LINES = 4
 # The keys by which processes of Open MPI find each other, as messages come: not the program's.
 OF_LIBRARY = re.compile(r"(?:get \S+|put) (?:btl|pml|mtl|osc|coll|mpi)\.")
+# A printable character that a word of a recording can't have.
+ESCAPED = re.compile(r"%([2-7][0-9A-E])")
 # The namespace of a job of PRRTE has the number of a process.
 OF_PRRTE = re.compile(r"prterun-[^\s:]+?-\d+@\d+")
 
 
 @dataclass(eq=False)
 class TracedCall:
-    """A call of a trace: its name and the how-manieth of it, its text, when it began, in seconds
-    since 1970, the number of its place, and how and when it ended."""
+    """A call of a trace: its names, and the how-manieth of each it is; its text, when it began, in
+    seconds since 1970, the number of its place, and how and when it ended."""
 
-    name: str
-    ordinal: int
+    keys: Sequence[tuple[str, int]]
     text: str
     began: float
     place: Optional[str]
     end: Optional[str] = None
     ended: Optional[float] = None
+
+    @property
+    def name(self) -> str:
+        """All its names."""
+        return ", ".join(name for name, _ in self.keys)
 
     @property
     def is_of_pmix(self) -> bool:
@@ -44,11 +50,6 @@ class TracedCall:
         return self.is_of_pmix and not OF_LIBRARY.match(self.name)
 
     @property
-    def key(self) -> tuple[str, int]:
-        """What finds it again in another run."""
-        return self.name, self.ordinal
-
-    @property
     def reply(self) -> str:
         """How it ended, in words, without what differs between runs anyhow."""
         if self.end is None:
@@ -57,7 +58,8 @@ class TracedCall:
         name = STATUSES.get(int(status), f"PMIX_STATUS_{status}")
         value = rest.partition("=")[2] if self.name.startswith("lookup") else rest
         said = f"{name} {value.removeprefix('text:')}".strip()
-        return mask(OF_PRRTE.sub(MASK, said))
+        plain = ESCAPED.sub(lambda it: chr(int(it[1], 16)), said)
+        return mask(OF_PRRTE.sub(MASK, plain))
 
 
 @dataclass(eq=False)
@@ -78,7 +80,7 @@ class Trace:
 
     def find(self, key: tuple[str, int]) -> Optional[TracedCall]:
         """The call with this name and number; None where it made none."""
-        return next((it for it in self.calls if it.key == key), None)
+        return next((it for it in self.calls if key in it.keys), None)
 
 
 Traces = Mapping[str, Trace]
@@ -100,9 +102,9 @@ class Reader:
         sign, number, _, place, text = read.groups()
         when = self.trace.began + float(line.split(" ", 4)[3])
         if sign == "+":
-            name = name_call(text)
-            self.counts[name] += 1
-            call = TracedCall(name, self.counts[name], text, when, place)
+            names = name_call(text)
+            self.counts.update(names)
+            call = TracedCall([(it, self.counts[it]) for it in names], text, when, place)
             self.trace.calls.append(call)
             self.open[number] = call
         elif sign == "-" and number in self.open:
