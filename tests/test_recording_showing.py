@@ -17,8 +17,8 @@ from live import ENVIRONMENT, LiveTest, Ran, mpirun
 from tapes import COMMAND, PATIENCE, read_file, run_recorder
 
 COMPILED_WITH_LIBRARY = {"hidden": "liblookups.so"}
-# How long a hold lasts where nothing moves, in seconds: on a slow machine too. Where a program polls
-# meanwhile, it takes longer there.
+# How long a hold lasts where nothing moves, in seconds: longer than on a slow machine a process
+# takes between two calls; and than a program polls.
 HOLD, LONG_HOLD = "4", "30"
 SAID = re.compile(r"^wire_up-record: ", re.MULTILINE)
 # How long a signal may take to end all, in seconds.

@@ -4,10 +4,10 @@ import json
 import subprocess
 import tempfile
 from collections.abc import Generator, Iterator
-from dataclasses import dataclass
+from dataclasses import dataclass, field
 from typing import IO, Any, Optional
 
-from wire_up_tools.checker import Answer, Checker
+from wire_up_tools.checker import Answer, Checker, names_command, names_option
 from wire_up_tools.failures import Refused
 from wire_up_tools.plan import Call
 
@@ -19,10 +19,12 @@ BLOCK = 1 << 20
 
 @dataclass(frozen=True)
 class Asker:
-    """The checker, and the bytes of the plan that it is asked about."""
+    """The checker, and the bytes of the plan that it is asked about. `helps` keeps what commands
+    say of themselves: each is asked once."""
 
     checker: Checker
     data: bytes
+    helps: dict[str, str] = field(default_factory=dict, repr=False, compare=False)
 
     def version(self) -> str:
         """The version of the checker. Raises Refused if it can't be run."""
@@ -33,17 +35,21 @@ class Asker:
 
     def has_command(self, command: str) -> bool:
         """Whether the checker has a command. Raises Refused if it can't be run."""
-        try:
-            return self.checker.has_command(command)
-        except OSError as why:
-            raise Refused(f"{self.checker.path}: {why.strerror}") from None
+        return names_command(self._help(), command)
 
     def takes(self, command: str, option: str) -> bool:
         """Whether a command of the checker takes an option. Raises Refused if it can't be run."""
-        try:
-            return self.checker.takes(command, option)
-        except OSError as why:
-            raise Refused(f"{self.checker.path}: {why.strerror}") from None
+        return names_option(self._help(command), option)
+
+    def _help(self, *command: str) -> str:
+        """What the checker says of itself, or of a command."""
+        key = " ".join(command)
+        if key not in self.helps:
+            try:
+                self.helps[key] = self.checker.help(*command)
+            except OSError as why:
+                raise Refused(f"{self.checker.path}: {why.strerror}") from None
+        return self.helps[key]
 
     def ask(self, command: str, *words: str) -> Answer:
         """Asks a command. Raises Refused if the checker can't be run."""

@@ -3,7 +3,7 @@ from wire_up_tools.report.causes import Cause
 from wire_up_tools.report.contents import Report
 from wire_up_tools.report.findings import MOST_GROUPS, Kind
 from wire_up_tools.report.library_page import say_otherwise
-from wire_up_tools.report.partial import hides_race
+from wire_up_tools.report.partial import hides_race, say_own_code
 from wire_up_tools.report.patterns import say_counterexample
 from wire_up_tools.report.phrases import count_of
 from wire_up_tools.report.placements import Placed
@@ -86,9 +86,11 @@ def say_pattern(report: Report) -> list[str]:
 
 
 def say_besides(report: Report) -> list[str]:
-    """What is said below the verdict: of the pattern, of other placements, and of a library."""
+    """What is said below the verdict: of the pattern, of other placements, of a library, and of the
+    program's own code."""
     of_library = [say_otherwise(report.judged)] if report.judged else []
-    return [*say_pattern(report), *say_placements(report), *of_library]
+    own = say_own_code(report.plan)
+    return [*say_pattern(report), *say_placements(report), *of_library, *([own] if own else [])]
 
 
 def say_reasons(report: Report) -> str:
