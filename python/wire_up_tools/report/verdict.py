@@ -8,6 +8,7 @@ from wire_up_tools.report.patterns import say_counterexample
 from wire_up_tools.report.phrases import count_of
 from wire_up_tools.report.placements import Placed
 from wire_up_tools.report.runs import SECONDS, Outcome
+from wire_up_tools.report.tried import say_in_vain
 
 # What it means that there are no two runs.
 WITHOUT_RUNS = {
@@ -90,7 +91,8 @@ def say_besides(report: Report) -> list[str]:
     program's own code."""
     of_library = [say_otherwise(report.judged)] if report.judged else []
     own = say_own_code(report.plan)
-    return [*say_pattern(report), *say_placements(report), *of_library, *([own] if own else [])]
+    said = [*say_pattern(report), *say_placements(report), *of_library, *([own] if own else [])]
+    return [*said, *say_in_vain(report.plan)]
 
 
 def say_reasons(report: Report) -> str:
