@@ -44,7 +44,6 @@ SAID = "for every number of ranks: a counterexample with 2 ranks"
 # A checker that judges patterns: what it says of one stands in a file.
 CHECKER = """#!/bin/sh
 case "$*" in
-"check --help") "{program}" check --help; echo "  --pattern" ;;
 "check --pattern"*) cat > /dev/null; cat "{room}/said"; exit {status} ;;
 *) exec "{program}" "$@" ;;
 esac
@@ -178,7 +177,7 @@ class CounterexampleTest(PatternCase):
         checker = self.write_checker(FOUND, 1)
         text, page = self.report(checker, self.write("early.pattern", EARLY), 1)
         self.assertRegex(text, f"^early.pattern: 1 race; {SAID}(; | The replies)")
-        self.assertIn("app:1 1 get-now, counterexample.plan:9 ", text)
+        self.assertIn("app:1 1 get-now, counterexample.plan:9, early.pattern:7 ", text)
         self.assertIn("wire_up check --pattern early.pattern > counterexample.plan", text)
         self.assertIn("<h2>The counterexample</h2>", page)
         self.assertIn(f"1 race; {SAID}", page)
@@ -191,7 +190,7 @@ class CounterexampleTest(PatternCase):
         (result,) = made["runs"][0]["results"]
         where = result["locations"][0]["physicalLocation"]
         self.assertTrue(where["artifactLocation"]["uri"].endswith("/early.pattern"))
-        self.assertEqual(where["region"]["startLine"], 1)
+        self.assertEqual(where["region"]["startLine"], 5)
         said = result["relatedLocations"][0]["message"]["text"]
         self.assertEqual(said, "app:0 2 commit in counterexample.plan")
 
@@ -220,11 +219,15 @@ class RefusalsTest(PatternCase):
         self.assertRegex(ran.stderr, f"^{line}\n$")
 
     def test_an_older_checker(self) -> None:
-        older = self.write_checker("", 0)
-        text = report_support.read(older)
-        helped = text.replace('; echo "  --pattern"', " | sed s/--pattern//g")
-        self.write("checker", re.sub(r"(?m)^\"check --pattern.*\n", "", helped))
+        older = self.write_checker("", 5)
         self.refuse(older, r"wire_up-report: \S+: judges no patterns, and \S+it.pattern is one")
+
+    def test_an_older_checker_that_judges_patterns(self) -> None:
+        checker = self.write_checker(f"{CLEAN}\n", 0)
+        older = 'case "$*" in *--answers*) exit 5 ;; esac\ncase'
+        self.write("checker", report_support.read(checker).replace("case", older, 1))
+        ran = report_support.run_report("--text", self.write("it.pattern", EARLY), checker=checker)
+        self.assertEqual((ran.returncode, ran.stderr), (0, ""))
 
     def test_a_pattern_with_a_fault(self) -> None:
         checker = self.write_checker("", 2)

@@ -45,17 +45,10 @@ class Checker:
         words = self._run("--version").stdout.split()
         return words[-1] if words else "unknown"
 
-    def has_command(self, command: str) -> bool:
-        """Whether it has a command, by what it says of itself. Raises OSError."""
-        return names_command(self.help(), command)
-
     def takes(self, command: str, option: str) -> bool:
         """Whether a command takes an option, by what it says of itself. Raises OSError."""
-        return names_option(self.help(command), option)
-
-    def help(self, *command: str) -> str:
-        """What it says of itself, or of a command. Raises OSError."""
-        return self._run(*command, "--help").stdout
+        said = self._run(command, "--help").stdout
+        return re.search(rf"(?<![\w-]){re.escape(option)}(?![\w-])", said) is not None
 
     def takes_large(self) -> bool:
         """Whether it can take plans past the limits of their version; not if it can't be run."""
@@ -63,16 +56,6 @@ class Checker:
             return self.takes("check", "--large")
         except OSError:
             return False
-
-
-def names_command(said: str, command: str) -> bool:
-    """Whether what a program says of itself names a command."""
-    return re.search(rf"(?m)^ +{re.escape(command)}\b", said) is not None
-
-
-def names_option(said: str, option: str) -> bool:
-    """Whether what a command says of itself names an option."""
-    return re.search(rf"(?<![\w-]){re.escape(option)}(?![\w-])", said) is not None
 
 
 def find_checker(folder: str) -> Optional[str]:

@@ -7,6 +7,7 @@ import re
 HARMLESS = re.compile(
     r"gets of a wildcard rank|(gets|puts) of reserved keys|.*, since they can't change a finding"
     r"|calls of (MPI_\w+|PMIx_(Store_internal|Job_control|Query_info|Log)(_nb)?)"
+    r"|calls of PMIx_(Spawn|Connect|Disconnect)(_nb)?"
     r"|directives pmix\.(timeout|persist|range)"
     r"|(collectives|messages|receives) .*"
 )

@@ -4,27 +4,31 @@ import json
 import subprocess
 import tempfile
 from collections.abc import Generator, Iterator
-from dataclasses import dataclass, field
+from dataclasses import dataclass
 from typing import IO, Any, Optional
 
-from wire_up_tools.checker import Answer, Checker, names_command, names_option
+from wire_up_tools.checker import Answer, Checker
 from wire_up_tools.failures import Refused
 from wire_up_tools.plan import Call
 
 # The exit statuses of an answer: nothing is found, or something is.
 CLEAN, FOUND = 0, 1
+# The exit status of a checker that has no such command or option.
+NOT_READ = 5
 # How many bytes of an answer are read at once.
 BLOCK = 1 << 20
 
 
+class NotTaken(Refused):
+    """What an older checker says of a command or an option that it doesn't have."""
+
+
 @dataclass(frozen=True)
 class Asker:
-    """The checker, and the bytes of the plan that it is asked about. `helps` keeps what commands
-    say of themselves: each is asked once."""
+    """The checker, and the bytes of the plan that it is asked about."""
 
     checker: Checker
     data: bytes
-    helps: dict[str, str] = field(default_factory=dict, repr=False, compare=False)
 
     def version(self) -> str:
         """The version of the checker. Raises Refused if it can't be run."""
@@ -32,24 +36,6 @@ class Asker:
             return self.checker.version()
         except OSError as why:
             raise Refused(f"{self.checker.path}: {why.strerror}") from None
-
-    def has_command(self, command: str) -> bool:
-        """Whether the checker has a command. Raises Refused if it can't be run."""
-        return names_command(self._help(), command)
-
-    def takes(self, command: str, option: str) -> bool:
-        """Whether a command of the checker takes an option. Raises Refused if it can't be run."""
-        return names_option(self._help(command), option)
-
-    def _help(self, *command: str) -> str:
-        """What the checker says of itself, or of a command."""
-        key = " ".join(command)
-        if key not in self.helps:
-            try:
-                self.helps[key] = self.checker.help(*command)
-            except OSError as why:
-                raise Refused(f"{self.checker.path}: {why.strerror}") from None
-        return self.helps[key]
 
     def ask(self, command: str, *words: str) -> Answer:
         """Asks a command. Raises Refused if the checker can't be run."""
@@ -59,10 +45,12 @@ class Asker:
             raise Refused(f"{self.checker.path}: {why.strerror}") from None
 
     def judge(self, status: int, stderr: str) -> None:
-        """Raises Refused for a status that isn't that of an answer, with what was said last."""
+        """Raises Refused for a status that isn't that of an answer, with what was said last;
+        NotTaken if the checker is an older one, which can't read the command line."""
         if status not in (CLEAN, FOUND):
             last = stderr.strip().split("\n")[-1]
-            raise Refused(last or f"{self.checker.path} ended with status {status}")
+            kind = NotTaken if status == NOT_READ else Refused
+            raise kind(last or f"{self.checker.path} ended with status {status}")
 
     def refuse(self, wanted: str) -> Refused:
         """What to raise for an answer that isn't what was wanted."""

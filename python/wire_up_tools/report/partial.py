@@ -6,6 +6,7 @@ from wire_up_tools import words
 from wire_up_tools.left_out import can_hide
 from wire_up_tools.plan import Plan
 from wire_up_tools.report.phrases import count_of, list_names
+from wire_up_tools.report.tried import say_turned
 
 POLLED = re.compile(rf"(\d+) {words.LEFT_TO_LUCK} .*: (?:({words.TAKEN})|.*)\.")
 # How a recording that was cut off shows among the lists of the head.
@@ -19,8 +20,8 @@ def find_reasons(plan: Plan) -> list[str]:
     cut_off, left_out = say_cut_off(plan), say_left_out(plan)
     ordered = plan.list_in_head(words.MORE_ORDERED)
     received = say_received(plan)
-    reasons = [say_answered(plan), say_parted(plan), cut_off, say_polled(plan), *ordered]
-    reasons += [received, left_out, say_timed(plan)]
+    reasons = [say_answered(plan), say_parted(plan), *say_turned(plan), cut_off]
+    reasons += [say_polled(plan), *ordered, received, left_out, say_timed(plan)]
     return [it for it in reasons if it]
 
 

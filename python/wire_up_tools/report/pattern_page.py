@@ -10,13 +10,11 @@ from wire_up_tools.report.pattern_answers import (
     explain_settled,
     say_settled,
 )
+from wire_up_tools.report.pattern_text import write_pattern
 from wire_up_tools.report.patterns import CleanPattern
 from wire_up_tools.report.phrases import count_of, cut
-from wire_up_tools.report.plan_page import LINE_WIDTH, write_plan_line
+from wire_up_tools.report.plan_page import LINE_WIDTH
 from wire_up_tools.report.terminal_text import write_lines
-
-# How many lines of a pattern are shown.
-SHOWN = 400
 
 
 def say_title(found: CleanPattern) -> str:
@@ -40,7 +38,7 @@ def write_pattern_page(found: CleanPattern) -> str:
         f'<span class="badge">{badge}</span></div><p>{escape(explain_settled(found.said))}</p>'
         f'<p class="meta">{escape(meta)}</p></header>',
         *write_ends(found),
-        write_pattern(found),
+        write_pattern(found.pattern, find_named(found), "line"),
     ]
     return HEAD.format(title=title, style=STYLE) + "\n".join(parts) + FOOT
 
@@ -70,19 +68,10 @@ def write_call(found: CleanPattern, call: CallLine) -> str:
     return f'{name}, <a href="#line-{line}">{where}</a>' if line else f"{name}, {where}"
 
 
-def write_pattern(found: CleanPattern) -> str:
-    """The lines of the pattern."""
-    lines = found.pattern.lines
-    named = {found.find_line(it) for it in found.said.named}
-    shown = [
-        write_plan_line(number, line, number in named)
-        for number, line in enumerate(lines[:SHOWN], 1)
-    ]
-    rest = len(lines) - len(shown)
-    more = f'<div class="cut"><b>…</b>{count_of(rest, "line")}</div>' if rest else ""
-    body = "\n".join(shown) + more
-    head = '<section class="long"><h2>The pattern</h2><div class="plan mono">'
-    return f"{head}{body}</div></section>"
+def find_named(found: CleanPattern) -> set[int]:
+    """The lines of the calls that wait for ever or fail."""
+    lines = (found.find_line(it) for it in found.said.named)
+    return {it for it in lines if it}
 
 
 def write_pattern_text(found: CleanPattern) -> str:

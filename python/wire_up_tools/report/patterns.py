@@ -13,8 +13,9 @@ from typing import Optional, Union
 from wire_up_tools.failures import Refused
 from wire_up_tools.plan import Plan
 from wire_up_tools.plan_reading import split_lines
-from wire_up_tools.report.asking import CLEAN, FOUND, Asker
+from wire_up_tools.report.asking import CLEAN, FOUND, NOT_READ, Asker
 from wire_up_tools.report.pattern_answers import CallLine, Settled, read_settled
+from wire_up_tools.report.pattern_lines import Lines, find_lines
 from wire_up_tools.report.phrases import count_of
 
 OPTION = "--pattern"
@@ -26,8 +27,9 @@ FIRST_COMMENT = "# counterexample, "
 COUNTEREXAMPLE = re.compile(r"counterexample, [1-9]\d* ranks?")
 # How the comments at the end of a counterexample say what is found in it.
 FINDINGS = ("# race ", "# rewrite ")
-# What begins a role, and the lines of a script that are no calls.
-ROLES, NO_CALLS = ("one", "many"), ("for", "end")
+# What begins a role, and the lines behind that which are no calls.
+MANY = "many"
+ROLES, NO_CALLS = ("one", MANY), ("for", "end", "job")
 # What a counterexample is called that stands in no file yet.
 PLAN_NAME = "counterexample.plan"
 
@@ -75,11 +77,12 @@ def is_pattern(data: bytes) -> bool:
 
 def judge_pattern(path: str, asker: Asker) -> Union[CleanPattern, Counterexample]:
     """What the checker says of a pattern. Raises Refused if it refuses it, or judges none."""
-    if not asker.takes("check", OPTION):
-        raise Refused(f"{asker.checker.path}: judges no patterns, and {path} is one")
     small = dataclasses.replace(asker, checker=dataclasses.replace(asker.checker, is_large=False))
-    more = [it for it in MORE if small.takes("check", it)]
-    answer = small.ask("check", OPTION, *more)
+    answer = small.ask("check", OPTION, *MORE)
+    if answer.status == NOT_READ:
+        answer = small.ask("check", OPTION)
+    if answer.status == NOT_READ:
+        raise Refused(f"{asker.checker.path}: judges no patterns, and {path} is one")
     asker.judge(answer.status, answer.stderr)
     pattern = Pattern(path, split_lines(asker.data))
     if answer.status == FOUND and answer.stdout.startswith(FIRST_COMMENT):
@@ -102,6 +105,17 @@ def list_calls(pattern: Pattern) -> Iterator[tuple[str, int, int]]:
         elif role and said[0] not in NO_CALLS:
             count += 1
             yield role, count, number
+
+
+def find_groups(pattern: Pattern) -> list[str]:
+    """The names of the groups of a pattern that may be empty: no line says a least number."""
+    said = (line.split() for line in pattern.lines)
+    return [it[1] for it in said if len(it) == 2 and it[0] == MANY]
+
+
+def locate_calls(pattern: Pattern, plan: Plan) -> Lines:
+    """From which line of a pattern each call of its counterexample comes."""
+    return find_lines("\n".join(pattern.lines), [it for _, _, it in list_calls(pattern)], plan)
 
 
 def is_counterexample(plan: Plan) -> bool:

@@ -18,6 +18,7 @@ from wire_up_tools.report.partial import is_of_each_run
 from wire_up_tools.report.patterns import PLAN_NAME
 from wire_up_tools.report.phrases import count_of
 from wire_up_tools.report.places import choose_place, list_frames, say_place
+from wire_up_tools.report.tried import find_tried
 from wire_up_tools.report.verdict import say_found
 
 SCHEMA = "https://json.schemastore.org/sarif-2.1.0.json"
@@ -127,14 +128,17 @@ def make_result(report: Report, cause: Cause, source: Source) -> dict[str, Any]:
         make_location(source, locate(report, it, source), say_call(report.plan, it))
         for it in one.calls
     ]
+    tried = find_tried(report.plan, one)
+    properties = {"tried": tried.word, "outcome": tried.said} if tried else None
     return {
         "ruleId": rule,
         "ruleIndex": list(RULES).index(rule),
-        "level": "warning",
+        "level": "error" if tried and tried.ends_otherwise else "warning",
         "message": make_message(f"{title} {meaning} Fix: {fix}"),
         "locations": in_program,
         "relatedLocations": in_plan,
         "partialFingerprints": {"group/v1": one.mistake},
+        **({"properties": properties} if properties else {}),
     }
 
 
@@ -170,12 +174,12 @@ def locate(report: Report, call: Call, source: Source) -> Location:
 
 def locate_in_plan(report: Report, call: Call, source: Source) -> Location:
     """Where a call stands in the plan, which may be below the folder of the source. One of a
-    counterexample stands in no file: then it is the pattern."""
+    counterexample stands in no file: then it is its line in the pattern."""
     path = os.path.realpath(report.path)
     if source.folder:
         relative = os.path.relpath(path, os.path.realpath(source.folder))
         path = path if relative.split(os.sep)[0] == os.pardir else relative
-    return Location(path, 1 if report.pattern else call.line)
+    return Location(path, report.pattern_lines.get(call, 1) if report.pattern else call.line)
 
 
 def make_location(source: Source, where: Location, said: str) -> dict[str, Any]:
