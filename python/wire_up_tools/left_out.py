@@ -1,5 +1,5 @@
-"""Which of what a recorded plan leaves out can hide a race: one rule for what the recorder says, for
-the head of the plan, and for pages."""
+"""Which of what a recorded plan leaves out can hide a race: one rule for what the recorder says,
+for the head of the plan, and for pages."""
 import re
 
 # What can hide no race: it changes nothing that others see, or what it does is judged otherwise; or
@@ -7,7 +7,6 @@ import re
 HARMLESS = re.compile(
     r"gets of a wildcard rank|(gets|puts) of reserved keys|.*, since they can't change a finding"
     r"|calls of (MPI_\w+|PMIx_(Store_internal|Job_control|Query_info|Log)(_nb)?)"
-    r"|calls of PMIx_(Spawn|Connect|Disconnect)(_nb)?"
     r"|directives pmix\.(timeout|persist|range)"
     r"|(collectives|messages|receives) .*"
 )

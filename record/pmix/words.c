@@ -77,6 +77,11 @@ static void add_real(struct text *to, size_t size, double number)
                      count % 1000000);
 }
 
+static void add_time(struct text *to, const struct timeval *time)
+{
+    add_real(to, sizeof *time, (double)time->tv_sec + (double)time->tv_usec / 1e6);
+}
+
 /* Adds a value of a type that isn't text or bytes. */
 static void add_plain(struct text *to, const pmix_value_t *value)
 {
@@ -102,9 +107,7 @@ static void add_plain(struct text *to, const pmix_value_t *value)
     case PMIX_TIME: add_signed(to, sizeof value->data.time, value->data.time); break;
     case PMIX_FLOAT: add_real(to, sizeof value->data.fval, value->data.fval); break;
     case PMIX_DOUBLE: add_real(to, sizeof value->data.dval, value->data.dval); break;
-    case PMIX_TIMEVAL:
-        add_real(to, sizeof value->data.tv, value->data.tv.tv_sec + value->data.tv.tv_usec / 1e6);
-        break;
+    case PMIX_TIMEVAL: add_time(to, &value->data.tv); break;
     case PMIX_UNDEF: wire_up_text_add(to, "none"); break;
     default: wire_up_text_add(to, "type:%u", (unsigned)value->type);
     }

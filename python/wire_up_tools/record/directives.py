@@ -27,9 +27,9 @@ LONG = 60
 # or until its process ends, its application, or the session, which all that is recorded is in. The
 # standard's default is the application.
 UNTIL_UNPUBLISHED, FIRST_READ, OF_PROCESS, OF_APPLICATION, OF_SESSION = range(5)
-# Whom a name is for, as the numbers of pmix_common.h: the resource manager, the node, the namespace,
-# the session (the standard's default), all, those of a list, or the process alone. In a plan it is
-# for all.
+# Whom a name is for, as the numbers of pmix_common.h: the resource manager, the node, the
+# namespace, the session (the standard's default), all, those of a list, or the process alone. In a
+# plan it is for all.
 RANGES, OF_NAMESPACE, USUAL_RANGES = range(1, 8), 3, (4, 5)
 # Directives of a get that doesn't wait.
 AT_ONCE = (b"pmix.immediate", b"pmix.optional")

@@ -24,7 +24,6 @@ from wire_up_tools.record.luck import count_shared_windows, is_of_luck
 from wire_up_tools.record.messages import Messages
 from wire_up_tools.record.processes import Processes
 from wire_up_tools.record.recordings import NO_USE, Recording
-from wire_up_tools.words import show
 
 # Calls whose end the plan takes to be waited for: gets that can stand anywhere, and others.
 WAITED_FOR = (
