@@ -47,6 +47,7 @@ ONCE_OTHERWISE = (
     "hold of this library's run\n"
 )
 FOUND_BY_TEST = "MPI_Test that found a request complete"
+FREED = "not in the plan: 1 calls of MPI_Request_free of a receive\n"
 HANDLER = "1 processes that called in a handler of a signal: another run may call elsewhere\n"
 CALLBACK = (
     "1 processes that called PMIx in a function that MPI calls: another run may call elsewhere\n"
@@ -132,7 +133,7 @@ CASES = {
     "matched": Program(2, 0, 1, tested=EACH_RUN),
     "later": Program(2, 0, 1, tested=EACH_RUN),
     "split": Program(2, 0, 1, tested=EACH_RUN),
-    "window": Program(2, 0, 2),
+    "window": Program(2, 0, 2, called="MPI_Win_allocate_shared", calls=2),
     "duplicate": Program(2, 0, 1),
     "epoch": Program(2, 0, 1, ends=1),
     "tags": Program(2, 0, 0),
@@ -198,10 +199,10 @@ LUCK = {
     ),
     "elsewhere": Program(3, 0, 1, poll="MPI_Test", ends=1),
     "either": Program(2, 0, 1, poll="MPI_Test", ends=2),
-    "nothing": Program(2, 0, 1, poll="MPI_Iprobe"),
+    "nothing": Program(2, 0, 1, poll="MPI_Iprobe", ends=1),
     "helped": Program(2, 0, 1, poll="MPI_Iprobe", ends=1),
     "alike": Program(3, 0, 1, poll="MPI_Iprobe", ends=1),
-    "turn": Program(2, 0, 1, poll="MPI_Iprobe"),
+    "turn": Program(2, 0, 1, poll="MPI_Iprobe", ends=1),
     "sent": Program(2, 0, 1, called=FOUND_BY_TEST),
     "patient": Program(2, 0, 1, called=FOUND_BY_TEST),
     "beside": Program(2, 0, 1, called="MPI_Waitany of sends"),
@@ -218,7 +219,7 @@ HANDLES = {
     "ended": Program(2, 0, 1),
     "freed": Program(2, 0, 1),
     "kept": Program(2, 0, 1),
-    "restarted": Program(2, 1, 1),
+    "restarted": Program(2, 1, 1, IN_PART, f"{IN_PART}{FREED}"),
     "refused": Program(2, 0, 1),
 }
 # Those of `hidden`.
