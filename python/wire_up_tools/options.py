@@ -15,6 +15,7 @@ KINDS = {
     "WORDS": "command line",
     "COUNT": "number",
     "SECONDS": "number of seconds",
+    "RACE": "race",
 }
 # What begins as an option and is none: a word, and what ends the options.
 STANDARD_STREAM, END = "-", "--"

@@ -39,6 +39,17 @@ OWN_CODE = (
 LEFT_TO_LUCK = "ends of requests that another run may have found open"
 TAKEN = "their order is taken all the same, and --strict takes nothing from them"
 VERDICTS = "Verdicts: "
+# How the lines of the head begin that say what came of a race which was tried in the program, by
+# the word for that; which command tried it; and what came of orders that were turned round.
+TRIED_IN_HEAD = {
+    "shown": "Shown in this program",
+    "shown-later": "Shown later in this program",
+    "alike": "Alike in both orders",
+    "not-made": "Not made in this program",
+}
+TRIED_BY = "Tried by: "
+TURNED_ROUND, TURNED_IN_VAIN = "Turned round on", "Turned round in vain on"
+TRIED_STOPPED = "Trying was stopped on"
 # How the line of the head begins that says that no order of MPI is known.
 WITHOUT_MPI = "MPI's order isn't recorded"
 

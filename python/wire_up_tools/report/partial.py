@@ -5,6 +5,7 @@ from typing import Optional
 from wire_up_tools import words
 from wire_up_tools.plan import Plan
 from wire_up_tools.report.phrases import count_of, list_names
+from wire_up_tools.report.tried import say_turned
 
 # What is left out and can hide no race: it changes nothing that others see; or it is a part of
 # MPI's order, and without it the plan is less ordered than the program.
@@ -26,7 +27,8 @@ def find_reasons(plan: Plan) -> list[str]:
     cut_off, left_out = say_cut_off(plan), say_left_out(plan)
     ordered = plan.list_in_head(words.MORE_ORDERED)
     received = say_received(plan)
-    reasons = [say_parted(plan), cut_off, say_polled(plan), *ordered, received, left_out]
+    reasons = [say_parted(plan), *say_turned(plan), cut_off, say_polled(plan), *ordered]
+    reasons += [received, left_out]
     return [it for it in reasons if it]
 
 

@@ -17,6 +17,7 @@ from wire_up_tools.report.language import name_kind
 from wire_up_tools.report.patterns import PLAN_NAME
 from wire_up_tools.report.phrases import count_of
 from wire_up_tools.report.places import choose_place, list_frames, say_place
+from wire_up_tools.report.tried import find_tried
 
 SCHEMA = "https://json.schemastore.org/sarif-2.1.0.json"
 NOT_WAITING = "A get that doesn't wait"
@@ -108,14 +109,17 @@ def make_result(report: Report, cause: Cause, source: Source) -> dict[str, Any]:
         make_location(source, locate(report, it, source), say_call(report.plan, it))
         for it in one.calls
     ]
+    tried = find_tried(report.plan, one)
+    properties = {"tried": tried.word, "outcome": tried.said} if tried else None
     return {
         "ruleId": rule,
         "ruleIndex": list(RULES).index(rule),
-        "level": "warning",
+        "level": "error" if tried and tried.ends_otherwise else "warning",
         "message": make_message(f"{title} {meaning} Fix: {fix}"),
         "locations": in_program,
         "relatedLocations": in_plan,
         "partialFingerprints": {"group/v1": one.mistake},
+        **({"properties": properties} if properties else {}),
     }
 
 

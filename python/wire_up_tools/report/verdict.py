@@ -8,6 +8,7 @@ from wire_up_tools.report.patterns import find_groups, say_counterexample
 from wire_up_tools.report.phrases import count_of
 from wire_up_tools.report.placements import Placed
 from wire_up_tools.report.runs import SECONDS, Outcome
+from wire_up_tools.report.tried import say_in_vain
 
 # What helps where a counterexample is smaller than a job can be.
 SMALL = "If a group can't be that small in your job, say its least number, as in `many {} min N`."
@@ -94,7 +95,8 @@ def say_besides(report: Report) -> list[str]:
     program's own code."""
     of_library = [say_otherwise(report.judged)] if report.judged else []
     own = say_own_code(report.plan)
-    return [*say_pattern(report), *say_placements(report), *of_library, *([own] if own else [])]
+    said = [*say_pattern(report), *say_placements(report), *of_library, *([own] if own else [])]
+    return [*said, *say_in_vain(report.plan)]
 
 
 def say_reasons(report: Report) -> str:
