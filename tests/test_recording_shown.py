@@ -26,6 +26,7 @@ from wire_up_tools.record.showing.naming import Naming, Target, name_call, numbe
 from wire_up_tools.record.showing.server import Patience, Server, open_hall_for
 from wire_up_tools.record.showing.traces import Traces, read_traces
 from wire_up_tools.record.writing import write_plan
+from wire_up_tools.words import EACH_RUN_SENTENCE
 
 PUBLISH = Target("app:0", 1, 0, 0, "publish port", 1, "publish")
 LOOKUP = Target("app:1", 1, 0, 1, "lookup port", 1, "lookup")
@@ -357,6 +358,16 @@ class CommandTest(unittest.TestCase):
             "# Recorded by wire_up-record\n# Tried by: a?b\nrehearsal 1\n# at a\n",
             insert_in_head(text, ["# Tried by: a\tb"]),
         )
+
+    def test_head_where_an_order_is_not_imposed(self) -> None:
+        each = f"# {EACH_RUN_SENTENCE}\n"
+        for line, left in (
+            ("# Turned round on 2026-11-30: app:0 1 publish, ..", ""),
+            ("# Turned round on 2026-11-30, turned-alike: app:0 1 publish, ..", each),
+            ("# Turned round in vain on 2026-11-30: 1 of 2 pairs", each),
+        ):
+            made = insert_in_head(f"# Recorded\n{each}rehearsal 1\n", [line])
+            self.assertEqual(f"# Recorded\n{left}{line}\nrehearsal 1\n", made)
 
 
 if __name__ == "__main__":
