@@ -27,6 +27,12 @@ LEFT_OUT = "Left out:"
 MORE_ORDERED = "More ordered than the program, so that a race can be missed:"
 OTHERWISE_AFTER = "Another run may do otherwise after these, so that a race can be missed:"
 WRITTEN_OTHERWISE = "Written otherwise:"
+# What the head says where the program is known to go by nothing but its calls, and the titles of
+# what the library answered otherwise than the rules, and of what it is known to answer by timing.
+EACH_RUN = "each run of this program on these nodes makes these calls, if it goes by them alone"
+EACH_RUN_SENTENCE = f"{EACH_RUN[0].upper()}{EACH_RUN[1:]}."
+ANSWERED = "Answered otherwise than by the rules, so that the verdict doesn't hold of this run:"
+TIMED = "Known to be answered by which rank is fast, so that the verdict says less:"
 # The title in place of `OTHERWISE_AFTER`, and a line with it, where the program's own code refers
 # to nothing that leads to a call of PMIx.
 OTHERWISE_ALONE = "Another run may do otherwise after these, but its own code calls no PMIx:"

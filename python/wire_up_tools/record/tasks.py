@@ -21,8 +21,14 @@ from wire_up_tools.record.partings import Run
 from wire_up_tools.record.patterns.finding import Broken
 from wire_up_tools.record.patterns.scripts import ANY_VALUE, Script
 from wire_up_tools.record.patterns.writing import make_pattern, say_broken
-from wire_up_tools.record.places import find_call_place, find_places, read_places, write_places
-from wire_up_tools.record.planning import Choices, Plan, make_plan, make_whole_plan
+from wire_up_tools.record.places import (
+    Places,
+    find_call_place,
+    find_places,
+    read_places,
+    write_places,
+)
+from wire_up_tools.record.planning import Choices, Plan, Tested, make_plan, make_whole_plan
 from wire_up_tools.record.recordings import Recording, has_recordings, read_recordings
 from wire_up_tools.record.running import BY_SIGNAL, find_libraries, make_environment, run
 from wire_up_tools.record.showing.asking import Asked
@@ -32,11 +38,12 @@ from wire_up_tools.record.showing.traces import read_traces
 from wire_up_tools.record.verdicts import (
     compare_verdicts,
     finds_nothing,
-    judge_library,
     judge_placements,
     judge_runs,
+    test_plan,
 )
 from wire_up_tools.record.writing import is_by_mpi_alone, write_answers, write_plan
+from wire_up_tools.words import EACH_RUN
 
 
 @dataclass(frozen=True)
@@ -139,20 +146,15 @@ def write_pattern(plan: Plan, path: str) -> None:
         say(f"{path}: values that differ between ranks are left out: `{ANY_VALUE}` stands for them")
 
 
-def write_output(plan: Plan, recordings: Sequence[Recording], output: Output) -> str:
+def write_output(plan: Plan, places: Places, output: Output) -> str:
     """Writes a plan, and what is asked for besides. Answers the text of the plan. Raises Refused,
     OSError."""
-    folders = dict.fromkeys(os.path.dirname(it.path) for it in recordings)
-    places = find_places(plan.draft, read_places(folders))
-    if output.kept:
-        write_places(places, output.kept)
-    text, answers = write_plan(plan, places), write_answers(plan)
+    text = write_plan(plan, places)
     write_whole(output.plan, text)
     if output.answers:
-        write_whole(output.answers, answers)
+        write_whole(output.answers, write_answers(plan))
     if output.pattern:
         write_pattern(plan, output.pattern)
-    say_part(plan)
     return text
 
 
@@ -162,9 +164,20 @@ def say_besides(checker: Checker, plan: Plan, text: str) -> None:
     found = judge_placements(checker, text)
     if found:
         say(f"{found}: wire_up check --anywhere names them")
-    otherwise = judge_library(checker, plan, text)
-    if otherwise:
-        say(otherwise)
+    if plan.tested.of_library:
+        say(plan.tested.of_library)
+
+
+def say_tested(tested: Tested) -> None:
+    """Says whether each run of the program makes the calls of the plan, or what the library
+    answered otherwise than the rules."""
+    if tested.answered:
+        say(
+            f"answered otherwise than by the rules: {tested.answered}: the verdict doesn't hold of "
+            "this library's run"
+        )
+    if tested.is_of_each_run:
+        say(EACH_RUN)
 
 
 def add_verdicts(plan: Plan, make_other: Callable[[Choices], Plan], checker: Checker) -> Plan:
@@ -209,11 +222,16 @@ def make_choices(output: Output, path: Optional[str]) -> Choices:
     return Choices(output.with_mpi, output.is_strict, LARGE if is_large else VERSION_1)
 
 
+def find_run_places(plan: Plan, recordings: Sequence[Recording]) -> Places:
+    """Where the calls of the plan of recordings come from. Raises Refused, OSError."""
+    folders = dict.fromkeys(os.path.dirname(it.path) for it in recordings)
+    return find_places(plan.draft, read_places(folders))
+
+
 def make_run(recordings: Sequence[Recording], choices: Choices) -> Run:
     """One of several runs, by its recordings. Raises Refused, OSError."""
     plan = make_whole_plan(recordings, choices)
-    folders = dict.fromkeys(os.path.dirname(it.path) for it in recordings)
-    return Run(plan, find_places(plan.draft, read_places(folders)))
+    return Run(plan, find_run_places(plan, recordings))
 
 
 def merge(output: Output, runs: Sequence[Sequence[str]], folder: str) -> None:
@@ -230,15 +248,12 @@ def merge(output: Output, runs: Sequence[Sequence[str]], folder: str) -> None:
         plan = judge_otherwise(
             plan, lambda other: merge_plans([make_run(it, other) for it in recordings]), checker
         )
-    text = write_plan(plan, made[0].places)
-    write_whole(output.plan, text)
-    if output.answers:
-        write_whole(output.answers, write_answers(plan))
-    if output.pattern:
-        write_pattern(plan, output.pattern)
+        plan = replace(plan, tested=test_plan(checker, plan, made))
+    text = write_output(plan, made[0].places, output)
     for parting in plan.partings:
         say(f"the runs part: {parting}")
     say_part(plan)
+    say_tested(plan.tested)
     say_verdicts(plan)
     if path is not None:
         own = [write_plan(it.plan, it.places) for it in made]
@@ -256,10 +271,16 @@ def make(output: Output, paths: Sequence[str], folder: str) -> str:
     choices = make_choices(output, path)
     recordings = read_recordings(paths, choices.most)
     plan = make_plan(recordings, choices)
+    places = find_run_places(plan, recordings)
+    if output.kept:
+        write_places(places, output.kept)
     if path is not None:
         checker = Checker(path, choices.most is LARGE)
         plan = judge_otherwise(plan, lambda other: make_plan(recordings, other), checker)
-    text = write_output(plan, recordings, output)
+        plan = replace(plan, tested=test_plan(checker, plan, [Run(plan, places)]))
+    text = write_output(plan, places, output)
+    say_part(plan)
+    say_tested(plan.tested)
     say_verdicts(plan)
     if path is not None:
         say_besides(checker, plan, text)
