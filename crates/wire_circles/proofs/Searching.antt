@@ -12,25 +12,25 @@ use Rattle.wire_circles.proofs.Lists.{contains_at, place_in, index_before, index
 -- no circle leads through one of whom each chain ends
 pub not_around : (Waits : ℕ → ℕ → Type 0) (circle : List ℕ) → IsCircle Waits circle → (p i : ℕ) → Ends Waits p → i < length circle → slice_index circle i ≡ p → ⊥
 not_around Waits circle around p i (ends each) low is = elim (cases_eq (suc i) (length circle)) [
-    | inl last ↦ not_around Waits circle around (slice_index circle 0) 0
-        (each (slice_index circle 0) (subst (λ x. Waits x (slice_index circle 0)) is (subst (λ k. Waits (slice_index circle k) (slice_index circle 0)) (omega (arith, last)) around.closed)))
-        around.some refl
-    | inr more ↦ not_around Waits circle around (slice_index circle (suc i)) (suc i)
-        (each (slice_index circle (suc i)) (subst (λ x. Waits x (slice_index circle (suc i))) is (around.each i (omega (arith, low, more)))))
-        (omega (arith, low, more)) refl
-  ]
+  | inl last ↦ not_around Waits circle around (slice_index circle 0) 0
+      (each (slice_index circle 0) (subst (λ x. Waits x (slice_index circle 0)) is (subst (λ k. Waits (slice_index circle k) (slice_index circle 0)) (omega (arith, last)) around.closed)))
+      around.some refl
+  | inr more ↦ not_around Waits circle around (slice_index circle (suc i)) (suc i)
+      (each (slice_index circle (suc i)) (subst (λ x. Waits x (slice_index circle (suc i))) is (around.each i (omega (arith, low, more)))))
+      (omega (arith, low, more)) refl
+]
 
 pub zero_stays : (old new : ℕ → ℕ) (p q : ℕ) → Lowers old new p → old q ≡ 0 → new q ≡ 0
 zero_stays old new p q lowers is = elim (cases_eq q p) [
-    | inl e ↦ let h : old p ≡ 0 = subst (λ x. old x ≡ 0) e is in omega (arith, h, lowers.here)
-    | inr ne ↦ lowers.others q ne ∙ is
-  ]
+  | inl e ↦ let h : old p ≡ 0 = subst (λ x. old x ≡ 0) e is in omega (arith, h, lowers.here)
+  | inr ne ↦ lowers.others q ne ∙ is
+]
 
 pub most_lowered : (lists : ℕ → List ℕ) (old new : ℕ → ℕ) (path : List ℕ) (p : ℕ) → IsSearch lists old path → Lowers old new p → (q : ℕ) → new q ≤ length (lists q) + 2
 most_lowered lists old new path p search lowers q = elim (cases_eq q p) [
-    | inl e ↦ let h : new p ≤ length (lists p) + 2 = omega (arith, search.most p, lowers.here) in subst (λ x. new x ≤ length (lists x) + 2) (sym e) h
-    | inr ne ↦ omega (arith, search.most q, lowers.others q ne)
-  ]
+  | inl e ↦ let h : new p ≤ length (lists p) + 2 = omega (arith, search.most p, lowers.here) in subst (λ x. new x ≤ length (lists x) + 2) (sym e) h
+  | inr ne ↦ omega (arith, search.most q, lowers.others q ne)
+]
 
 -- one more is looked at: it is done with
 pub passed : (lists : ℕ → List ℕ) (old new : ℕ → ℕ) (path : List ℕ) (p : ℕ) → IsSearch lists old path → Lowers old new p → IsLast path p → 2 ≤ old p →
@@ -89,25 +89,25 @@ finished lists old new path p search lowers one =
         | inl e ↦ let h : 0 < new p = subst (λ x. 0 < new x) e some in absurd (omega (arith, h, one, lowers.here))
         | inr ne ↦
             let at : (k : ℕ) × (k < length (path ++ p ∷ [])) × (slice_index (path ++ p ∷ []) k ≡ q)
-                = place_in (path ++ p ∷ []) q (search.met q (omega (arith, some, lowers.others q ne)) (omega (arith, low, lowers.others q ne))) in
+            = place_in (path ++ p ∷ []) q (search.met q (omega (arith, some, lowers.others q ne)) (omega (arith, low, lowers.others q ne))) in
             elim (cases_lt at.0 (length path)) [
               | inl before ↦ contains_at path at.0 q before (sym (index_before path p at.0 before) ∙ at.2)
               | inr after ↦ absurd (ne (sym at.2 ∙ index_last path p at.0 (omega (arith, after, at.1, longer_by))))
             ]
       ];
       unfinished = λ k within.
-        let same : slice_index (path ++ p ∷ []) k ≡ slice_index path k = index_before path p k within in
-        let ne : slice_index path k ≢ p = λ e. search.chain.once k (length path) within (omega (arith, longer_by)) (same ∙ e ∙ sym (index_last path p (length path) refl)) in
-        let was : (0 < old (slice_index path k)) × (old (slice_index path k) ≤ length (lists (slice_index path k)) + 1)
-            = subst (λ x. (0 < old x) × (old x ≤ length (lists x) + 1)) same (search.unfinished k (omega (arith, within, longer_by))) in
-        subst (λ n. (0 < n) × (n ≤ length (lists (slice_index path k)) + 1)) (sym (lowers.others (slice_index path k) ne)) was;
+          let same : slice_index (path ++ p ∷ []) k ≡ slice_index path k = index_before path p k within in
+          let ne : slice_index path k ≢ p = λ e. search.chain.once k (length path) within (omega (arith, longer_by)) (same ∙ e ∙ sym (index_last path p (length path) refl)) in
+          let was : (0 < old (slice_index path k)) × (old (slice_index path k) ≤ length (lists (slice_index path k)) + 1)
+          = subst (λ x. (0 < old x) × (old x ≤ length (lists x) + 1)) same (search.unfinished k (omega (arith, within, longer_by))) in
+          subst (λ n. (0 < n) × (n ≤ length (lists (slice_index path k)) + 1)) (sym (lowers.others (slice_index path k) ne)) was;
       chain = record {
         next = λ k within.
-          let a : slice_index (path ++ p ∷ []) k ≡ slice_index path k = index_before path p k (omega (arith, within)) in
-          let b : slice_index (path ++ p ∷ []) (suc k) ≡ slice_index path (suc k) = index_before path p (suc k) within in
-          subst (λ y. Contains (lists (slice_index path k)) y) b (subst (λ x. Contains (lists x) (slice_index (path ++ p ∷ []) (suc k))) a (search.chain.next k (omega (arith, within, longer_by))));
+            let a : slice_index (path ++ p ∷ []) k ≡ slice_index path k = index_before path p k (omega (arith, within)) in
+            let b : slice_index (path ++ p ∷ []) (suc k) ≡ slice_index path (suc k) = index_before path p (suc k) within in
+            subst (λ y. Contains (lists (slice_index path k)) y) b (subst (λ x. Contains (lists x) (slice_index (path ++ p ∷ []) (suc k))) a (search.chain.next k (omega (arith, within, longer_by))));
         once = λ i j below within e.
-          search.chain.once i j below (omega (arith, within, longer_by)) (index_before path p i (omega (arith, below, within)) ∙ e ∙ sym (index_before path p j within));
+            search.chain.once i j below (omega (arith, within, longer_by)) (index_before path p i (omega (arith, below, within)) ∙ e ∙ sym (index_before path p j within));
       };
     }
 
@@ -117,7 +117,7 @@ pub entered : (lists : ℕ → List ℕ) (old new : ℕ → ℕ) (path : List �
 entered lists old new path q search lowers whole may =
     let longer_by : length (path ++ q ∷ []) ≡ length path + 1 = longer path q in
     let apart : (k : ℕ) → k < length path → slice_index path k ≢ q = λ k within e.
-          let h : old q ≤ length (lists q) + 1 = subst (λ x. old x ≤ length (lists x) + 1) e ((search.unfinished k within).1) in omega (arith, h, whole) in
+    let h : old q ≤ length (lists q) + 1 = subst (λ x. old x ≤ length (lists x) + 1) e ((search.unfinished k within).1) in omega (arith, h, whole) in
     record {
       most = most_lowered lists old new path q search lowers;
       looked = λ x i low within. elim (cases_eq x q) [
@@ -135,14 +135,14 @@ entered lists old new path q search lowers whole may =
         | inl e ↦ contains_at (path ++ q ∷ []) (length path) x (omega (arith, longer_by)) (index_last path q (length path) refl ∙ sym e)
         | inr ne ↦
             let at : (k : ℕ) × (k < length path) × (slice_index path k ≡ x)
-                = place_in path x (search.met x (omega (arith, some, lowers.others x ne)) (omega (arith, low, lowers.others x ne))) in
+            = place_in path x (search.met x (omega (arith, some, lowers.others x ne)) (omega (arith, low, lowers.others x ne))) in
             contains_at (path ++ q ∷ []) at.0 x (omega (arith, at.1, longer_by)) (index_before path q at.0 at.1 ∙ at.2)
       ];
       unfinished = λ k within. elim (cases_lt k (length path)) [
         | inl before ↦
             let x = slice_index path k in
             let was : (0 < new x) × (new x ≤ length (lists x) + 1)
-                = subst (λ n. (0 < n) × (n ≤ length (lists x) + 1)) (sym (lowers.others x (apart k before))) (search.unfinished k before) in
+            = subst (λ n. (0 < n) × (n ≤ length (lists x) + 1)) (sym (lowers.others x (apart k before))) (search.unfinished k before) in
             subst (λ y. (0 < new y) × (new y ≤ length (lists y) + 1)) (sym (index_before path q k before)) was
         | inr after ↦
             let h : (0 < new q) × (new q ≤ length (lists q) + 1) = (omega (arith, whole, lowers.here), omega (arith, whole, lowers.here)) in
@@ -150,14 +150,14 @@ entered lists old new path q search lowers whole may =
       ];
       chain = record {
         next = λ k within.
-          let a : slice_index (path ++ q ∷ []) k ≡ slice_index path k = index_before path q k (omega (arith, within, longer_by)) in
-          subst (λ x. Contains (lists x) (slice_index (path ++ q ∷ []) (suc k))) (sym a) (elim (cases_lt (suc k) (length path)) [
-            | inl before ↦ subst (Contains (lists (slice_index path k))) (sym (index_before path q (suc k) before)) (search.chain.next k before)
-            | inr after ↦
-                let end : k ≡ length path - 1 = omega (arith, after, within, longer_by) in
-                subst (Contains (lists (slice_index path k))) (sym (index_last path q (suc k) (omega (arith, after, within, longer_by))))
+            let a : slice_index (path ++ q ∷ []) k ≡ slice_index path k = index_before path q k (omega (arith, within, longer_by)) in
+            subst (λ x. Contains (lists x) (slice_index (path ++ q ∷ []) (suc k))) (sym a) (elim (cases_lt (suc k) (length path)) [
+              | inl before ↦ subst (Contains (lists (slice_index path k))) (sym (index_before path q (suc k) before)) (search.chain.next k before)
+              | inr after ↦
+                  let end : k ≡ length path - 1 = omega (arith, after, within, longer_by) in
+                  subst (Contains (lists (slice_index path k))) (sym (index_last path q (suc k) (omega (arith, after, within, longer_by))))
                   (subst (λ i. Contains (lists (slice_index path i)) q) (sym end) (may (omega (arith, after, within, longer_by))))
-          ]);
+            ]);
         once = λ i j below within e. elim (cases_lt j (length path)) [
           | inl before ↦ search.chain.once i j below before (sym (index_before path q i (omega (arith, below, before))) ∙ e ∙ index_before path q j before)
           | inr after ↦ apart i (omega (arith, below, within, longer_by))
@@ -169,9 +169,9 @@ entered lists old new path q search lowers whole may =
 -- where the path is empty, whoever was met is done with
 pub nobody_open : (lists : ℕ → List ℕ) (left : ℕ → ℕ) → IsSearch lists left [] → (p : ℕ) → left p ≤ length (lists p) + 1 → left p ≡ 0
 nobody_open lists left search p low = elim (cases_eq (left p) 0) [
-    | inl none ↦ none
-    | inr some ↦ let at : (k : ℕ) × (k < 0) × (slice_index [] k ≡ p) = place_in [] p (search.met p (omega (arith, some)) low) in absurd (omega (arith, at.1))
-  ]
+  | inl none ↦ none
+  | inr some ↦ let at : (k : ℕ) × (k < 0) × (slice_index [] k ≡ p) = place_in [] p (search.met p (omega (arith, some)) low) in absurd (omega (arith, at.1))
+]
 
 -- the circle from its first on
 pub closes : (lists : ℕ → List ℕ) (path : List ℕ) (place first : ℕ) → IsChain lists path → place < length path → slice_index path place ≡ first →
@@ -182,13 +182,13 @@ closes lists path place first chain within there closed =
     record {
       some = omega (arith, size, within);
       each = λ i low.
-        let next : place + suc i ≡ suc (place + i) = omega arith in
-        subst (λ x. Contains (lists x) (slice_index (drop place path) (suc i))) (sym (at i)) (subst (Contains (lists (slice_index path (place + i))))
+          let next : place + suc i ≡ suc (place + i) = omega arith in
+          subst (λ x. Contains (lists x) (slice_index (drop place path) (suc i))) (sym (at i)) (subst (Contains (lists (slice_index path (place + i))))
           (sym (at (suc i) ∙ ap (slice_index path) next)) (chain.next (place + i) (omega (arith, low, size))));
       closed =
-        let end : place + (length (drop place path) - 1) ≡ length path - 1 = omega (arith, size, within) in
-        let begin : place + 0 ≡ place = omega arith in
-        subst (λ x. Contains (lists x) (slice_index (drop place path) 0)) (sym (at (length (drop place path) - 1) ∙ ap (slice_index path) end))
+          let end : place + (length (drop place path) - 1) ≡ length path - 1 = omega (arith, size, within) in
+          let begin : place + 0 ≡ place = omega arith in
+          subst (λ x. Contains (lists x) (slice_index (drop place path) 0)) (sym (at (length (drop place path) - 1) ∙ ap (slice_index path) end))
           (subst (Contains (lists (slice_index path (length path - 1)))) (sym (at 0 ∙ ap (slice_index path) begin ∙ there)) closed);
       once = λ i j below low e. chain.once (place + i) (place + j) (omega (arith, below)) (omega (arith, low, size)) (sym (at i) ∙ e ∙ at j);
     }

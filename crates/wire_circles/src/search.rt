@@ -80,7 +80,12 @@ fn circle_from(
 }
 
 /// Goes to the next for whom the end of the path waits, of whom so much is left.
-fn enter(left: &mut Vec<usize>, path: &mut Vec<u32>, waits: &[Vec<u32>], next: u32) -> Result<(), AllocError>
+fn enter(
+    left: &mut Vec<usize>,
+    path: &mut Vec<u32>,
+    waits: &[Vec<u32>],
+    next: u32,
+) -> Result<(), AllocError>
     requires search { IsSearch (spec.waited_by waits.now) (slice_index left.old.items) path.old.items }
     requires new { slice_index left.old.items next ≡ length (spec.waited_by waits.now next) + 2 }
     requires on { MayGoOn (spec.waited_by waits.now) path.old.items next }

@@ -56,9 +56,9 @@ contains_more x y xs listed = Contains-append_right (x ∷ []) xs y listed
 pub ranks_back : (s : State) (xs : List Event) (q : ℕ) → Contains (undone_ranks s xs) q → IsListed s xs q
 ranks_back s [] q (k, low, there) = absurd (omega (arith, low))
 ranks_back s (x ∷ xs) q contains = elim (Contains-append_cases (undone_rank s x) (undone_ranks s xs) q contains) [
-    | inl here ↦ let h = undone_back s x q (nat_lt x.at (s.done x.proc)) refl here in record { event = x; listed = (0, omega arith, refl); rank = h.0; to_come = h.1 }
-    | inr there ↦ let h = ranks_back s xs q there in record { event = h.event; listed = contains_more x h.event xs h.listed; rank = h.rank; to_come = h.to_come }
-  ]
+  | inl here ↦ let h = undone_back s x q (nat_lt x.at (s.done x.proc)) refl here in record { event = x; listed = (0, omega arith, refl); rank = h.0; to_come = h.1 }
+  | inr there ↦ let h = ranks_back s xs q there in record { event = h.event; listed = contains_more x h.event xs h.listed; rank = h.rank; to_come = h.to_come }
+]
 
 pub ranks_forth : (s : State) (xs : List Event) (x : Event) (q : ℕ) → Contains xs x → x.proc ≡ q → (IsDone s x → ⊥) → Contains (undone_ranks s xs) q
 ranks_forth s [] x q (k, low, there) rank to_come = absurd (omega (arith, low))
@@ -89,10 +89,12 @@ ranks_are plan s p next single arrivals publishes next_is sources named ranks is
   where
     before : List Event
     before = option_to_list (previous_at p (s.done p))
+
     as_source : (x : Event) → Contains (before ++ (single ++ arrivals)) x → x.proc ≡ q → (IsDone s x → ⊥) → RankWaits plan s p q
     as_source x listed rank to_come =
         let at = placed (before ++ (single ++ arrivals)) x listed in
         record { event = x; rank = rank; awaited = Source (sources.only at.0 x at.1); to_come = to_come }
+
     back : Contains ranks q → RankWaits plan s p q
     back contains = elim (Contains-append_cases (undone_ranks s single ++ undone_ranks s arrivals) (undone_ranks s publishes) q (subst (λ xs. Contains xs q) is contains)) [
       | inl some ↦ elim (Contains-append_cases (undone_ranks s single) (undone_ranks s arrivals) q some) [
@@ -106,6 +108,7 @@ ranks_are plan s p next single arrivals publishes next_is sources named ranks is
           let t = named.only h.event h.listed in
           record { event = h.event; rank = h.rank; awaited = Publishes t.0 (next_is ∙ ap Some t.1) t.2; to_come = h.to_come }
     ]
+
     by_source : (w : RankWaits plan s p q) → Edge plan w.event (next_event s p) → Contains ranks q
     by_source w edge =
         let at = sources.all w.event edge in
@@ -117,11 +120,13 @@ ranks_are plan s p next single arrivals publishes next_is sources named ranks is
                 | inr many ↦ Contains-append_right (undone_ranks s single) (undone_ranks s arrivals) q (ranks_forth s arrivals w.event q many w.rank w.to_come)
               ]))
         ]
+
     by_kind : (w : RankWaits plan s p q) → IsAwaited plan s p w.event → Contains ranks q
     by_kind w (Source edge) = by_source w edge
     by_kind w (Publishes name waits publishes_it) =
         subst (λ xs. Contains xs q) (sym is) (Contains-append_right (undone_ranks s single ++ undone_ranks s arrivals) (undone_ranks s publishes) q
         (ranks_forth s publishes w.event q (named.all w.event name (same_Some next (LookupWait name) (sym next_is ∙ waits)) publishes_it) w.rank w.to_come))
+
     forth : RankWaits plan s p q → Contains ranks q
     forth w = by_kind w w.awaited
 
@@ -137,6 +142,7 @@ none_awaited plan s p none q = (λ contains. absurd (omega (arith, contains.1)),
     never_edge w (Meets members is met) = cc (none, is)
     never_edge w (Feeds key is other once stores) = cc (none, is)
     never_edge w (Announces name is once) = cc (none, is)
+
     never : (w : RankWaits plan s p q) → IsAwaited plan s p w.event → ⊥
     never w (Source edge) = never_edge w edge
     never w (Publishes name is publishes) = cc (none, is)
@@ -146,8 +152,8 @@ pub published : (plan : Plan) (name : ℕ) (next : Kind) (publishes : List Event
 published plan name next publishes is are = record {
   only = λ x listed. let at = placed publishes x listed in (name, is, are.only at.0 x at.1);
   all = λ x other waits publishes_it.
-    let same : other ≡ name = cc (is, waits) in
-    let at = are.all x (publishes_it ∙ ap (λ n. Some (Publish n)) same) in listed_as publishes at.0 x at.1;
+      let same : other ≡ name = cc (is, waits) in
+      let at = are.all x (publishes_it ∙ ap (λ n. Some (Publish n)) same) in listed_as publishes at.0 x at.1;
 }
 
 -- an empty table says for whom those wait who wait for nobody, and a table with one list more
@@ -155,12 +161,12 @@ pub table_more : (plan : Plan) (s : State) (waits new : List (Vec ℕ Global)) (
     ((p : ℕ) → p < n → AreWaitedBy plan s p (waited_by waits p)) → AreWaitedBy plan s n list.items → new ≡ waits ++ list ∷ [] →
     (p : ℕ) → p < n + 1 → AreWaitedBy plan s p (waited_by new p)
 table_more plan s waits new list n size so_far one is p low = subst (λ t. AreWaitedBy plan s p (waited_by t p)) (sym is) (elim (cases_lt p n) [
-    | inl before ↦ subst (AreWaitedBy plan s p) (ap list_in (sym (slice_get-append_left waits (list ∷ []) p (omega (arith, before, size))))) (so_far p before)
-    | inr here ↦
-        let last : p ≡ n = omega (arith, here, low) in
-        subst (λ k. AreWaitedBy plan s k (waited_by (waits ++ list ∷ []) k)) (sym last)
-          (subst (AreWaitedBy plan s n) (ap list_in (sym (ap (slice_get (waits ++ list ∷ [])) (sym size) ∙ slice_get_push_last waits list))) one)
-  ])
+  | inl before ↦ subst (AreWaitedBy plan s p) (ap list_in (sym (slice_get-append_left waits (list ∷ []) p (omega (arith, before, size))))) (so_far p before)
+  | inr here ↦
+      let last : p ≡ n = omega (arith, here, low) in
+      subst (λ k. AreWaitedBy plan s k (waited_by (waits ++ list ∷ []) k)) (sym last)
+      (subst (AreWaitedBy plan s n) (ap list_in (sym (ap (slice_get (waits ++ list ∷ [])) (sym size) ∙ slice_get_push_last waits list))) one)
+])
 
 -- past the ranks of the plan there is no call
 pub no_call : (plan : Plan) (s : State) (p : ℕ) → process_count plan ≤ p → next_kind plan s p ≡ None
@@ -173,6 +179,6 @@ no_call plan s p past = go (next_kind plan s p) refl
 pub table_whole : (plan : Plan) (s : State) (waits : List (Vec ℕ Global)) (n : ℕ) → length waits ≡ n → process_count plan ≤ n →
     ((p : ℕ) → p < n → AreWaitedBy plan s p (waited_by waits p)) → AreWaits plan s waits
 table_whole plan s waits n size most each p = elim (cases_lt p n) [
-    | inl low ↦ each p low
-    | inr past ↦ subst (AreWaitedBy plan s p) (ap list_in (sym (slice_get_past waits p (omega (arith, past, size))))) (none_awaited plan s p (no_call plan s p (omega (arith, past, most))))
-  ]
+  | inl low ↦ each p low
+  | inr past ↦ subst (AreWaitedBy plan s p) (ap list_in (sym (slice_get_past waits p (omega (arith, past, size))))) (none_awaited plan s p (no_call plan s p (omega (arith, past, most))))
+]

@@ -20,9 +20,9 @@ lined_all scripts s ranks i out all past so_far = sym (append-nil out) ∙ ap (�
 -- the first of a list that may have fewer
 pub front_is : (xs : List ℕ) (n k : ℕ) → n ≡ min (length xs) k → take n xs ≡ take k xs
 front_is xs n k is = elim (cases_lt k (length xs)) [
-    | inl more ↦ let same : n ≡ k = omega (arith, is, more) in ap (λ m. take m xs) same
-    | inr all ↦ let same : n ≡ length xs = omega (arith, is, all) in take_all n xs (omega (arith, same)) ∙ sym (take_all k xs all)
-  ]
+  | inl more ↦ let same : n ≡ k = omega (arith, is, more) in ap (λ m. take m xs) same
+  | inr all ↦ let same : n ≡ length xs = omega (arith, is, all) in take_all n xs (omega (arith, same)) ∙ sym (take_all k xs all)
+]
 
 pub rest_is : (xs : List ℕ) (n k : ℕ) → n ≡ min (length xs) k → length xs - n ≡ length xs - k
 rest_is xs n k is = omega (arith, is)

@@ -32,11 +32,7 @@ use wire_words::push_number;
 const LINES: usize = 16;
 
 /// Appends the call of a line.
-fn push_call_of_line(
-    out: &mut Vec<u8>,
-    scripts: &Scripts,
-    place: CallAt,
-) -> Result<(), AllocError>
+fn push_call_of_line(out: &mut Vec<u8>, scripts: &Scripts, place: CallAt) -> Result<(), AllocError>
     ensures { OnOk result (out.new.items ≡ out.old.items ++ (codes "    " ++ stops.said_call scripts.now place)) }
 {
     out.extend_from_slice(b"    ")?;
@@ -220,7 +216,13 @@ fn push_standstill(
         b"  deadlock, each for the next and the last for the first:\n",
         circle,
     )?;
-    push_part(alloc, out, core, b"  for what never comes:\n", roots.as_slice())
+    push_part(
+        alloc,
+        out,
+        core,
+        b"  for what never comes:\n",
+        roots.as_slice(),
+    )
 }
 
 /// What is told where a core stands that can take no step.

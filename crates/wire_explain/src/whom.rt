@@ -27,11 +27,7 @@ fn push_undone(out: &mut Vec<u32>, core: &Core<'_>, event: Event) -> Result<(), 
 
 /// Adds the ranks of those of these events that haven't happened.
 #[tactic(auto, using(crate::proofs::Awaited::pushed_more, crate::proofs::Awaited::pushed_all))]
-fn push_all_undone(
-    out: &mut Vec<u32>,
-    core: &Core<'_>,
-    events: &[Event],
-) -> Result<(), AllocError>
+fn push_all_undone(out: &mut Vec<u32>, core: &Core<'_>, events: &[Event]) -> Result<(), AllocError>
     ensures { OnOk result (out.new.items ≡ out.old.items ++ spec.undone_ranks (state_of core.now) (map event_of events.now)) }
 {
     for event in events {
@@ -66,11 +62,7 @@ fn publishes_for(plan: &Plan, kind: Kind) -> &[Event]
 }
 
 /// The ranks for which the rank of an event waits, which is its next and of the plan.
-fn ranks_before(
-    alloc: Global,
-    core: &Core<'_>,
-    event: Event,
-) -> Result<Vec<u32>, AllocError>
+fn ranks_before(alloc: Global, core: &Core<'_>, event: Event) -> Result<Vec<u32>, AllocError>
     requires next { event_of event ≡ next_event (state_of core.now) event.proc.number }
     requires there { event.at < event_count (plan_in core.now) event.proc.number }
     ensures { IfOk result (λ ranks. AreWaitedBy (plan_in core.now) (state_of core.now) event.proc.number ranks.items) }

@@ -14,6 +14,6 @@ loop-start-init c = record {
 
 pub returns : goal.returns
 returns c = no_circle (WaitsFor c.args.waits.now) (λ p. c.loop-start.invariant.search.ended p (elim (cases_lt p c.loop-start.start) [
-    | inl below ↦ c.loop-start.invariant.before p below
-    | inr past ↦ c.loop-start.invariant.past p (omega (arith, past, c.loop-start-test.false))
-  ]))
+  | inl below ↦ c.loop-start.invariant.before p below
+  | inr past ↦ c.loop-start.invariant.past p (omega (arith, past, c.loop-start-test.false))
+]))

@@ -18,7 +18,7 @@ returns-clause-tells c =
     let told = told_of scripts s in
     let found = subst (λ (w : List (Vec ℕ Global)). MatchOption circle ((r : List ℕ) → IsCircle (WaitsFor w) r → ⊥) (λ r. IsCircle (WaitsFor w) r.items)) c.as_slice.ensures.value c.in_ok-circle.ensures in
     let text_is = c.as_slice-3.ensures.value ∙ c.in_ok-push_standstill.ensures ∙ ap (λ xs. xs ++ told c.as_slice-2.result.now c.ranks_in.result.now) c.new-told.ensures.items
-        ∙ ap (λ w. told w c.ranks_in.result.now) c.as_slice-2.ensures.value ∙ ap (told waits) c.ranks_in.ensures in
+    ∙ ap (λ w. told w c.ranks_in.result.now) c.as_slice-2.ensures.value ∙ ap (told waits) c.ranks_in.ensures in
     IfOk-weaker c.shown_text.result _ _
     (λ text is. record {
       waits = waits;

@@ -14,7 +14,7 @@ loop-number-preserved c =
     let pushed = c.in_ok-push.ensures.items in
     let count : length c.push.new.self.items ≡ n + 1 = ap length pushed ∙ length-append c.loop-number.waits.items (list ∷ []) ∙ ap (λ k. k + 1) c.loop-number.invariant.count in
     let one : AreWaitedBy (plan_in c.args.core.now) (state_of c.args.core.now) n list.items =
-        subst (λ (rank : Proc). AreWaitedBy (plan_in c.args.core.now) (state_of c.args.core.now) rank.number list.items) c.new.ensures c.in_ok-ranks_awaited.ensures in
+    subst (λ (rank : Proc). AreWaitedBy (plan_in c.args.core.now) (state_of c.args.core.now) rank.number list.items) c.new.ensures c.in_ok-ranks_awaited.ensures in
     record {
       count = count;
       each = table_more (plan_in c.args.core.now) (state_of c.args.core.now) c.loop-number.waits.items c.push.new.self.items list n c.loop-number.invariant.count c.loop-number.invariant.each one pushed;
