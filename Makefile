@@ -6,13 +6,23 @@ PREFIX ?= /usr/local
 # No program leaves compiled files in the tree.
 export PYTHONDONTWRITEBYTECODE = 1
 
-.PHONY: run libraries parts try test quick lint lint-c edits soak bench figures
+.PHONY: help run libraries parts try test quick lint lint-c edits soak bench figures
 .PHONY: record record-mpi record-suite newer-root ranks install deb picture
 
 MPICC ?= mpicc
 CFLAGS ?= -O2 -Wall -Wextra
 SHARED = -std=gnu11 $(CFLAGS) -shared -fPIC -fvisibility=hidden -ftls-model=initial-exec -pthread \
 	-Irecord
+
+# What there is: `make` alone tells it.
+help:
+	@echo "make run                  proves and builds ./wire_up: 20 to 45 minutes the first time"
+	@echo "make record record-mpi    builds what ./wire_up-record preloads, for PMIx and for MPI"
+	@echo "make ranks                builds what ./wire_up-run starts"
+	@echo "make install [PREFIX=..]  puts in place what is built; make deb makes a Debian package"
+	@echo "make try FILE=my.plan     checks and replays a plan without a proof, in 2 minutes"
+	@echo "make test                 every proof and every test: 40 minutes to two hours"
+	@echo "More for developers: CONTRIBUTING.md"
 
 # An example without proofs, then the proof, and the same example by the proved ./wire_up.
 run:

@@ -39,7 +39,7 @@ from build.progress import Progress
 # What users and tests run, of what `rt ci` builds in the copy.
 KEPT = (BUILT, PARTS)
 # The minutes of processor time that a gate may take, with all proofs from nothing.
-BUDGET = 160
+BUDGET = 190
 
 
 class Copied(io.StringIO):

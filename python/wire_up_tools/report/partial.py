@@ -5,6 +5,7 @@ from typing import Optional
 from wire_up_tools import words
 from wire_up_tools.plan import Plan
 from wire_up_tools.report.phrases import count_of, list_names
+from wire_up_tools.report.tried import say_turned
 
 # What is left out and can hide no race: it changes nothing that others see; or it is a part of
 # MPI's order, and without it the plan is less ordered than the program.
@@ -26,7 +27,8 @@ def find_reasons(plan: Plan) -> list[str]:
     cut_off, left_out = say_cut_off(plan), say_left_out(plan)
     ordered = plan.list_in_head(words.MORE_ORDERED)
     received = say_received(plan)
-    reasons = [say_parted(plan), cut_off, say_polled(plan), *ordered, received, left_out]
+    reasons = [say_answered(plan), say_parted(plan), *say_turned(plan), cut_off, say_polled(plan)]
+    reasons += [*ordered, received, left_out, say_timed(plan)]
     return [it for it in reasons if it]
 
 
@@ -37,11 +39,33 @@ def find_verdicts(plan: Plan) -> Optional[str]:
     return next((it.removeprefix(words.VERDICTS) for it in said), None)
 
 
+def is_of_each_run(plan: Plan) -> bool:
+    """Whether the recorder says that each run of the program makes the calls of the plan, if it
+    goes by them alone."""
+    return plan.is_recorded and words.EACH_RUN_SENTENCE in plan.declared.head
+
+
+def say_answered(plan: Plan) -> Optional[str]:
+    """Which calls the library that was recorded answered otherwise than the rules."""
+    said = plan.list_in_head(words.ANSWERED)
+    if not said:
+        return None
+    return f"the verdict doesn't hold of this library's run, which answered otherwise {said[0]}"
+
+
+def say_timed(plan: Plan) -> Optional[str]:
+    """Which calls the library that was recorded is known to answer by which rank is fast."""
+    named = plan.list_in_head(words.TIMED)
+    if not named:
+        return None
+    return f"the reply can depend on which rank is fast: {list_names(named)}"
+
+
 def say_polled(plan: Plan) -> Optional[str]:
     """Of how many polls the order of one run is taken, and what the verdict is without."""
     found = (POLLED.fullmatch(it) for it in plan.declared.head)
     count = next((int(it[1]) for it in found if it), 0)
-    if not count:
+    if not count or is_by_mpi_alone(plan):
         return None
     verdicts = find_verdicts(plan)
     both = f": {verdicts}" if verdicts else ""
@@ -52,6 +76,24 @@ def say_received(plan: Plan) -> Optional[str]:
     """What could have come otherwise, so that another run may do something else."""
     listed = plan.list_in_head(words.OTHERWISE_AFTER)
     return f"another run may do otherwise after {list_names(listed)}" if listed else None
+
+
+def is_by_mpi_alone(plan: Plan) -> bool:
+    """Whether the head says that what luck decides leads to no call of PMIx but MPI's own."""
+    return words.OWN_CODE in plan.declared.head
+
+
+def say_own_code(plan: Plan) -> Optional[str]:
+    """What luck decides that leads to no call of PMIx, and on what that rests; None where it
+    decides nothing, or can lead to one."""
+    if not is_by_mpi_alone(plan):
+        return None
+    listed = plan.list_in_head(words.OTHERWISE_ALONE)
+    of_luck = list_names(listed) if listed else "requests that it may find open"
+    return (
+        f"Another run may do otherwise after {of_luck}, but makes no call of PMIx by that. "
+        f"{words.OWN_CODE}"
+    )
 
 
 def say_parted(plan: Plan) -> Optional[str]:
