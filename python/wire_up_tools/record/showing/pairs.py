@@ -9,6 +9,7 @@ from wire_up_tools.failures import Refused
 from wire_up_tools.plan import Call
 from wire_up_tools.record.showing.naming import Target
 from wire_up_tools.record.showing.orders import Trial
+from wire_up_tools.record.showing.traces import OF_LIBRARY
 from wire_up_tools.report.asking import Asker, stream_lines
 
 # Verbs of calls on names that change something, and of those that only ask; the last ones wait.
@@ -49,11 +50,13 @@ def list_uses(trial: Trial, verbs: Sequence[str]) -> Mapping[tuple[str, ...], Us
 
 
 def name_uses(call: Call, stored: Iterable[str]) -> Iterator[tuple[str, ...]]:
-    """What a call uses: a name, or keys of a process, of which a commit stores some."""
+    """What a call uses: a name, or keys of a process, of which a commit stores some. Keys of MPI's
+    own library are left out."""
     if call.verb in CHANGE or call.verb in ("lookup", "lookup-wait"):
         yield "name", call.about
     elif call.verb == "commit":
-        yield from (("key", call.rank.name, it) for it in dict.fromkeys(stored))
+        own = [it for it in dict.fromkeys(stored) if not OF_LIBRARY.match(f"put {it}")]
+        yield from (("key", call.rank.name, it) for it in own)
     elif call.verb in ("get", "get-now"):
         yield "key", call.target, call.about
 

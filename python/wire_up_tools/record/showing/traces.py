@@ -14,8 +14,9 @@ from wire_up_tools.record.writing import STATUSES, WAITING
 
 # How many lines a recording has before its records.
 HEAD_LINES = 4
-# The keys by which processes of Open MPI find each other, as messages come: not the program's.
-OF_LIBRARY = re.compile(r"(?:get \S+|put) (?:btl|pml|mtl|osc|coll|mpi)\.")
+# The keys by which processes of Open MPI find each other, as messages come, and those that the
+# library of PMIx has of the job, such as its folder: not the program's.
+OF_LIBRARY = re.compile(r"(?:get \S+|put) (?:[a-z]+\.\w+\.\d+\.\d+$|mpi\.|pmix\.|OMPI|PMIX_)")
 # A printable character that a word of a recording can't have.
 ESCAPED = re.compile(r"%([2-7][0-9A-E])")
 # The namespace of a job of PRRTE has the number of a process.
