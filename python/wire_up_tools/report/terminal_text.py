@@ -15,6 +15,7 @@ from wire_up_tools.report.placements import Placed
 from wire_up_tools.report.places import say_place
 from wire_up_tools.report.readers import list_told
 from wire_up_tools.report.runs import Outcome, Run, Runs
+from wire_up_tools.report.singular import say_counted
 from wire_up_tools.report.text_drawing import draw_lines
 
 # How many characters a line has. Lines of calls and diagrams, which stand deeper than this, stay
@@ -33,7 +34,8 @@ def write_text(report: Report) -> str:
         lines.append(f"The recorder's verdicts: {report.verdicts}.")
     lines += verdict.say_besides(report)
     if report.plan.is_recorded:
-        lines.append(f"{verdict.say_recording(report)}: {'; '.join(report.left_out)}".rstrip(": "))
+        left_out = "; ".join(map(say_counted, report.left_out))
+        lines.append(f"{verdict.say_recording(report)}: {left_out}".rstrip(": "))
     for number, detail in enumerate(report.details, 1):
         lines += ["", *write_detail(report, number, detail)]
     if report.others:
