@@ -51,6 +51,9 @@ abbrev pub AllAnswered : Type 0
 AllAnswered = (p : Pattern) (stages : Stages) → IsJudged p stages → IsAnsweredForAll p
 
 -- so it is in the plan that the text of an instance reads as, whatever the size and the nodes, if it reads at all
+abbrev pub AreTextsAnswered : Pattern → Type 0
+AreTextsAnswered p = (cast : Cast) (size : Size) (s : Scripts) → IsCast p cast → HaveLeast p.roles cast.sizes
+    → Reads size (instance_text p cast) (Ok s) → IsAlwaysAnswered (plan_of s)
+
 abbrev pub TextsAnswered : Type 0
-TextsAnswered = (p : Pattern) (stages : Stages) → IsJudged p stages → (cast : Cast) (size : Size) (s : Scripts) → IsCast p cast
-    → HaveLeast p.roles cast.sizes → Reads size (instance_text p cast) (Ok s) → IsAlwaysAnswered (plan_of s)
+TextsAnswered = (p : Pattern) (stages : Stages) → IsJudged p stages → AreTextsAnswered p
