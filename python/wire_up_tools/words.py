@@ -39,6 +39,8 @@ OWN_CODE = (
 LEFT_TO_LUCK = "ends of requests that another run may have found open"
 TAKEN = "their order is taken all the same, and --strict takes nothing from them"
 VERDICTS = "Verdicts: "
+# The title of the races that are found with --strict alone, by their calls in the plan.
+STRICT_ALONE = "Found with --strict alone:"
 # How the line of the head begins that says that no order of MPI is known.
 WITHOUT_MPI = "MPI's order isn't recorded"
 

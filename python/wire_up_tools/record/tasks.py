@@ -23,6 +23,7 @@ from wire_up_tools.record.places import find_call_place, find_places, read_place
 from wire_up_tools.record.planning import Choices, Plan, make_plan, make_whole_plan
 from wire_up_tools.record.recordings import Recording, has_recordings, read_recordings
 from wire_up_tools.record.running import BY_SIGNAL, find_libraries, make_environment, run
+from wire_up_tools.record.strict_races import list_strict_races
 from wire_up_tools.record.verdicts import (
     compare_verdicts,
     finds_nothing,
@@ -160,7 +161,9 @@ def add_verdicts(plan: Plan, make_other: Callable[[Choices], Plan], checker: Che
     other = make_other(replace(choices, is_strict=not choices.is_strict))
     plain, strict = (other, plan) if choices.is_strict else (plan, other)
     verdicts = compare_verdicts(checker, write_plan(plain), write_plan(strict))
-    return replace(plan, mpi=replace(plan.mpi, verdicts=verdicts))
+    is_named = verdicts and not choices.is_strict
+    races = list_strict_races(checker, plain, strict) if is_named else []
+    return replace(plan, mpi=replace(plan.mpi, verdicts=verdicts, strict_races=races))
 
 
 def settle_gets(plan: Plan, make_other: Callable[[Choices], Plan], checker: Checker) -> Plan:

@@ -3,7 +3,7 @@ import textwrap
 from collections.abc import Iterable
 
 from wire_up_tools.plan import Call
-from wire_up_tools.report import explaining, verdict
+from wire_up_tools.report import explaining, strict, verdict
 from wire_up_tools.report.contents import ENDINGS, Detail, Report, WireUp
 from wire_up_tools.report.findings import PAIRS, Finding
 from wire_up_tools.report.language import name_kind
@@ -36,6 +36,7 @@ def write_text(report: Report) -> str:
     if report.plan.is_recorded:
         left_out = "; ".join(map(say_counted, report.left_out))
         lines.append(f"{verdict.say_recording(report)}: {left_out}".rstrip(": "))
+    lines += ["", *write_strict(report)] if strict.has_more(report.plan) else []
     for number, detail in enumerate(report.details, 1):
         lines += ["", *write_detail(report, number, detail)]
     if report.others:
@@ -73,6 +74,19 @@ def write_detail(report: Report, number: int, detail: Detail) -> list[str]:
         "",
         *write_runs(detail.runs),
     ]
+
+
+def write_strict(report: Report) -> list[str]:
+    """The races that are found with --strict alone, and how one sees them whole."""
+    lines = [f"{strict.TITLE}:"]
+    for one in report.strict:
+        lines += [
+            f"   {explaining.title(one, (), report.order)}",
+            *(f"   {describe_call(report, it)}" for it in one.calls),
+            f"   Fix: {explaining.fix(one, report.order)}",
+        ]
+    lines += [f"   {strict.MEANING}"] if report.strict else []
+    return [*lines, f"   {strict.KEEP} {strict.SHOWS}", *(f"      {it}" for it in strict.COMMANDS)]
 
 
 def write_placed(report: Report, placed: Placed) -> list[str]:
