@@ -5,6 +5,7 @@ edge of a row, where no label stands, and may go on beside that lane; or it goes
 race does.
 """
 import itertools
+import math
 from collections.abc import Iterator, Sequence
 from dataclasses import dataclass
 
@@ -70,4 +71,4 @@ def list_bent(layout: Layout, arrow: Link) -> Iterator[Way]:
 
 def measure(way: Way) -> float:
     """How long a way is."""
-    return sum(((a.x - b.x) ** 2 + (a.y - b.y) ** 2) ** 0.5 for a, b in zip(way, way[1:]))
+    return sum(math.dist((a.x, a.y), (b.x, b.y)) for a, b in zip(way, way[1:]))
