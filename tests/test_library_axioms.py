@@ -34,6 +34,7 @@ BOTH, NOW = f"put global a 1 / {PUT}", "get-now app:0 k"
 MET = f"{PUT} / fence all collect", f"fence all collect / {NOW}"
 MATE = "A / rank n0 / {} / rank n1 / get app:0 a / rank n1 / get app:0 k"
 NEVER = "A / rank n0 / {} / rank n1 / get app:0 never / rank n1 / get app:0 k"
+LIST = "app:0,app:1 collect"
 FOUND, MISSED = "PMIX_SUCCESS v", "PMIX_ERR_NOT_FOUND"
 # A plan, what is seen of one of its calls in place of what the rules say, and the libraries whose
 # axioms have such a history, worked out by hand.
@@ -67,6 +68,7 @@ ROWS: Sequence[tuple[str, str, str, frozenset[str]]] = [
     (APART.format("fence all", "put global k v"), "app:0 1", "PMIX_SUCCESS", NAMELESS),
     (APART.format("fence all collect", "commit"), "app:0 1", "PMIX_SUCCESS", frozenset()),
     (APART.format("fence all collect", "fence all collect"), "app:0 1", "waiting", frozenset()),
+    (APART.format(f"fence {LIST}", f"fence {LIST}"), "app:0 1", "waiting", NAMELESS),
     # A name is there from its publish on, till it is taken away.
     (APART.format("publish x v", "lookup x"), "app:1 1", FOUND, ALL),
     (APART.format("commit", "lookup x"), "app:1 1", FOUND, NAMELESS),

@@ -17,6 +17,7 @@ from wire_up_tools.report.readers import list_told
 from wire_up_tools.report.runs import Outcome, Run, Runs
 from wire_up_tools.report.singular import say_counted
 from wire_up_tools.report.text_drawing import draw_lines
+from wire_up_tools.report.tried import write_tried_text
 
 # How many characters a line has. Lines of calls and diagrams, which stand deeper than this, stay
 # whole.
@@ -73,6 +74,7 @@ def write_detail(report: Report, number: int, detail: Detail) -> list[str]:
         *draw_lines(detail.diagram),
         "",
         *write_runs(detail.runs),
+        *write_tried_text(report.plan, one),
     ]
 
 
