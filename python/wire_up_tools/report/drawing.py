@@ -1,7 +1,7 @@
 """Draws a diagram as SVG, with a legend of the marks that it has."""
 from collections.abc import Iterable
 
-from wire_up_tools.report.arrow_line import Taken, find_arrow_line, find_taken
+from wire_up_tools.report.arrow_line import find_arrow_lines
 from wire_up_tools.report.diagram import Bar, Diagram, Item, Link, Style
 from wire_up_tools.report.hovering import name_arrow, name_part, write_rules
 from wire_up_tools.report.layout import (
@@ -16,7 +16,7 @@ from wire_up_tools.report.layout import (
     lay_out,
 )
 from wire_up_tools.report.markup import escape, link_to_line
-from wire_up_tools.report.race_line import find_race_line
+from wire_up_tools.report.race_line import Way, find_race_line
 
 # A diagram of at most so many pixels, as two lanes are, is made to fit a narrow page, and a wider
 # one can be moved there. Past the other width the page is broad.
@@ -48,10 +48,8 @@ def draw_svg(layout: Layout, about: str) -> str:
     items = len(diagram.items)
     bars = ((number, it) for number, it in enumerate(diagram.bars, items) if it.marks)
     parts += [group(f"at {name_part(number)}", draw_bar(layout, it)) for number, it in bars]
-    arrows, taken = enumerate(diagram.arrows), find_taken(layout)
-    parts += [
-        group(f"way {name_arrow(number)}", draw_arrow(layout, taken, it)) for number, it in arrows
-    ]
+    arrows = enumerate(zip(diagram.arrows, find_arrow_lines(layout)))
+    parts += [group(f"way {name_arrow(number)}", draw_arrow(*it)) for number, it in arrows]
     parts += [draw_race(layout, diagram.race)] if diagram.race else []
     calls = enumerate(diagram.items)
     parts += [group(f"at {name_part(number)}", draw_item(layout, it)) for number, it in calls]
@@ -100,9 +98,9 @@ def split_bar(layout: Layout, bar: Bar) -> list[tuple[float, float]]:
     return list(zip(left, right))
 
 
-def draw_arrow(layout: Layout, taken: Taken, link: Link) -> str:
-    """An arrow, which ends a little before its target."""
-    *way, last, target = find_arrow_line(layout, taken, link)
+def draw_arrow(link: Link, line: Way) -> str:
+    """An arrow along a line, which ends a little before its target."""
+    *way, last, target = line
     width, height = target.x - last.x, target.y - last.y
     length = (width**2 + height**2) ** 0.5 or 1
     end = Point(target.x - width / length * 8, target.y - height / length * 8)
@@ -114,8 +112,8 @@ def draw_arrow(layout: Layout, taken: Taken, link: Link) -> str:
         Point(end.x + back.x - aside.x, end.y + back.y - aside.y),
     )
     kind = "arrow never" if link.source.style is Style.UNREACHED else "arrow"
-    line = f'<polyline class="{kind}" points="{write_points([*way, last, end])}"/>'
-    return f'{line}<polygon class="tip" points="{write_points(corners)}"/>'
+    drawn = f'<polyline class="{kind}" points="{write_points([*way, last, end])}"/>'
+    return f'{drawn}<polygon class="tip" points="{write_points(corners)}"/>'
 
 
 def write_points(points: Iterable[Point]) -> str:
