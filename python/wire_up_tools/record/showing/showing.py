@@ -158,7 +158,7 @@ def say_turns(trial: Trial, turns: Sequence[Turn], are_all: bool, say: Say) -> l
     return head
 
 
-def turn_all(trial: Trial, first: Material, asked: Asked, result: Result, say: Say) -> None:
+def turn_all(trial: Trial, of: Material, asked: Asked, result: Result, say: Say) -> None:
     """Turns the orders of a plan round, and says what came of each. Raises Refused, NotRun,
     OSError."""
     pairs, are_all = take_pairs(trial, asked, say)
@@ -167,7 +167,7 @@ def turn_all(trial: Trial, first: Material, asked: Asked, result: Result, say: S
         say("the plan orders no pair of calls that could be answered otherwise")
         return
     say_before(f"orders that are turned round: {len(pairs)}", len(groups), say)
-    reference = find_first(first, trial)
+    reference = find_first(of, trial)
     try:
         for number, (held, others) in enumerate(groups, 1):
             for turn in turn_round(trial, reference, held, others, f"turn-{number}"):
