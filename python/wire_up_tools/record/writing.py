@@ -25,6 +25,7 @@ from wire_up_tools.words import (
     CUT_OFF,
     EACH_RUN_SENTENCE,
     LEFT_OUT,
+    LEFT_OUT_HARMLESS,
     LEFT_TO_LUCK,
     MORE_ORDERED,
     MPI_COMMENT,
@@ -144,10 +145,11 @@ def say_notes(plan: Plan) -> Iterator[str]:
         yield from (f"#   {it}" for it in plan.partings)
     lists = (
         (CUT_OFF, notes.cut_off),
-        (LEFT_OUT, notes.left_out),
+        (LEFT_OUT, notes.list_left_out(True)),
         (MORE_ORDERED, notes.more_ordered),
         (OTHERWISE_ALONE if is_by_mpi_alone(plan) else OTHERWISE_AFTER, notes.of_luck),
         (WRITTEN_OTHERWISE, notes.otherwise),
+        (LEFT_OUT_HARMLESS, notes.list_left_out(False)),
     )
     for title, counted in lists:
         if any(counted.values()):

@@ -130,8 +130,9 @@ class Report:
 
     @property
     def left_out(self) -> Sequence[str]:
-        """What a recorded plan leaves out."""
-        return self.plan.list_in_head(words.LEFT_OUT)
+        """What a recorded plan leaves out: first what can hide a race."""
+        titles = (words.LEFT_OUT, words.LEFT_OUT_HARMLESS)
+        return [it for title in titles for it in self.plan.list_in_head(title)]
 
 
 def make_report(path: str, asker: Asker) -> Report:
