@@ -34,8 +34,8 @@ function measureFigure(svg) {
   return [...said, ...findRunOver(svg, all)];
 }
 
-// The labels over which an arrow goes, or the line between two calls that race; and the marks of other
-// calls over which that goes.
+// The labels over which an arrow goes, or the line between two calls that race; and the marks of
+// other calls over which that goes.
 function findRunOver(svg, all) {
   const said = new Set(), marks = [...svg.querySelectorAll(".dot:not(.racing), .met")];
   const taken = [...all, ...marks.map(it => [it.getBoundingClientRect(), "a call"])];
@@ -68,8 +68,8 @@ function findCut(svg, all, whole) {
   return said;
 }
 
-// On a printed sheet of so many pixels nothing that stays whole is higher than two thirds of it: else
-// sheets before it would be empty.
+// On a printed sheet of so many pixels nothing that stays whole is higher than two thirds of it:
+// else sheets before it would be empty.
 function measureSheet(height) {
   const whole = [...document.querySelectorAll("body *")].filter(it =>
     getComputedStyle(it).breakInside === "avoid");
