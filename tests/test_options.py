@@ -46,7 +46,7 @@ class OptionsTest(unittest.TestCase):
     def test_describe(self) -> None:
         self.assertEqual(
             describe(OPTIONS[1:]),
-            "  --keep-all FOLDER keeps all\n"
+            "  --keep-all FOLDER  keeps all\n"
             "  --loud           says more\n"
             "  -h, --help       shows this\n",
         )
