@@ -173,7 +173,7 @@ class TurnedTest(ShowingCase):
         said = r"app:0 \d+ lookup: PMIX_SUCCESS port \| PMIX_ERR_NOT_FOUND"
         self.hold("turned", said, 2, "cases", "poll")
         self.assertRegex(read_file(self.plan), r"(?m)^# Turned round on \S+: app:1 \d+ publish, ")
-        for processes, word in ((2, "cancelled"), (3, "several"), (2, "asked")):
+        for processes, word in ((3, "several"), (2, "asked")):
             self.hold("turned", "doesn't hold for every run", processes, "luck", word)
 
 
