@@ -59,7 +59,7 @@ OPTIONS = (
     Option(
         "--limit",
         "SECONDS",
-        f"how long such a run may take; else {LIMIT:g}, {LIMIT_TIMES:g} times the first, and --hold",
+        f"how long such a run may take; else {LIMIT:g}, {LIMIT_TIMES:g} times the first and --hold",
     ),
     Option(
         "--input",
