@@ -35,6 +35,7 @@ from wire_up_tools.record.showing.asking import Asked
 from wire_up_tools.record.showing.material import First, Material
 from wire_up_tools.record.showing.showing import show
 from wire_up_tools.record.showing.traces import read_traces
+from wire_up_tools.record.strict_races import list_strict_races
 from wire_up_tools.record.verdicts import (
     compare_verdicts,
     finds_nothing,
@@ -189,7 +190,9 @@ def add_verdicts(plan: Plan, make_other: Callable[[Choices], Plan], checker: Che
     other = make_other(replace(choices, is_strict=not choices.is_strict))
     plain, strict = (other, plan) if choices.is_strict else (plan, other)
     verdicts = compare_verdicts(checker, write_plan(plain), write_plan(strict))
-    return replace(plan, mpi=replace(plan.mpi, verdicts=verdicts))
+    is_named = verdicts and not choices.is_strict
+    races = list_strict_races(checker, plain, strict) if is_named else []
+    return replace(plan, mpi=replace(plan.mpi, verdicts=verdicts, strict_races=races))
 
 
 def settle_gets(plan: Plan, make_other: Callable[[Choices], Plan], checker: Checker) -> Plan:
