@@ -310,6 +310,16 @@ class ServerTest(unittest.TestCase):
         self.assertIsNotNone(server.courses[2].late)
         self.assertLess(time.monotonic() - began, 3)
 
+    def test_where_a_run_is_ended_a_hold_was_in_vain(self) -> None:
+        server = self.serve(Holds(BOTH, {2: [Wait(1)]}), hold=60)
+        self.say(server, "came", 2)
+        until = time.monotonic() + 10
+        while not server.waiting and time.monotonic() < until:
+            time.sleep(0.01)
+        server.end_holds()
+        self.assertEqual((None, None), (server.courses[1].late, server.courses[2].gone))
+        self.assertIsNotNone(server.courses[2].late)
+
     def test_where_a_recording_grows_a_hold_lasts(self) -> None:
         server = self.serve(Holds(BOTH, {2: [Wait(1)]}), hold=3, seconds=12)
         second = self.say(server, "came", 2)
