@@ -69,8 +69,9 @@ class Program:
     another call, and `called` another, whose `calls` have a result that is luck. `is_replayed` says
     that the replay of the plan answers as the program was answered, and `tested` is what the
     recorder says of that, or of each run of the program, where there is a checker. `ends` counts
-    the ends that were left to luck, where that makes no finding more, and `left_out` says what the
-    recording of the repository leaves out that can hide a race, as one made now doesn't."""
+    the ends that were left to luck, where that makes no finding more, and `ends_now` those that the
+    recording of the repository, which is older, doesn't have; `left_out` says what that leaves out
+    that can hide a race, as one made now doesn't."""
 
     processes: int
     findings: int
@@ -88,6 +89,7 @@ class Program:
     is_replayed: bool = True
     tested: str = ""
     ends: int = 0
+    ends_now: int = 0
     left_out: str = ""
 
     @property
@@ -98,7 +100,9 @@ class Program:
         both = f"findings {self.findings}, and findings {self.findings + 1} with --strict"
         return f"wire_up-record: {both}, which takes nothing from {self.luck} ends of requests\n"
 
-    def says_otherwise(self, with_mpi: bool = True, is_checked: bool = True) -> str:
+    def says_otherwise(
+        self, with_mpi: bool = True, is_checked: bool = True, is_live: bool = False
+    ) -> str:
         """What the recorder says of polls that found nothing and, with MPI's order, of receives
         that could have got another message or were the first of several requests, and of ends that
         were left to luck, unless the verdicts by a checker tell them."""
@@ -108,7 +112,9 @@ class Program:
             told.append(f"{self.received} receives that could have got another message")
         if self.first and with_mpi:
             told.append(f"{self.first} receives that were the first of several requests")
-        ends = 0 if not with_mpi else self.ends if is_checked else self.ends or self.luck
+        ends = self.ends_now if is_live else 0
+        if with_mpi:
+            ends += self.ends if is_checked else self.ends or self.luck
         told += [f"{ends} {words.LEFT_TO_LUCK}"] if ends else []
         said = f"wire_up-record: {', '.join(told)}: another run may do otherwise after them\n"
         return said if told else ""
@@ -206,7 +212,7 @@ LUCK = {
     "sent": Program(2, 0, 1, called=FOUND_BY_TEST),
     "patient": Program(2, 0, 1, called=FOUND_BY_TEST),
     "beside": Program(2, 0, 1, called="MPI_Waitany of sends"),
-    "among": Program(2, 0, 1, called="MPI_Testany that found a request complete"),
+    "among": Program(2, 0, 1, called="MPI_Testany that found a request complete", ends_now=1),
     "header": Program(3, 0, 1, luck=2, received=2),
     "answer": Program(3, 0, 1, luck=2, received=2),
     "once": Program(
