@@ -17,6 +17,7 @@ KINDS = {
     "WORDS": "command line",
     "COUNT": "number",
     "SECONDS": "number of seconds",
+    "RACE": "race",
 }
 # What begins as an option and is none: a word, and what ends the options.
 STANDARD_STREAM, END = "-", "--"
@@ -139,4 +140,4 @@ def describe(options: Sequence[Option]) -> str:
     """The rows of a help that say what options mean, and that the help and the version are two."""
     alone = (("-V, --version", "shows the version"), ("-h, --help", "shows this"))
     rows = [*((it.written, it.meaning) for it in options), *alone]
-    return "".join(f"  {option:<16} {meaning}\n" for option, meaning in rows)
+    return "".join(f"  {option:<15}  {meaning}\n" for option, meaning in rows)

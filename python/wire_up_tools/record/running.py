@@ -4,7 +4,7 @@ import re
 import signal
 import subprocess
 from collections.abc import Mapping, Sequence
-from typing import Optional
+from typing import IO, Optional
 
 from wire_up_tools.failures import Refused
 
@@ -109,9 +109,12 @@ def wait_and_hand_on(process: "subprocess.Popen[bytes]") -> int:
     return process.returncode
 
 
-def run(command: Sequence[str], environment: Mapping[str, str]) -> int:
-    """Runs a command, hands signals on to it, and answers its status: below 0 for the signal that
-    ended it. Raises NotRun if it can't be run."""
+def run(
+    command: Sequence[str], environment: Mapping[str, str], source: Optional[IO[bytes]] = None
+) -> int:
+    """Runs a command, which reads from a source, else from standard input, hands signals on to it,
+    and answers its status: below 0 for the signal that ended it. Raises NotRun if it can't be
+    run."""
     before = signal.pthread_sigmask(signal.SIG_BLOCK, (*HANDED_ON, signal.SIGCHLD))
 
     def unblock() -> None:
@@ -120,7 +123,7 @@ def run(command: Sequence[str], environment: Mapping[str, str]) -> int:
     try:
         # The command has the files that were opened for it.
         with subprocess.Popen(
-            command, env=environment, preexec_fn=unblock, close_fds=False
+            command, env=environment, preexec_fn=unblock, close_fds=False, stdin=source
         ) as process:
             return wait_and_hand_on(process)
     except FileNotFoundError as why:

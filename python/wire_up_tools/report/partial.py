@@ -5,6 +5,7 @@ from typing import Optional
 from wire_up_tools import words
 from wire_up_tools.plan import Plan
 from wire_up_tools.report.phrases import count_of, list_names
+from wire_up_tools.report.tried import say_turned
 
 # What is left out and can hide no race: it changes nothing that others see; or it is a part of
 # MPI's order, and without it the plan is less ordered than the program.
@@ -26,7 +27,8 @@ def find_reasons(plan: Plan) -> list[str]:
     cut_off, left_out = say_cut_off(plan), say_left_out(plan)
     ordered = plan.list_in_head(words.MORE_ORDERED)
     received = say_received(plan)
-    reasons = [say_parted(plan), cut_off, say_polled(plan), *ordered, received, left_out]
+    reasons = [say_answered(plan), say_parted(plan), *say_turned(plan), cut_off, say_polled(plan)]
+    reasons += [*ordered, received, left_out, say_timed(plan)]
     return [it for it in reasons if it]
 
 
@@ -35,6 +37,28 @@ def find_verdicts(plan: Plan) -> Optional[str]:
     differ."""
     said = (it for it in plan.declared.head if it.startswith(words.VERDICTS))
     return next((it.removeprefix(words.VERDICTS) for it in said), None)
+
+
+def is_of_each_run(plan: Plan) -> bool:
+    """Whether the recorder says that each run of the program makes the calls of the plan, if it
+    goes by them alone."""
+    return plan.is_recorded and words.EACH_RUN_SENTENCE in plan.declared.head
+
+
+def say_answered(plan: Plan) -> Optional[str]:
+    """Which calls the library that was recorded answered otherwise than the rules."""
+    said = plan.list_in_head(words.ANSWERED)
+    if not said:
+        return None
+    return f"the verdict doesn't hold of this library's run, which answered otherwise {said[0]}"
+
+
+def say_timed(plan: Plan) -> Optional[str]:
+    """Which calls the library that was recorded is known to answer by which rank is fast."""
+    named = plan.list_in_head(words.TIMED)
+    if not named:
+        return None
+    return f"the reply can depend on which rank is fast: {list_names(named)}"
 
 
 def say_polled(plan: Plan) -> Optional[str]:

@@ -16,6 +16,7 @@ from wire_up_tools.report.places import say_place
 from wire_up_tools.report.readers import list_told
 from wire_up_tools.report.runs import Outcome, Run, Runs
 from wire_up_tools.report.text_drawing import draw_lines
+from wire_up_tools.report.tried import write_tried_text
 
 # How many characters a line has. Lines of calls and diagrams, which stand deeper than this, stay
 # whole.
@@ -70,6 +71,7 @@ def write_detail(report: Report, number: int, detail: Detail) -> list[str]:
         *draw_lines(detail.diagram),
         "",
         *write_runs(detail.runs),
+        *write_tried_text(report.plan, one),
     ]
 
 
@@ -98,7 +100,9 @@ def describe_told(report: Report, finding: Finding, call: Call) -> str:
 def describe_call(report: Report, call: Call) -> str:
     """A call with its line and its place."""
     place = f", {say_place(report.plan, call)}" if call.place else ""
-    return f"{call.name} {name_kind(call)}, {report.plan_name}:{call.line}{place}"
+    line = report.pattern_lines.get(call)
+    in_pattern = f", {report.name}:{line}" if line else ""
+    return f"{call.name} {name_kind(call)}, {report.plan_name}:{call.line}{in_pattern}{place}"
 
 
 def write_runs(runs: Runs) -> list[str]:

@@ -30,7 +30,10 @@ returns-clause-ok c =
       everywhere = everywhere;
       answered_for_all = for_all;
       answers = answers;
+      succeeding = c.in_ok-succeeding.succeeding;
+      told = c.in_ok-succeeding.ensures.ok;
       answered = c.in_ok-answers.ensures.ok;
       is = c.in_ok-text.ensures ∙ ap (λ ls. settled_form asked everywhere p ls c.as_slice-3.result.now) c.as_slice-2.ensures.value ∙ ap (settled_form asked everywhere p lines) c.as_slice-3.ensures.value;
-      ends = c.settled_end.ensures ∙ ap (λ ls. settled_end asked everywhere ls c.as_slice-5.result.now) c.as_slice-4.ensures.value ∙ ap (settled_end asked everywhere lines) c.as_slice-5.ensures.value;
+      ends = c.settled_end.ensures ∙ ap (λ ls. settled_end asked everywhere c.in_ok-succeeding.succeeding ls c.as_slice-5.result.now) c.as_slice-4.ensures.value
+          ∙ ap (settled_end asked everywhere c.in_ok-succeeding.succeeding lines) c.as_slice-5.ensures.value;
     }
