@@ -78,7 +78,7 @@ class OptionsTest(unittest.TestCase):
     def test_describe(self) -> None:
         self.assertEqual(
             describe(OPTIONS[1:]),
-            "  --keep-all FOLDER keeps all\n"
+            "  --keep-all FOLDER  keeps all\n"
             "  --loud           says more\n"
             "  -V, --version    shows the version\n"
             "  -h, --help       shows this\n",

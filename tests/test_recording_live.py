@@ -382,6 +382,15 @@ class OtherWaysTest(LiveTest):
                 self.assertIn(OTHERWISE_ALONE if is_alone else OTHERWISE_AFTER, head)
                 self.assertEqual("another run may do otherwise" not in ran.stderr, is_alone)
 
+    def test_a_program_with_address_sanitizer(self) -> None:
+        """It starts, though the recorder comes before the sanitizer's library, and the options that
+        are chosen for that are kept."""
+        path = self.compile("told-sanitized")
+        without_leaks = {**ENVIRONMENT, "ASAN_OPTIONS": "detect_leaks=0"}
+        ran = run_recorder("-o", self.plan, *mpirun(2, path), environment=without_leaks)
+        self.assertEqual((ran.returncode, ran.stderr), (0, ""))
+        self.assertIn("\nlookup solver\n", read_file(self.plan))
+
     def test_functions_that_are_looked_up(self) -> None:
         self.hold("looked-up")
 

@@ -86,7 +86,7 @@ class Parser(argparse.ArgumentParser):
         behind: list[str] = []
         left = iter(words)
         for word in left:
-            others = behind if behind or word in self.tasks else before
+            others: list[str] = behind if behind or word in self.tasks else before
             if word == END:
                 others += [word, *left]
             elif word in self.tasks or word == STANDARD_STREAM or not word.startswith("-"):
