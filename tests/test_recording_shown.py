@@ -17,7 +17,7 @@ from wire_up_tools.record.recordings import read_recordings
 from wire_up_tools.limits import LARGE
 from wire_up_tools.record.showing.comparing import compare
 from wire_up_tools.record.showing.heads import insert_in_head
-from wire_up_tools.record.showing.held_runs import HeldRun
+from wire_up_tools.record.showing.held_runs import HeldRun, refuse_lost
 from wire_up_tools.record.showing.holds import Course, Holds, Until, Wait, write_holds
 from wire_up_tools.record.showing.messages import find_swaps
 from wire_up_tools.record.showing.missing import find_missed
@@ -26,6 +26,7 @@ from wire_up_tools.record.showing.naming import Naming, Target, name_call, numbe
 from wire_up_tools.record.showing.server import Patience, Server, open_hall_for
 from wire_up_tools.record.showing.traces import Traces, read_traces
 from wire_up_tools.record.writing import write_plan
+from wire_up_tools.words import EACH_RUN_SENTENCE
 
 PUBLISH = Target("app:0", 1, 0, 0, "publish port", 1, "publish")
 LOOKUP = Target("app:1", 1, 0, 1, "lookup port", 1, "lookup")
@@ -174,7 +175,7 @@ class DifferencesTest(unittest.TestCase):
         self.assertTrue(compare(runs, BOTH).is_alike)
 
     def test_addresses_of_the_library_are_not_compared(self) -> None:
-        other = ("get blocks job:0 :btl.tcp.5 -", "0 text:a")
+        other = ("get blocks job:0 :btl.tcp.5.0 -", "0 text:a")
         runs = [make_run([[self.published], [other]]), make_run([[self.published], []])]
         self.assertEqual([], list(compare(runs, ()).partings))
 
@@ -212,6 +213,16 @@ class DifferencesTest(unittest.TestCase):
         root = Tape(0).call("receive 1 any 7", "0 2 7 4 wait").call("receive 1 1 7", "0 1 7 4 wait")
         swaps = find_swaps(make_traces([root, first, second]))
         self.assertEqual(["app:2 send 1 0 7 after app:1"], [str(it) for it in swaps])
+
+
+class LostTest(unittest.TestCase):
+    """Runs that are recorded in part."""
+
+    def test_what_a_recorder_says(self) -> None:
+        said = b"out\nwire_up-record: /a/b.recording: no room; what follows isn't recorded\nout\n"
+        with self.assertRaisesRegex(Refused, "b.recording: no room; what follows isn't recorded$"):
+            refuse_lost("/", said)
+        refuse_lost("/", b"out\n")
 
 
 class ServerTest(unittest.TestCase):
@@ -357,6 +368,16 @@ class CommandTest(unittest.TestCase):
             "# Recorded by wire_up-record\n# Tried by: a?b\nrehearsal 1\n# at a\n",
             insert_in_head(text, ["# Tried by: a\tb"]),
         )
+
+    def test_head_where_an_order_is_not_imposed(self) -> None:
+        each = f"# {EACH_RUN_SENTENCE}\n"
+        for line, left in (
+            ("# Turned round on 2026-11-30: app:0 1 publish, ..", ""),
+            ("# Turned round on 2026-11-30, turned-alike: app:0 1 publish, ..", each),
+            ("# Turned round in vain on 2026-11-30: 1 of 2 pairs", each),
+        ):
+            made = insert_in_head(f"# Recorded\n{each}rehearsal 1\n", [line])
+            self.assertEqual(f"# Recorded\n{left}{line}\nrehearsal 1\n", made)
 
 
 if __name__ == "__main__":

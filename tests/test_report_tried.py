@@ -83,9 +83,11 @@ class TriedTest(unittest.TestCase):
 
     def test_orders(self) -> None:
         in_vain = "# Turned round in vain on 2026-11-30: 12 of 13 pairs\n"
+        every = "# Turned round in vain on 2026-11-30: 2 of 2 pairs, all that the plan orders\n"
         said = "12 orders of 13 that were turned round in the program on 2026-11-30 held"
         for head, badge, found in (
             ((in_vain,), "no race", said),
+            ((every,), "no race", "the later call never came first. These are all that the plan"),
             ((in_vain, TURNED), "in part", "an order that the plan has isn"),
         ):
             self.write("told", *head)

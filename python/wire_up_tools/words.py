@@ -55,6 +55,7 @@ TRIED_IN_HEAD = {
 }
 TRIED_BY = "Tried by: "
 TURNED_ROUND, TURNED_IN_VAIN = "Turned round on", "Turned round in vain on"
+ALL_PAIRS = "all that the plan orders"
 TRIED_STOPPED = "Trying was stopped on"
 # How the line of the head begins that says that no order of MPI is known.
 WITHOUT_MPI = "MPI's order isn't recorded"

@@ -17,7 +17,7 @@ use Rattle.wire_pattern.specs.Pattern.{Pattern}
 use Rattle.wire_pattern.specs.Lawful.{IsSound}
 use Rattle.wire_pattern.specs.Instances.{Cast, IsCast, instance_text}
 use Rattle.wire_sweep_laws.specs.Promised.{IsSettledForAll, HasOneEndForAll}
-use Rattle.wire_reply_laws.specs.Promised.{IsAnsweredForAll}
+use Rattle.wire_reply_laws.specs.Promised.{IsAnsweredForAll, AreTextsAnswered}
 use Rattle.wire_pattern_waits.specs.declared.lines.CallLine.{CallLine}
 use Rattle.wire_pattern_waits.specs.Lines.{waits_text}
 use Rattle.wire_pattern_waits.specs.Waits.{AreWaiting, AllRead, AllReplied}
@@ -85,8 +85,8 @@ settled_end asked everywhere succeeding lines answers =
 
 -- it is said that nothing is found, where something waits in the instances that are judged, which all read as plans, and
 -- if that is asked for how each get-now is answered. If nothing waits, each call of these instances has its reply; if it is
--- said that every call is answered for every number of ranks, it is so; and with `complete` the end tells whether each call
--- of the instances that are judged succeeds
+-- said that every call is answered for every number of ranks, it is so, and in the plans that the texts of instances read
+-- as; and with `complete` the end tells whether each call of the instances that are judged succeeds
 pub record IsSettledSaid (p : Pattern) (asked : PatternAsked) (text : List ℕ) (ended : Ended) : Type 0 where
   pub lines : List CallLine
   pub waiting : AreWaiting p lines
@@ -94,6 +94,7 @@ pub record IsSettledSaid (p : Pattern) (asked : PatternAsked) (text : List ℕ) 
   pub replied : lines ≡ [] → AllReplied p
   pub everywhere : Bool
   pub answered_for_all : everywhere ≡ true → IsAnsweredForAll p
+  pub texts_answered : everywhere ≡ true → AreTextsAnswered p
   pub succeeding : Bool
   pub told : asked.complete && everywhere ≡ true → IsSuccessTold p succeeding
   pub answers : List LineAnswers

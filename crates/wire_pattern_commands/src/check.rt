@@ -34,7 +34,7 @@ use wire_pattern::Pattern;
 use wire_pattern_answers::{LineAnswers, find_answers, write_answers};
 use wire_pattern_stages::stages_of;
 use wire_pattern_waits::{CallLine, waiting_lines, write_waits};
-use wire_reply_laws::laws::all_answered;
+use wire_reply_laws::laws::{all_answered, texts_answered};
 use wire_report::{push_count, push_finding};
 use wire_sweep::laws::texts_settled;
 use wire_sweep::{Counterexample, judge_pattern};
@@ -302,6 +302,7 @@ fn answer_settled(alloc: Global, pattern: &Pattern, asked: PatternAsked) -> Resu
     ensures err { IfErr result (λ e. IsJudgeFault pattern.now e) }
 {
     all_answered();
+    texts_answered();
     note_sound(pattern);
     let lines = waiting_lines(alloc, pattern)?;
     let everywhere = is_answered(alloc, pattern, lines.as_slice())?;

@@ -20,7 +20,9 @@ WORDS = {start: word for word, start in words.TRIED_IN_HEAD.items()}
 STARTS = "|".join(map(re.escape, WORDS))
 CALLS = r"race (\S+ \d+) (\S+ \d+) (?:name \S+|key \S+ \S+)"
 TRIED = re.compile(rf"({STARTS}) on (\S+): {CALLS}: (.+)")
-IN_VAIN = re.compile(rf"{words.TURNED_IN_VAIN} (\S+): (\d+) of (\d+) pairs")
+IN_VAIN = re.compile(
+    rf"{words.TURNED_IN_VAIN} (\S+): (\d+) of (\d+) pairs(, {words.ALL_PAIRS})?"
+)
 TURNED = re.compile(rf"{words.TURNED_ROUND} [\d-]+: (.+)")
 # How the end of a race is told that ended otherwise in both orders.
 ENDED_OTHERWISE = re.compile(r"; ended .+ and .+$")
@@ -76,7 +78,8 @@ def say_in_vain(plan: Plan) -> list[str]:
     found = map(IN_VAIN.fullmatch, plan.declared.head if plan.is_recorded else ())
     return [
         f"{count_of(int(it[2]), 'order')} of {it[3]} that were turned round in the program on "
-        f"{it[1]} held: one of its calls stood where the plan has it wait."
+        f"{it[1]} held: the later call never came first."
+        + f" These are {words.ALL_PAIRS}." * bool(it[4])
         for it in found
         if it
     ]

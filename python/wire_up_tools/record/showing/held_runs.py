@@ -1,5 +1,6 @@
 """Runs a command again, with some calls held."""
 import os
+import re
 import signal
 import subprocess
 import time
@@ -7,6 +8,7 @@ from collections.abc import Mapping, Sequence
 from dataclasses import dataclass, field
 from typing import Optional
 
+from wire_up_tools.failures import Refused
 from wire_up_tools.record.running import HANDED_ON, NOT_RUN, NotRun, make_environment
 from wire_up_tools.record.showing.holds import Course, Holds, write_holds
 from wire_up_tools.record.showing.motion import Motion
@@ -18,6 +20,9 @@ from wire_up_tools.run.ending import ends_within, find_status, kill_one, list_le
 # How often the launcher is looked at, and how long it may take to end, in seconds.
 TICK, END_SECONDS = 0.02, 5.0
 OUTPUT = "output"
+# How recorders say that they can't write, and how many bytes they need for some more records.
+LOST = re.compile(rb"wire_up-record: .*(?:isn't recorded|nothing is recorded)")
+LEAST_ROOM = 1 << 16
 
 
 @dataclass(frozen=True)
@@ -107,6 +112,17 @@ def launch(session: Session, folder: str) -> "subprocess.Popen[bytes]":
             raise NotRun(f"{session.command[0]}: {why.strerror}", NOT_RUN) from None
 
 
+def refuse_lost(folder: str, output: bytes) -> None:
+    """Raises Refused where a recorder said that it couldn't write, or has no room to say so: a run
+    that is recorded in part differs from another by that."""
+    said = LOST.search(output)
+    if said:
+        raise Refused(said[0].decode("ascii", "replace"))
+    room = os.statvfs(folder)
+    if room.f_bavail * room.f_frsize < LEAST_ROOM:
+        raise Refused(f"{folder}: no room for the recordings of runs")
+
+
 def run_held(session: Session, holds: Holds, name: str) -> HeldRun:
     """Runs the command with some calls held, in a folder of this name. Raises Refused, NotRun,
     OSError."""
@@ -124,5 +140,6 @@ def run_held(session: Session, holds: Holds, name: str) -> HeldRun:
     seconds = time.monotonic() - began
     with open(os.path.join(folder, OUTPUT), "rb") as it:
         output = it.read()
+    refuse_lost(folder, output)
     traces = read_traces(folder)
     return HeldRun(holds, folder, status, seconds, server.courses, traces, output)

@@ -32,7 +32,14 @@ from wire_up_tools.record.showing.turning import (
 from wire_up_tools.report.asking import Asker, stream_lines
 from wire_up_tools.report.causes import find_causes
 from wire_up_tools.report.findings import Finding, Kind, find_groups
-from wire_up_tools.words import TRIED_STOPPED, TURNED_IN_VAIN, TURNED_ROUND
+from wire_up_tools.words import (
+    ALL_PAIRS,
+    EACH_RUN,
+    EACH_RUN_SENTENCE,
+    TRIED_STOPPED,
+    TURNED_IN_VAIN,
+    TURNED_ROUND,
+)
 
 NO_RACE = "no race"
 # How many runs a race takes, without those for messages of any source or the witness's orders.
@@ -106,29 +113,43 @@ def try_races(trial: Trial, races: Sequence[Race], result: Result, say: Say) -> 
 # --- orders that are turned round ---
 
 
-def take_pairs(trial: Trial, asked: Asked, say: Say) -> list[Pair]:
-    """The pairs that are turned round: at most so many. Raises Refused."""
+def take_pairs(trial: Trial, asked: Asked, say: Say) -> tuple[list[Pair], bool]:
+    """The pairs that are turned round, at most so many; and whether these are all. Raises
+    Refused."""
     pairs = find_pairs(trial, ASK)
     found = list(itertools.islice(pairs, asked.most))
-    if next(pairs, None):
+    are_all = next(pairs, None) is None
+    if not are_all:
         say(f"the plan orders more than {asked.most} pairs: {asked.most} are turned round (--most)")
     if asked.turn_waits:
         found += itertools.islice(
             (it for it in find_pairs(trial, WAIT) if it[1].verb in WAIT), asked.turn_waits
         )
-    return found
+    return found, are_all
 
 
-def say_turns(turns: Sequence[Turn], say: Say) -> list[str]:
-    """Says what came of all pairs, and answers the lines for the head."""
+def say_kept(trial: Trial, kept: int, count: int, are_all: bool, say: Say) -> str:
+    """Says how many of so many orders were kept, and answers the line for the head. Where these are
+    all, and each run makes the calls of the plan, it says so more strongly."""
+    is_whole = are_all and kept == count
+    of_all = f", {ALL_PAIRS}" if is_whole else ""
+    if is_whole and EACH_RUN_SENTENCE in trial.plan.declared.head:
+        say(f"{EACH_RUN}; and it kept each of the {count} orders that could change them")
+    else:
+        say(f"{kept} of {count} orders were turned round in vain: the program keeps them")
+    return f"# {TURNED_IN_VAIN} {tell_day()}: {kept} of {count} pairs{of_all}"
+
+
+def say_turns(trial: Trial, turns: Sequence[Turn], are_all: bool, say: Say) -> list[str]:
+    """Says what came of all pairs, and answers the lines for the head. `are_all`: the plan orders
+    no other pairs."""
     kept = sum(it.word == KEPT for it in turns)
     alarms = [it for it in turns if it.word == TURNED]
     others = [it for it in turns if it.word in (TURNED_ALIKE, GAVE_UP)]
     head = [f"# {TURNED_ROUND} {tell_day()}: {sum_up_turn(it)}" for it in alarms]
     head += [f"# {TURNED_ROUND} {tell_day()}, {it.word}: {sum_up_turn(it)}" for it in others]
     if kept:
-        head.append(f"# {TURNED_IN_VAIN} {tell_day()}: {kept} of {len(turns)} pairs")
-        say(f"{kept} of {len(turns)} orders were turned round in vain: the program keeps them")
+        head.append(say_kept(trial, kept, len(turns), are_all, say))
     if alarms:
         say(
             f"{len(alarms)} of {len(turns)} orders aren't imposed, and calls are answered "
@@ -140,8 +161,8 @@ def say_turns(turns: Sequence[Turn], say: Say) -> list[str]:
 def turn_all(trial: Trial, first: Material, asked: Asked, result: Result, say: Say) -> None:
     """Turns the orders of a plan round, and says what came of each. Raises Refused, NotRun,
     OSError."""
-    pairs, turns = take_pairs(trial, asked, say), list[Turn]()
-    groups = list(group_pairs(pairs))
+    pairs, are_all = take_pairs(trial, asked, say)
+    groups, turns = list(group_pairs(pairs)), list[Turn]()
     if not pairs:
         say("the plan orders no pair of calls that could be answered otherwise")
         return
@@ -155,7 +176,7 @@ def turn_all(trial: Trial, first: Material, asked: Asked, result: Result, say: S
                 for line in say_turn(turn):
                     say(line)
     finally:
-        result.head += say_turns(turns, say)
+        result.head += say_turns(trial, turns, are_all and len(turns) == len(pairs), say)
 
 
 # --- all ---
