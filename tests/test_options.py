@@ -41,12 +41,12 @@ class OptionsTest(unittest.TestCase):
 
     def test_help_and_version(self) -> None:
         """Where nothing else stands."""
-        for words in (["-V"], ["--version"]):
-            self.assertEqual(answer_alone(words, "name", "help"), f"name {VERSION}\n")
-        for words in (["-h"], ["--help"]):
-            self.assertEqual(answer_alone(words, "name", "help"), "help")
-        for words in ([], ["-V", "-V"], ["a", "--help"]):
-            self.assertIsNone(answer_alone(words, "name", "help"))
+        for asked in (["-V"], ["--version"]):
+            self.assertEqual(answer_alone(asked, "name", "help"), f"name {VERSION}\n")
+        for asked in (["-h"], ["--help"]):
+            self.assertEqual(answer_alone(asked, "name", "help"), "help")
+        for others in (["-V", "-V"], ["a", "--help"]):
+            self.assertIsNone(answer_alone(others, "name", "help"))
 
     def test_the_version(self) -> None:
         """It is that of the program."""
