@@ -87,7 +87,10 @@ class RefusalsTest(CommandCase):
         self.refuse_line("one plan at a time", EARLY, EARLY)
 
     def test_an_option_after_the_plan(self) -> None:
-        self.refuse_line("one plan at a time", EARLY, "--text")
+        """It is one there too."""
+        self.refuse_line("one plan at a time", EARLY, "--text", EARLY)
+        said = report_support.run_report(EARLY, "--text")
+        self.assertEqual(said.stdout, report_support.run_report("--text", EARLY).stdout)
 
     def test_an_option_twice(self) -> None:
         self.refuse_line("-o stands twice", "-o", self.kept, "-o", self.kept, EARLY)

@@ -5,6 +5,7 @@ from typing import Optional
 
 from wire_up_tools.failures import Refused
 from wire_up_tools.limits import VERSION_1, Limits
+from wire_up_tools.record.applications import note_applications
 from wire_up_tools.record.draft import Draft, Part, Step, make_draft, walk
 from wire_up_tools.record.floating import drop_floating
 from wire_up_tools.record.meetings import Sets
@@ -150,4 +151,5 @@ def make_whole_plan(recordings: Sequence[Recording], choices: Choices) -> Plan:
         mpi = summarize(order)
     draft = make_draft(processes, parts)
     refuse_waiting(draft)
+    note_applications(draft, calls.part, notes)
     return Plan(choices, processes, spelling, draft, notes, mpi)
