@@ -62,6 +62,7 @@ COMPILED = {
         )
         for name in ("event_x", "mca_common_x")
     },
+    "told-sanitized": ("mpicc", "-fsanitize=address", "told.c"),
     "mixed": ("mpifort", "-J{folder}", "mixed.c", "mixed_parts.f90"),
     "fortran": ("mpifort", "-J{folder}", "fortran.f90"),
     "duplicate": ("mpifort", "-J{folder}", "duplicate.f90"),

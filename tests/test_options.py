@@ -1,9 +1,11 @@
 """Tests how options are read, and what is said of those that are wrong."""
+import os
 import unittest
 
 import support
+from wire_up_tools import VERSION
 from wire_up_tools.failures import Unusable
-from wire_up_tools.options import Option, Parser, describe
+from wire_up_tools.options import Option, Parser, answer_alone, describe
 
 assert support.TOP, "it says where the package is"
 
@@ -20,7 +22,37 @@ class OptionsTest(unittest.TestCase):
     def test_options(self) -> None:
         found = Parser(OPTIONS).read(["-o", "-", "--loud", "a", "--loud", "--", "b"])
         self.assertEqual((found.o, found.keep_all, found.loud), ("-", None, True))
-        self.assertEqual(found.rest, ["a", "--loud", "--", "b"])
+        self.assertEqual(found.rest, ["a", "--", "b"])
+
+    def test_options_after_words(self) -> None:
+        """They mean the same there, up to two hyphens, and each has its own word."""
+        found = Parser(OPTIONS).read(["a", "-o", "b", "c", "--loud", "--", "--keep-all"])
+        self.assertEqual((found.o, found.keep_all, found.loud), ("b", None, True))
+        self.assertEqual(found.rest, ["a", "c", "--", "--keep-all"])
+        with self.assertRaisesRegex(Unusable, "-o needs a file"):
+            Parser(OPTIONS).read(["a", "-o"])
+
+    def test_tasks(self) -> None:
+        """The first has the words behind it, and then those before it."""
+        words = ["a", "--show", "b", "--loud", "--tell", "c", "-o", "d"]
+        found = Parser(OPTIONS, ("--show", "--tell")).read(words)
+        self.assertEqual((found.o, found.loud), ("d", True))
+        self.assertEqual((found.show, found.rest), (["b", "--tell", "c", "a"], []))
+
+    def test_help_and_version(self) -> None:
+        """Where nothing else stands."""
+        for asked in (["-V"], ["--version"]):
+            self.assertEqual(answer_alone(asked, "name", "help"), f"name {VERSION}\n")
+        for asked in (["-h"], ["--help"]):
+            self.assertEqual(answer_alone(asked, "name", "help"), "help")
+        for others in (["-V", "-V"], ["a", "--help"]):
+            self.assertIsNone(answer_alone(others, "name", "help"))
+
+    def test_the_version(self) -> None:
+        """It is that of the program."""
+        path = os.path.join(support.TOP, "crates", "wire_command_line", "src", "commands.rt")
+        with open(path, encoding="utf-8") as it:
+            self.assertIn(f'const VERSION: &str = "{VERSION}";', it.read())
 
     def test_the_end_of_options(self) -> None:
         self.assertEqual(Parser(OPTIONS).read(["--", "--loud", "--"]).rest, ["--loud", "--"])
@@ -46,8 +78,9 @@ class OptionsTest(unittest.TestCase):
     def test_describe(self) -> None:
         self.assertEqual(
             describe(OPTIONS[1:]),
-            "  --keep-all FOLDER keeps all\n"
+            "  --keep-all FOLDER  keeps all\n"
             "  --loud           says more\n"
+            "  -V, --version    shows the version\n"
             "  -h, --help       shows this\n",
         )
 

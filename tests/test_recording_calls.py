@@ -398,6 +398,28 @@ class CallsTest(unittest.TestCase):
                     plan = write_plan_of([first, second])
                     self.assertEqual(said in plan, is_other and not is_kept)
 
+    def test_a_name_whose_application_is_still_there(self) -> None:
+        """A process of it meets the other, or hears of it, after the lookup: but not before."""
+        both = ("fence blocks job:0,more:0 -", "0")
+        looked = ("lookup blocks :n -", "0 n=text:v")
+        told = ("publish blocks m=text:v pmix.persist=number:1:0", "0")
+        heard = ("lookup blocks :m pmix.wait=number:1:1", "0 m=text:v")
+        ways: list[tuple[list[Recorded], list[Recorded], bool]] = [
+            ([both], [looked, both], False),
+            ([both], [both, looked], True),
+            ([heard], [looked, told], False),
+            ([heard], [told, looked], True),
+        ]
+        for own, other, is_said in ways:
+            with self.subTest(own, other=other):
+                first, second = Tape(0).call("publish blocks n=text:v -"), Tape(0, "more")
+                for call in own:
+                    first.call(*call)
+                for call in other:
+                    second.call(*call)
+                plan = write_plan_of([first, second])
+                self.assertEqual("1 names that go away with their application" in plan, is_said)
+
     def test_what_the_library_tells_of_a_process(self) -> None:
         """Its application, and its node, which its system may call otherwise."""
         first = Tape(0).say("application 0").say("node n0").call("publish blocks n=text:v -")

@@ -1,11 +1,14 @@
 """Tests the command line of the recorder, for which it needn't be built."""
 import os
 import re
+import shutil
 import stat
+import sys
 import tempfile
 import unittest
 
 import support
+from support import TOP
 from tapes import (
     COMMAND,
     PROGRAMS,
@@ -17,7 +20,9 @@ from tapes import (
     read_scripts,
     write_file,
 )
+from wire_up_tools import VERSION
 from wire_up_tools.record.command_line import OPTIONS
+from wire_up_tools.record.running import OF_PMIX, find_library
 
 
 class RoomTest(unittest.TestCase):
@@ -104,6 +109,52 @@ class CommandLineTest(RoomTest):
         self.use(["-o", no_place, "--from", self.good], 125, "No such file")
         self.use(["-o", "/dev/full", "--from", self.good], 125, "No space left")
         self.use(["-o", self.room, "--from", self.good], 125, "Is a directory")
+
+    def test_where_the_plan_of_a_command_goes(self) -> None:
+        """It is tried before the command runs, and nothing is left there."""
+        ran = os.path.join(self.room, "ran")
+        no_place = os.path.join(self.room, "no", "plan")
+        refused = {self.room: "Is a directory", "/dev/full": "No space left", no_place: "No such"}
+        for path, said in refused.items():
+            for words in (["-o", path], ["-o", self.plan, "--answers", path]):
+                self.refuse_before(words, ran, f"wire_up-record: {path}: {said}")
+        self.assertEqual([it for it in os.listdir("/dev") if "wire_up" in it], [])
+        self.assertEqual(os.listdir(self.room), ["good.recording"])
+
+    def refuse_before(self, words: list[str], touched: str, said: str) -> None:
+        """Tests that a command isn't run, and what is said."""
+        if not find_library(TOP, OF_PMIX):
+            self.skipTest("the recorder isn't built")
+        self.use([*words, "touch", touched], 125, said)
+        self.assertFalse(os.path.exists(touched))
+
+    def test_options_after_recordings(self) -> None:
+        """They mean the same there; behind a command they are the command's."""
+        self.use(["--from", self.good, "-o", self.plan], 0)
+        self.use(["--from", self.good, "--from", self.good, "-o"], 125, "-o needs a file")
+        self.use(["true", "-o", self.plan], 125, "-o PLAN says where")
+        self.assertTrue(os.path.exists(self.plan))
+
+    def test_version(self) -> None:
+        """Each command tells that of the program."""
+        for name in ("record", "report", "run"):
+            path = os.path.join(TOP, f"wire_up-{name}")
+            for option in ("-V", "--version"):
+                ran = ask_program(sys.executable, path, option)
+                self.assertEqual((ran.returncode, ran.stderr), (0, ""))
+                self.assertEqual(ran.stdout, f"wire_up-{name} {VERSION}\n")
+
+    def test_a_signal_before_the_command_has_begun(self) -> None:
+        """While its parts are read, one line says so."""
+        for name in ("record", "report", "run"):
+            room = os.path.join(self.room, name)
+            package = os.path.join(room, "python", "wire_up_tools", name)
+            os.makedirs(package)
+            shutil.copy(os.path.join(TOP, f"wire_up-{name}"), room)
+            write_file(os.path.join(package, "command_line.py"), b"raise KeyboardInterrupt\n")
+            ran = ask_program(sys.executable, os.path.join(room, f"wire_up-{name}"))
+            self.assertEqual(ran.returncode, 130)
+            self.assertEqual(ran.stderr, f"wire_up-{name}: interrupted\n")
 
     def test_a_link_is_replaced(self) -> None:
         link = os.path.join(self.room, "link")

@@ -383,6 +383,19 @@ class OtherWaysTest(LiveTest):
                 self.assertIn(OTHERWISE_ALONE if is_alone else OTHERWISE_AFTER, head)
                 self.assertEqual("another run may do otherwise" not in ran.stderr, is_alone)
 
+    def test_a_program_with_address_sanitizer(self) -> None:
+        """It starts, though the recorder comes before the sanitizer's library, and the options that
+        are chosen for that are kept."""
+        try:
+            path = self.compile("told-sanitized")
+        except subprocess.CalledProcessError:
+            self.skipTest("there is no AddressSanitizer")
+        without_leaks = {**ENVIRONMENT, "ASAN_OPTIONS": "detect_leaks=0"}
+        words = ["--checker", "/bin/false", "-o", self.plan]
+        ran = run_recorder(*words, *mpirun(2, path), environment=without_leaks)
+        self.assertEqual((ran.returncode, ran.stderr), (0, ""))
+        self.assertIn("\nlookup solver\n", read_file(self.plan))
+
     def test_functions_that_are_looked_up(self) -> None:
         self.hold("looked-up")
 

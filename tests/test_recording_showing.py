@@ -167,14 +167,17 @@ class TurnedTest(ShowingCase):
         self.hold("kept", r"kept .*: app:1 stood in a receive from 0, tag 0 for", 2, "told")
         said = r"(?m)^# Turned round in vain on \S+: 1 of 1 pairs, all that the plan orders$"
         self.assertRegex(read_file(self.plan), said)
-        self.hold("kept", "each of the 2 orders|2 of 2 orders were turned", 4, "names")
+        self.hold("kept", "orders that .*: 2 of 2", 4, "names")
 
     def test_orders_by_luck(self) -> None:
         said = r"app:0 \d+ lookup: PMIX_SUCCESS port \| PMIX_ERR_NOT_FOUND"
         self.hold("turned", said, 2, "cases", "poll")
         self.assertRegex(read_file(self.plan), r"(?m)^# Turned round on \S+: app:1 \d+ publish, ")
-        for processes, word in ((2, "cancelled"), (3, "several"), (2, "asked")):
-            self.hold("turned", "doesn't hold for every run", processes, "luck", word)
+        self.hold("turned", "doesn't hold for every run", 3, "luck", "several")
+
+    def test_an_order_that_a_loop_of_polls_keeps(self) -> None:
+        """--strict takes nothing from such polls, and finds a race."""
+        self.hold("kept", "stood in a receive from 1, tag 0", 2, "luck", "asked")
 
 
 class CommandTest(ShowingCase):

@@ -18,13 +18,14 @@ from wire_up_tools.plan_reading import read_plan
 from wire_up_tools.run import channels, fake_nodes, launchers, ranks, turns
 from wire_up_tools.run.answers import Case, Seen, write_junit
 from wire_up_tools.run.channels import Channel
-from wire_up_tools.run.expected import read_order
+from wire_up_tools.run.expected import Expected, read_order
 from wire_up_tools.run.launchers import Kind, Launcher, Start
+from wire_up_tools.run.libraries.traits import LIBRARIES
 from wire_up_tools.run.live import Outcome
 from wire_up_tools.run.profile import BY_LABEL, ProfileRule
-from wire_up_tools.run.reports import compare, read_report
+from wire_up_tools.run.reports import Difference, Place, compare, read_report
 from wire_up_tools.run.suite import Kind as Verdicts
-from wire_up_tools.run.suite import SuitePlan, Verdict
+from wire_up_tools.run.suite import SuitePlan, Verdict, is_predicted, read_suite
 from wire_up_tools.run.suite_answers import (
     SuiteResult,
     list_suite_cases,
@@ -252,6 +253,32 @@ class SuiteAnswers(unittest.TestCase):
         states = [it.split()[:2] for it in lines if it.split()[1] in BY_LABEL]
         wanted = ["kept get-own", "not-kept lookup", "not-run unpublish", "unsteady map"]
         self.assertEqual(wanted, sorted(" ".join(it) for it in states))
+        counts = {it.split()[1]: " ".join(it.split()[2:6]) for it in lines}
+        self.assertEqual("1 of 1 plans:", counts["get-own"])
+        self.assertEqual("1 of 2 plans:", counts["lookup"])
+
+    def test_plans_whose_replies_depend_on_timing(self) -> None:
+        """What a known rule calls unsteady is explained, whichever reply came; else the reply
+        must be the one that is known."""
+        plan = next(it for it in read_suite() if it.name == "later-key-other-node")
+        rules = read_report(
+            "app:0 1 put PMIX_SUCCESS\napp:0 2 commit PMIX_SUCCESS\napp:0 3 fence PMIX_SUCCESS\n"
+            "app:0 4 put PMIX_SUCCESS\napp:0 5 commit PMIX_SUCCESS\napp:1 1 fence PMIX_SUCCESS\n"
+            "app:1 2 get PMIX_SUCCESS 2\n"
+        )
+        expected = Expected(rules)
+        known = LIBRARIES["openpmix-4.2"]
+        cases = (
+            ("app:1 2 get", ("PMIX_ERR_NOT_FOUND", "PMIX_ERR_TIMEOUT"), True),
+            ("app:1 1 fence", ("PMIX_ERR_NOT_FOUND",), False),
+        )
+        for call, replies, is_known in cases:
+            for reply in replies:
+                with self.subTest(call, reply=reply):
+                    place = Place(call.split()[0], int(call.split()[1]), call.split()[2])
+                    differs = [Difference(place, "PMIX_SUCCESS", reply)]
+                    seen = Seen(Outcome(rules, "Library 1"), 1, differs)
+                    self.assertEqual(is_known, is_predicted(plan, expected, seen, known))
 
     def test_table(self) -> None:
         """A table says again what was written; what couldn't be run isn't in it."""

@@ -1,7 +1,10 @@
 """Writes files: whole or not at all, or as they are."""
 import contextlib
+import errno
 import os
+import stat
 import sys
+import tempfile
 from collections.abc import Iterator, Sequence
 
 STANDARD_OUTPUT = "-"
@@ -37,6 +40,22 @@ def write_whole(path: str, text: str) -> None:
                 to.write(data)
         else:
             replace_file(path, data)
+
+
+def try_to_write(path: str) -> None:
+    """Finds out whether a text can be written to a path, and changes nothing. Raises OSError, with
+    the path, where it can't: for a folder, a file in a folder that isn't there or can't be changed,
+    and a device that takes nothing."""
+    with naming(path):
+        if os.path.isdir(path):
+            raise IsADirectoryError(errno.EISDIR, os.strerror(errno.EISDIR))
+        if stat.S_ISCHR(os.stat(path).st_mode) if os.path.exists(path) else False:
+            with open(path, "wb", buffering=0) as to:
+                to.write(b"")
+        elif not os.path.exists(path) or os.path.isfile(path):
+            folder = os.path.dirname(os.path.abspath(path))
+            with tempfile.TemporaryFile(dir=folder):
+                pass
 
 
 def write_out(data: bytes) -> None:

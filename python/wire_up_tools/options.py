@@ -1,9 +1,11 @@
 """Reads the options of a command line, and says what is wrong with them."""
 import argparse
-from collections.abc import Sequence
+import itertools
+from collections.abc import Iterator, Sequence
 from dataclasses import dataclass
 from typing import NoReturn, Optional, Union
 
+from wire_up_tools import VERSION
 from wire_up_tools.failures import Unusable
 
 # What the words are called that options take.
@@ -55,10 +57,14 @@ class Once(argparse.Action):
 
 
 class Parser(argparse.ArgumentParser):
-    """Options, and after them the words that are found under `rest`."""
+    """Options, and other words before or after them that are found under `rest`. Each of `tasks` is
+    an option that takes those behind it."""
 
-    def __init__(self, options: Sequence[Option]) -> None:
+    def __init__(self, options: Sequence[Option], tasks: Sequence[str] = ()) -> None:
         super().__init__(add_help=False, allow_abbrev=False, exit_on_error=False)
+        self.tasks = tasks
+        for task in tasks:
+            self.add_argument(task, nargs=argparse.REMAINDER)
         self.words = {it.name: it.word for it in options if it.word}
         for it in options:
             if it.word:
@@ -71,8 +77,36 @@ class Parser(argparse.ArgumentParser):
         """Raises Unusable in place of ending the program."""
         raise Unusable(message)
 
+    def sort(self, words: Sequence[str]) -> list[str]:
+        """The words with the options first, up to two hyphens. Then come the first task, what
+        stands behind it, and what stood before it. Raises Unusable for an option without its
+        word."""
+        options: list[str] = []
+        before: list[str] = []
+        behind: list[str] = []
+        left = iter(words)
+        for word in left:
+            others: list[str] = behind if behind or word in self.tasks else before
+            if word == END:
+                others += [word, *left]
+            elif word in self.tasks or word == STANDARD_STREAM or not word.startswith("-"):
+                others.append(word)
+            else:
+                options += [word, *self.take_word(word, left)]
+        return [*options, *behind, *before]
+
+    def take_word(self, option: str, left: Iterator[str]) -> list[str]:
+        """The word of an option, if it takes one. Raises Unusable where none is left."""
+        if option not in self.words:
+            return []
+        found = [*itertools.islice(left, 1)]
+        if not found:
+            raise Unusable(self.explain([], option))
+        return found
+
     def read(self, words: Sequence[str]) -> argparse.Namespace:
         """Reads a command line. Raises Unusable, with what is wrong with it."""
+        words = self.sort(words)
         try:
             found, unknown = self.parse_known_args(words)
         except argparse.ArgumentError as why:
@@ -94,7 +128,16 @@ class Parser(argparse.ArgumentParser):
         return f"{written} is no option"
 
 
+def answer_alone(words: Sequence[str], name: str, help_text: str) -> Optional[str]:
+    """What a program of this name writes that is asked for nothing but its help or its version;
+    None where it is asked for something else."""
+    if list(words) in (["-h"], ["--help"]):
+        return help_text
+    return f"{name} {VERSION}\n" if list(words) in (["-V"], ["--version"]) else None
+
+
 def describe(options: Sequence[Option]) -> str:
-    """The rows of a help that say what options mean, and that the help is one."""
-    rows = [*((it.written, it.meaning) for it in options), ("-h, --help", "shows this")]
+    """The rows of a help that say what options mean, and that the help and the version are two."""
+    alone = (("-V, --version", "shows the version"), ("-h, --help", "shows this"))
+    rows = [*((it.written, it.meaning) for it in options), *alone]
     return "".join(f"  {option:<15}  {meaning}\n" for option, meaning in rows)

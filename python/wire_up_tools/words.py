@@ -46,6 +46,8 @@ OWN_CODE = (
 LEFT_TO_LUCK = "ends of requests that another run may have found open"
 TAKEN = "their order is taken all the same, and --strict takes nothing from them"
 VERDICTS = "Verdicts: "
+# The title of the races that are found with --strict alone, by their calls in the plan.
+STRICT_ALONE = "Found with --strict alone:"
 # How the lines of the head begin that say what came of a race which was tried in the program, by
 # the word for that; which command tried it; and what came of orders that were turned round.
 TRIED_IN_HEAD = {

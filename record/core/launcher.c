@@ -13,7 +13,7 @@
 
 /* The variable that names others to hand on, and its value where it is the recorder's own. */
 #define LIST "OMPI_MCA_mca_base_env_list"
-#define OWN_LIST "LD_PRELOAD;WIRE_UP_RECORD"
+#define OWN_LIST "LD_PRELOAD;WIRE_UP_RECORD;ASAN_OPTIONS"
 
 bool is_command(const char *command)
 {
@@ -52,20 +52,21 @@ static bool has_option(int count, char **words, const char *option)
  * with options in its place; so does a launcher that doesn't know the variable. */
 __attribute__((constructor)) static void hand_on_by_options(int count, char **words)
 {
-    static char option[] = "-x", preload[] = "LD_PRELOAD", folder[] = "WIRE_UP_RECORD";
+    static char option[] = "-x";
+    static char *const own[] = {"LD_PRELOAD", "WIRE_UP_RECORD", "ASAN_OPTIONS"};
+    const size_t more = 2 * sizeof own / sizeof *own;
     bool is_due = is_launcher_of_prrte() ||
                   (is_launcher_of_open_mpi() && has_option(count, words, option));
     bool is_launched = getenv("PMIX_NAMESPACE") != NULL;
     if (!is_due || is_launched || !has_own_list())
         return;
-    char **longer = calloc((size_t)count + 5, sizeof *longer);
+    char **longer = calloc((size_t)count + more + 1, sizeof *longer);
     if (!longer)
         return;
     longer[0] = words[0];
-    longer[1] = longer[3] = option;
-    longer[2] = preload;
-    longer[4] = folder;
-    memcpy(longer + 5, words + 1, (size_t)(count - 1) * sizeof *longer);
+    for (size_t n = 0; n < more; n++)
+        longer[1 + n] = n % 2 ? own[n / 2] : option;
+    memcpy(longer + 1 + more, words + 1, (size_t)(count - 1) * sizeof *longer);
     unsetenv(LIST);
     execve("/proc/self/exe", longer, environ);
     free(longer);

@@ -1,5 +1,4 @@
 """The command line of the recorder: its options, its help, and its statuses."""
-import argparse
 import os
 import re
 import signal
@@ -9,7 +8,14 @@ from types import FrameType
 from typing import Optional
 
 from wire_up_tools.failures import Refused, Unusable, explain
-from wire_up_tools.options import Option, Parser, describe
+from wire_up_tools.options import (
+    END,
+    STANDARD_STREAM,
+    Option,
+    Parser,
+    answer_alone,
+    describe,
+)
 from wire_up_tools.record.running import BY_SIGNAL, HANDED_ON, NotRun, Stopped
 from wire_up_tools.record.showing.asking import OPTIONS as OF_SHOWING
 from wire_up_tools.record.showing.asking import read_asked, refuse_input
@@ -24,7 +30,9 @@ from wire_up_tools.record.tasks import (
     say,
 )
 
-FAILED = 125
+NAME, FAILED = "wire_up-record", 125
+# The options that take the words behind them.
+TASKS = FROM, _ = ("--from", "--where")
 
 ABOUT = "Records the PMIx calls of a program, and writes them as a plan for `wire_up`."
 # How it is called, and what it does then.
@@ -98,12 +106,21 @@ OPTIONS = (
 
 
 class RecorderParser(Parser):
-    """The options of the recorder, and two that take all that follows."""
+    """The options of the recorder, and two that take the words behind them."""
 
     def __init__(self) -> None:
-        super().__init__(OPTIONS)
-        self.add_argument("--from", dest="files", nargs=argparse.REMAINDER)
-        self.add_argument("--where", nargs=argparse.REMAINDER)
+        super().__init__(OPTIONS, TASKS)
+
+    def sort(self, words: Sequence[str]) -> list[str]:
+        """The words as they are where they have a command: what follows it is the command's."""
+        left = iter(words)
+        for word in left:
+            if word in TASKS:
+                return super().sort(words)
+            if word in (STANDARD_STREAM, END) or not word.startswith("-"):
+                break
+            self.take_word(word, left)
+        return list(words)
 
 
 def write_help() -> str:
@@ -146,7 +163,8 @@ def read_request(words: Sequence[str]) -> Request:
         is_strict=found.strict,
     )
     refuse_alike(output)
-    if found.files is None:
+    from_files = getattr(found, FROM.strip("-"))
+    if from_files is None:
         if not found.rest:
             raise Unusable("which command?")
         if asked:
@@ -155,7 +173,7 @@ def read_request(words: Sequence[str]) -> Request:
             return ShowRequest(output, found.rest, asked)
         return CommandRequest(output, found.rest, asked)
     # Two hyphens may stand between them.
-    files = [*found.files, *found.rest]
+    files = [*from_files, *found.rest]
     if not files or output.kept:
         raise Unusable("--keep goes with a command" if files else "which recordings?")
     runs = split_runs(files)
@@ -168,7 +186,7 @@ def split_runs(words: Sequence[str]) -> Sequence[Sequence[str]]:
     """The files of each run: each begins with `--from`, but for the first."""
     runs: list[list[str]] = [[]]
     for it in words:
-        if it == "--from":
+        if it == FROM:
             runs.append([])
         else:
             runs[-1].append(it)
@@ -190,11 +208,12 @@ def catch_signals() -> None:
 def main(words: Sequence[str], folder: str) -> int:
     """Does what a command line asks for, and answers the status. `folder` is that of the
     command."""
-    if list(words) in (["-h"], ["--help"]):
-        print(write_help(), end="")
+    alone = answer_alone(words, NAME, write_help())
+    if alone is not None:
+        print(alone, end="")
         return 0
-    catch_signals()
     try:
+        catch_signals()
         return do(read_request(words), folder)
     except Unusable as why:
         print(f"wire_up-record: {why}\n\n{write_help()}", end="", file=sys.stderr)

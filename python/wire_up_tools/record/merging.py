@@ -1,13 +1,13 @@
 """Merges the plans of several runs of one program: the calls that all runs made, with the order
 that MPI gave them in each. Where nothing races in that plan, nothing does in a run by itself."""
-from collections.abc import Iterable, Mapping, Sequence
+from collections.abc import Mapping, Sequence
 from dataclasses import dataclass, field, replace
 
 from wire_up_tools.failures import Refused
 from wire_up_tools.limits import VERSION_1
 from wire_up_tools.record.calls import Call, End
-from wire_up_tools.record.draft import SENT_VALUE, Draft, Line, Step, walk
-from wire_up_tools.record.knowledge import find_heard
+from wire_up_tools.record.draft import SENT_VALUE, Draft, Line
+from wire_up_tools.record.made import Counts, find_known, join
 from wire_up_tools.record.notes import Notes
 from wire_up_tools.record.open_groups import find_sources
 from wire_up_tools.record.partings import (
@@ -21,44 +21,11 @@ from wire_up_tools.record.planning import MpiSummary, Plan
 from wire_up_tools.record.processes import Process
 from wire_up_tools.record.shortening import shorten
 
-# For each process, by its name, how many calls of the program it has surely made.
-Counts = Mapping[str, int]
-
-
-def join(them: Iterable[Counts]) -> Counts:
-    """The most of each process in any of the counts."""
-    found: dict[str, int] = {}
-    for it in them:
-        for process, count in it.items():
-            found[process] = max(found.get(process, 0), count)
-    return found
-
 
 def meet(them: Sequence[Counts]) -> Counts:
     """The least of each process in all of the counts."""
     names = set(them[0]).intersection(*them[1:])
     return {name: min(it[name] for it in them) for name in sorted(names)}
-
-
-def find_known(draft: Draft) -> Mapping[str, Sequence[Counts]]:
-    """What comes before each call of the program in every run of a draft, by processes."""
-    known: dict[Process, Counts] = {it: {} for it in draft.lines}
-    made = dict.fromkeys(draft.lines, 0)
-    found: dict[str, list[Counts]] = {it.name: [] for it in draft.lines}
-    told: dict[Line, Counts] = {}
-    heard = find_heard(draft)
-    for step, line in walk(draft):
-        process = line.process
-        if step is Step.PASSED:
-            sources = find_sources(draft, line)
-            known[process] = join([known[process], *(told[it] for it in sources)])
-            made[process] += line.is_of_program
-            continue
-        if line.is_of_program:
-            found[process.name].append(known[process])
-        if line in heard:
-            told[line] = {**known[process], process.name: made[process]}
-    return found
 
 
 @dataclass

@@ -5,6 +5,7 @@ from typing import Optional
 
 from wire_up_tools.failures import Refused
 from wire_up_tools.limits import VERSION_1, Limits
+from wire_up_tools.record.applications import note_applications
 from wire_up_tools.record.draft import Draft, Part, Step, make_draft, walk
 from wire_up_tools.record.floating import drop_floating
 from wire_up_tools.record.meetings import Sets
@@ -36,12 +37,14 @@ class Choices:
 @dataclass(frozen=True)
 class MpiSummary:
     """How many messages and collectives MPI orders, and how many ends of requests another run may
-    have found open. `verdicts` are those with and without --strict, if they differ."""
+    have found open. `verdicts` are those with and without --strict, if they differ, and
+    `strict_races` the first races that are found with it alone."""
 
     message_count: int = 0
     collective_count: int = 0
     left_to_luck: int = 0
     verdicts: Optional[str] = None
+    strict_races: Sequence[str] = ()
 
 
 @dataclass(frozen=True)
@@ -148,4 +151,5 @@ def make_whole_plan(recordings: Sequence[Recording], choices: Choices) -> Plan:
         mpi = summarize(order)
     draft = make_draft(processes, parts)
     refuse_waiting(draft)
+    note_applications(draft, calls.part, notes)
     return Plan(choices, processes, spelling, draft, notes, mpi)

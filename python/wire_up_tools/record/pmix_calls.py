@@ -24,9 +24,7 @@ from wire_up_tools.record.calls import (
 )
 from wire_up_tools.record.directives import (
     AT_ONCE,
-    OF_APPLICATION,
     WAIT,
-    find_persistence,
     goes_away,
     has_directive,
 )
@@ -282,16 +280,6 @@ class Uses:
         """Whether it goes away by itself while others may look it up."""
         return any(goes_away(it.call.action, len(self.looked_up)) for it in self.published)
 
-    @property
-    def goes_with_application(self) -> bool:
-        """Whether it goes away with its application, and another one looks it up."""
-        return any(
-            find_persistence(it.call.action) == OF_APPLICATION
-            and it.process.application != other.process.application
-            for it in self.published
-            for other in self.looked_up
-        )
-
 
 def find_uses(part: Part) -> dict[str, Uses]:
     """The uses of each name."""
@@ -309,14 +297,9 @@ def note_names(part: Part, notes: Notes) -> None:
     """Notes the names that may go away by themselves, and those that were found, though no recorded
     process published them."""
     uses = find_uses(part).values()
-    ways = {
-        "by themselves (pmix.persist)": sum(it.goes_away for it in uses),
-        "with their application, and that another looks up": sum(
-            it.goes_with_application for it in uses
-        ),
-    }
-    for how, count in ways.items():
-        notes.more_ordered[f"names that go away {how}: in the plan they stay"] += count
+    notes.more_ordered[
+        "names that go away by themselves (pmix.persist): in the plan they stay"
+    ] += sum(it.goes_away for it in uses)
     notes.more_ordered[
         "lookups of names that no recorded process published: whoever did isn't in the plan"
     ] += sum(bool(line.value) for it in uses if not it.published for line in it.looked_up)

@@ -22,6 +22,9 @@ OF_PMIX, OF_MPI = "record.so", "record-mpi.so"
 # `make install` puts them.
 LIBRARIES = ("record", os.path.join("..", "lib", "wire_up"))
 PRELOAD, TO_FOLDER = "LD_PRELOAD", "WIRE_UP_RECORD"
+# A program that is built with AddressSanitizer doesn't start with other libraries before that of
+# the sanitizer, unless it is told so. Of options that stand twice the last counts.
+SANITIZER, ANY_ORDER = "ASAN_OPTIONS", "verify_asan_link_order=0"
 # Names the variables that the launcher of Open MPI hands on to other nodes. Where it has the option
 # -x, which doesn't go with this variable, the recorder in it adds them to the options.
 TO_OTHER_NODES = "OMPI_MCA_mca_base_env_list"
@@ -88,8 +91,11 @@ def make_environment(libraries: Sequence[str], folder: str) -> dict[str, str]:
     before = found.get(PRELOAD)
     found[PRELOAD] = ":".join([*([before] if before else []), *libraries])
     found[TO_FOLDER] = folder
+    chosen = found.get(SANITIZER)
+    found[SANITIZER] = ":".join([*([chosen] if chosen else []), ANY_ORDER])
     handed_on = found.get(TO_OTHER_NODES)
-    found[TO_OTHER_NODES] = ";".join([*([handed_on] if handed_on else []), PRELOAD, TO_FOLDER])
+    own = [PRELOAD, TO_FOLDER, SANITIZER]
+    found[TO_OTHER_NODES] = ";".join([*([handed_on] if handed_on else []), *own])
     return found
 
 

@@ -11,7 +11,7 @@ from typing import Optional, Union
 
 from wire_up_tools.checker import Checker, find_checker
 from wire_up_tools.failures import Refused
-from wire_up_tools.files import STANDARD_OUTPUT, write_whole
+from wire_up_tools.files import STANDARD_OUTPUT, try_to_write, write_whole
 from wire_up_tools.limits import LARGE, VERSION_1
 from wire_up_tools.plan_reading import read_plan
 from wire_up_tools.record.floating import settle_floating
@@ -35,6 +35,7 @@ from wire_up_tools.record.showing.asking import Asked
 from wire_up_tools.record.showing.material import First, Material
 from wire_up_tools.record.showing.showing import show
 from wire_up_tools.record.showing.traces import read_traces
+from wire_up_tools.record.strict_races import list_strict_races
 from wire_up_tools.record.verdicts import (
     compare_verdicts,
     finds_nothing,
@@ -200,7 +201,9 @@ def add_verdicts(plan: Plan, make_other: Callable[[Choices], Plan], checker: Che
     other = make_other(replace(choices, is_strict=not choices.is_strict))
     plain, strict = (other, plan) if choices.is_strict else (plan, other)
     verdicts = compare_verdicts(checker, write_plan(plain), write_plan(strict))
-    return replace(plan, mpi=replace(plan.mpi, verdicts=verdicts))
+    is_named = verdicts and not choices.is_strict
+    races = list_strict_races(checker, plain, strict) if is_named else []
+    return replace(plan, mpi=replace(plan.mpi, verdicts=verdicts, strict_races=races))
 
 
 def settle_gets(plan: Plan, make_other: Callable[[Choices], Plan], checker: Checker) -> Plan:
@@ -298,10 +301,19 @@ def make(output: Output, paths: Sequence[str], folder: str) -> str:
     return text
 
 
+def hold_writable(output: Output) -> None:
+    """Raises OSError for a text that could not be written once the command has run."""
+    for path in (output.plan, output.answers, output.pattern):
+        if path and path != STANDARD_OUTPUT:
+            try_to_write(path)
+
+
 def make_folder(output: Output) -> str:
-    """The folder for the recordings of a command, made or found empty. Raises Refused, OSError."""
+    """The folder for the recordings of a command, made or found empty: beside the plan, or here
+    where that is no file. Raises Refused, OSError."""
     if not output.kept:
-        is_file = output.plan != STANDARD_OUTPUT
+        is_file = os.path.isfile(output.plan) or not os.path.exists(output.plan)
+        is_file = is_file and output.plan != STANDARD_OUTPUT
         beside = os.path.dirname(os.path.abspath(output.plan)) if is_file else os.getcwd()
         return tempfile.mkdtemp(prefix="wire_up-record-", dir=beside)
     os.makedirs(output.kept, exist_ok=True)
@@ -357,6 +369,7 @@ def record(asked: CommandRequest, folder: str) -> int:
     recorder. Recordings that make no plan are left. Raises Refused, NotRun, OSError."""
     output = asked.output
     libraries = find_libraries(folder, output.with_mpi)
+    hold_writable(output)
     recordings, is_made = make_folder(output), False
     began = time.monotonic()
     try:

@@ -35,6 +35,7 @@ from wire_up_tools.words import (
     PARTED,
     PLACE_COMMENT,
     RECORDED_BY,
+    STRICT_ALONE,
     TAKEN,
     TIMED,
     UNKNOWN_PLACE,
@@ -115,6 +116,9 @@ def say_mpi(plan: Plan) -> Iterator[str]:
         yield f"# {mpi.left_to_luck} {LEFT_TO_LUCK} ({why}): {what}."
     if mpi.verdicts:
         yield f"# {VERDICTS}{mpi.verdicts}"
+    if mpi.strict_races:
+        yield f"# {STRICT_ALONE}"
+        yield from (f"#   {it}" for it in mpi.strict_races)
     if not choices.with_mpi or not any(it.recording.world for it in plan.processes.all):
         yield (
             f"# {WITHOUT_MPI}: if MPI orders the calls of a race, it is reported all the same."

@@ -9,7 +9,7 @@ from typing import Optional
 from wire_up_tools.checker import Checker, find_checker
 from wire_up_tools.failures import Refused, Unusable, explain
 from wire_up_tools.files import STANDARD_OUTPUT, write_whole
-from wire_up_tools.options import Option, Parser, describe
+from wire_up_tools.options import Option, Parser, answer_alone, describe
 from wire_up_tools.report.asking import CLEAN, Asker
 from wire_up_tools.report.contents import Report, make_report
 from wire_up_tools.report.html_page import write_page
@@ -183,8 +183,9 @@ def tell(*lines: str) -> None:
 
 def main(words: Sequence[str], folder: str) -> int:
     """Runs the command that stands in a folder. Answers its exit status."""
-    if list(words) in (["-h"], ["--help"]):
-        sys.stdout.write(HELP)
+    alone = answer_alone(words, NAME, HELP)
+    if alone is not None:
+        sys.stdout.write(alone)
         return HELPED
     try:
         return write_report(read_options(words), folder)

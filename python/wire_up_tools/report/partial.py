@@ -6,6 +6,7 @@ from wire_up_tools import words
 from wire_up_tools.left_out import can_hide
 from wire_up_tools.plan import Plan
 from wire_up_tools.report.phrases import count_of, list_names
+from wire_up_tools.report.singular import say_counted
 from wire_up_tools.report.tried import say_turned
 
 POLLED = re.compile(rf"(\d+) {words.LEFT_TO_LUCK} .*: (?:({words.TAKEN})|.*)\.")
@@ -18,7 +19,7 @@ def find_reasons(plan: Plan) -> list[str]:
     if not plan.is_recorded:
         return []
     cut_off, left_out = say_cut_off(plan), say_left_out(plan)
-    ordered = plan.list_in_head(words.MORE_ORDERED)
+    ordered = [say_counted(it) for it in plan.list_in_head(words.MORE_ORDERED)]
     received = say_received(plan)
     reasons = [say_answered(plan), say_parted(plan), *say_turned(plan), cut_off]
     reasons += [say_polled(plan), *ordered, received, left_out, say_timed(plan)]
@@ -69,7 +70,7 @@ def say_polled(plan: Plan) -> Optional[str]:
 
 def say_received(plan: Plan) -> Optional[str]:
     """What could have come otherwise, so that another run may do something else."""
-    listed = plan.list_in_head(words.OTHERWISE_AFTER)
+    listed = [say_counted(it) for it in plan.list_in_head(words.OTHERWISE_AFTER)]
     return f"another run may do otherwise after {list_names(listed)}" if listed else None
 
 
@@ -83,7 +84,7 @@ def say_own_code(plan: Plan) -> Optional[str]:
     decides nothing, or can lead to one."""
     if not is_by_mpi_alone(plan):
         return None
-    listed = plan.list_in_head(words.OTHERWISE_ALONE)
+    listed = [say_counted(it) for it in plan.list_in_head(words.OTHERWISE_ALONE)]
     of_luck = list_names(listed) if listed else "requests that it may find open"
     return (
         f"Another run may do otherwise after {of_luck}, but makes no call of PMIx by that. "
@@ -118,5 +119,5 @@ def say_left_out(plan: Plan) -> Optional[str]:
     """What was left out that can hide a race."""
     counted = (it.partition(" ") for it in plan.list_in_head(words.LEFT_OUT))
     found = [f"{count} {what}" for count, _, what in counted if can_hide(what)]
-    found = [it for it in found if not CUT_OFF.fullmatch(it)]
+    found = [say_counted(it) for it in found if not CUT_OFF.fullmatch(it)]
     return f"not in the plan: {list_names(found)}" if found else None

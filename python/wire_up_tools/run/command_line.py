@@ -7,7 +7,7 @@ from collections.abc import Sequence
 from typing import Optional
 
 from wire_up_tools.failures import Refused, Unusable, explain
-from wire_up_tools.options import Option, Parser, describe
+from wire_up_tools.options import Option, Parser, answer_alone, describe
 from wire_up_tools.run.interrupts import Interrupted, catch_signals, ignore_signals
 from wire_up_tools.run.libraries.traits import LIBRARIES
 from wire_up_tools.run.saying import NAME, say
@@ -107,13 +107,8 @@ BELOW = (
 )
 
 
-class RunParser(Parser):
-    """The options, and those that take all that follows."""
-
-    def __init__(self) -> None:
-        super().__init__(OPTIONS)
-        for it in ("--witness", "--suite", "--predict"):
-            self.add_argument(it, nargs=argparse.REMAINDER)
+# The options that take the words behind them.
+TASKS = ("--witness", "--suite", "--predict")
 
 
 def write_help() -> str:
@@ -181,9 +176,6 @@ def read_suite_request(found: argparse.Namespace) -> SuiteRequest:
     times = read_count("--times", found.times, SUITE_TIMES)
     at_a_time = read_count("--jobs", found.jobs, AT_A_TIME)
     names = [*found.suite, *found.rest]
-    option = next((it for it in names if it.startswith("-")), None)
-    if option:
-        raise Unusable(f"{option} stands behind --suite: options come before it")
     return SuiteRequest(names, times, at_a_time, found.table)
 
 
@@ -219,7 +211,7 @@ def read_request(found: argparse.Namespace) -> Request:
 def answer(words: Sequence[str], folder: str) -> int:
     """Does what a command line asks for, or says why it can't be done. Answers the status."""
     try:
-        found = RunParser().read(words)
+        found = Parser(OPTIONS, TASKS).read(words)
         return do(read_request(found), read_choices(found), folder)
     except Unusable as why:
         print(f"{NAME}: {why}\n\n{write_help()}", end="", file=sys.stderr)
@@ -233,8 +225,9 @@ def answer(words: Sequence[str], folder: str) -> int:
 def main(words: Sequence[str], folder: str) -> int:
     """Does what a command line asks for, until a signal ends it, and answers the status. `folder`
     is that of the command."""
-    if list(words) in (["-h"], ["--help"]):
-        print(write_help(), end="")
+    alone = answer_alone(words, NAME, write_help())
+    if alone is not None:
+        print(alone, end="")
         return 0
     try:
         try:

@@ -13,7 +13,7 @@ from wire_up_tools.failures import Refused
 from wire_up_tools.plan_reading import read_plan
 from wire_up_tools.run.answers import Seen, count_runs
 from wire_up_tools.run.expected import Expected, expect
-from wire_up_tools.run.libraries.predicting import explain_differences
+from wire_up_tools.run.libraries.judging import judge
 from wire_up_tools.run.libraries.traits import Library, find_library
 from wire_up_tools.run.live import Outcome, Setting, Task, run_plan
 from wire_up_tools.run.profile import BY_LABEL, ProfileRule
@@ -27,6 +27,8 @@ HEADS = {
 }
 # A run that doesn't come up says nothing of its plan: so it is made again.
 TRIES = 3
+# From so many plans on it is said also where no terminal is how far the suite is.
+MANY = 50
 
 
 @dataclass(frozen=True)
@@ -147,11 +149,12 @@ class Suite:
 
     def run(self, plans: Sequence[SuitePlan]) -> list[Verdict]:
         """Runs plans, several at a time. Raises Refused, OSError."""
-        first, rest = self.judge_first(plans), plans[1:]
-        found = [first]
+        tell_progress(0, len(plans))
+        found = [self.judge_first(plans)]
+        tell_progress(1, len(plans))
         with concurrent.futures.ThreadPoolExecutor(self.at_a_time) as pool:
             try:
-                for it in pool.map(self.judge, rest):
+                for it in pool.map(self.judge, plans[1:]):
                     found.append(it)
                     tell_progress(len(found), len(plans))
             except BaseException:
@@ -162,17 +165,21 @@ class Suite:
 
 
 def tell_progress(done: int, count: int) -> None:
-    """Says on a terminal how far the suite is."""
-    if sys.stderr.isatty():
-        end = "\n" if done == count else "\r"
+    """Says how far the suite is: on a terminal in one line, else at each tenth of many plans."""
+    is_terminal = sys.stderr.isatty()
+    is_tenth = count >= MANY and done > 0 and done * 10 // count > (done - 1) * 10 // count
+    if is_terminal or is_tenth:
+        end = "\r" if is_terminal and done < count else "\n"
         print(f"wire_up-run: {done} of {count} plans", end=end, file=sys.stderr, flush=True)
 
 
 def is_predicted(
     plan: SuitePlan, expected: Expected, seen: Seen, known: Optional[Library]
 ) -> bool:
-    """Whether the known rules of a library predict what it did."""
+    """Whether the known rules of a library predict what it did: each reply that can't depend on
+    timing by them."""
     if known is None:
         return False
-    found = explain_differences(read_plan(plan.text.encode()), known.traits, expected.report)
-    return [it.difference for it in found] == list(seen.differences)
+    judged = judge(read_plan(plan.text.encode()), known, expected)
+    steady = {it.difference for it in judged.found if it.difference.place not in judged.timed}
+    return steady == {it for it in seen.differences if it.place not in judged.timed}

@@ -66,9 +66,10 @@ def write_plan(verdict: Verdict) -> list[str]:
 
 
 def write_rule(rule: ProfileRule, found: Sequence[Verdict]) -> list[str]:
-    """The lines of a rule: whether it is kept, its words, and the plans in which it isn't."""
+    """The lines of a rule: whether it is kept, in how many plans that is so, its words, and the
+    plans in which it isn't."""
     words, bad = rule.value, [it for it in found if it.kind is not Kind.EQUAL]
-    said = f"{len(bad)} of {len(found)} plans: {words.text} ({words.source})"
+    said = f"{len(bad) or len(found)} of {len(found)} plans: {words.text} ({words.source})"
     lines = [line for it in bad for line in write_plan(it)]
     return [f"{name_state(found)} {rule.label} {said}", *lines]
 

@@ -59,7 +59,7 @@ OPTIONS = (
     Option(
         "--limit",
         "SECONDS",
-        f"how long such a run may take; else {LIMIT:g} and {LIMIT_TIMES:g} times the first",
+        f"how long such a run may take; else {LIMIT:g}, {LIMIT_TIMES:g} times the first and --hold",
     ),
     Option(
         "--input",
@@ -102,9 +102,9 @@ class Asked:
         return self.hold or max(HOLD, HOLD_TIMES * (first or 0))
 
     def find_limit(self, first: Optional[float]) -> float:
-        """How long a run may take, by how long the first took."""
+        """How long a run may take, by how long the first took: besides a hold."""
         by_first = LIMIT_OF_PLAN if first is None else LIMIT + LIMIT_TIMES * first
-        return self.limit or max(by_first, self.find_hold(first))
+        return self.limit or by_first + self.find_hold(first)
 
 
 def read_race(text: str) -> tuple[str, int, str, int]:

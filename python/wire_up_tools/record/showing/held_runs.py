@@ -87,6 +87,7 @@ def watch(process: "subprocess.Popen[bytes]", server: Server, limit: float) -> O
     began = time.monotonic()
     while find_status(process) is None:
         if time.monotonic() - began > limit + server.lost:
+            server.end_holds()
             return None
         server.serve(TICK)
     while server.serve(0):

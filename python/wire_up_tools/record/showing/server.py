@@ -102,6 +102,11 @@ class Server:
         is_still = now - max(came, self.moved) > self.patience.hold
         return is_still or now - came > self.patience.limit
 
+    def end_holds(self) -> None:
+        """Takes all calls that are still held as held in vain: the run is ended."""
+        for which in self.waiting:
+            self.courses[which].late = time.time()
+
     def look(self, now: float) -> None:
         """Looks whether anything moves, from time to time. Raises OSError."""
         if now - self.looked > LOOK_SECONDS:

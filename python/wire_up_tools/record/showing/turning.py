@@ -7,7 +7,7 @@ from typing import Any, Optional
 
 from wire_up_tools.record.showing.comparing import Compared, compare
 from wire_up_tools.record.showing.held_runs import HeldRun, run_held
-from wire_up_tools.record.showing.holds import Holds, Wait
+from wire_up_tools.record.showing.holds import Course, Holds, Wait
 from wire_up_tools.record.showing.missing import IN_CALLBACK, tell_standing
 from wire_up_tools.record.showing.naming import Target
 from wire_up_tools.record.showing.orders import Trial
@@ -73,6 +73,13 @@ def judge_early(run: HeldRun, first: HeldRun, held: Target, other: Target) -> Tu
     return Turn((held, other), word, run.ending, compared)
 
 
+def tell_why_not(course: Course) -> str:
+    """Why a call wasn't held to some end."""
+    if course.is_passed:
+        return f"wasn't held: {IN_CALLBACK}"
+    return "didn't come" if course.came is None else "was held when the run ended"
+
+
 def turn_round(
     trial: Trial, first: HeldRun, held: Target, others: Sequence[Target], name: str
 ) -> Iterator[Turn]:
@@ -83,12 +90,12 @@ def turn_round(
         run = run_held(trial.session, hold_first(held, left), f"{name}-{attempt}")
         course = run.courses[1]
         early = find_early(run, left)
-        if course.came is None or course.is_passed:
-            why = IN_CALLBACK if course.is_passed else "it didn't come"
-            yield from (Turn((held, it), NOT_TURNED, f"{held.place}: {why}") for it in left)
-            return
         if course.late:
             yield from (judge_kept(run, held, it) for it in left)
+            return
+        if course.gone is None or course.is_passed:
+            why = f"{held.place} {tell_why_not(course)} ({run.ending})"
+            yield from (Turn((held, it), NOT_TURNED, why) for it in left)
             return
         yield from (judge_early(run, first, held, it) for it in early)
         left = [it for it in left if it not in early]
