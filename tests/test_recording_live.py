@@ -436,7 +436,9 @@ class OtherWaysTest(LiveTest):
         if run_plainly([path]).returncode == TOO_OLD:
             self.skipTest("this MPI has no persistent collectives")
         ran = self.record_alike(mpirun(2, path))
-        self.assertEqual((ran.returncode, drop_each_run(ran.stderr)), (0, ""))
+        said = "not in the plan: 2 calls of MPI_Start of a collective or a partitioned message"
+        said = f"wire_up-record: {IN_PART}{said}\n"
+        self.assertEqual((ran.returncode, ran.stderr), (0, said))
         if self.program:
             self.assertIsNone(why_other_findings(self.program, self.plan, 0))
 
