@@ -15,9 +15,8 @@ from wire_up_tools.limits import LARGE, VERSION_1
 from wire_up_tools.record.merging import merge_plans
 from wire_up_tools.record.notes import Notes
 from wire_up_tools.record.partings import Run
-from wire_up_tools.record.patterns.finding import Broken
-from wire_up_tools.record.patterns.scripts import ANY_VALUE, Script
-from wire_up_tools.record.patterns.writing import make_pattern, say_broken
+from wire_up_tools.record.patterning import find_pattern, holds_in_part
+from wire_up_tools.record.patterns.scripts import ANY_VALUE
 from wire_up_tools.record.places import find_call_place, find_places, read_places, write_places
 from wire_up_tools.record.planning import Choices, Plan, make_plan, make_whole_plan
 from wire_up_tools.record.recordings import Recording, has_recordings, read_recordings
@@ -29,6 +28,9 @@ from wire_up_tools.record.verdicts import (
     judge_runs,
 )
 from wire_up_tools.record.writing import write_answers, write_plan
+
+# What is said of verdicts over plans that are known to be more ordered than the program.
+IN_PART = "holds only in part"
 
 
 @dataclass(frozen=True)
@@ -96,7 +98,7 @@ def count_notes(notes: Mapping[str, int]) -> str:
 
 def say_part(notes: Notes) -> None:
     """Says why a verdict over a plan holds only in part, if it does."""
-    in_part = "a verdict over this plan holds only in part"
+    in_part = f"a verdict over this plan {IN_PART}"
     for before, noted in (("the run was cut off: ", notes.cut_off), ("", notes.more_ordered)):
         if any(noted.values()):
             say(f"{before}{in_part}: {count_notes(noted)}")
@@ -106,18 +108,17 @@ def say_part(notes: Notes) -> None:
 
 
 def write_pattern(plan: Plan, path: str) -> None:
-    """Writes the pattern of a plan, or says which call breaks it. Raises OSError."""
-    scripts = [
-        Script(process.name, process.name.rpartition(":")[0], [it.words.split(" ") for it in lines])
-        for process, lines in plan.draft.lines.items()
-    ]
-    found = make_pattern(scripts)
-    if isinstance(found, Broken):
-        say(f"there is no pattern: {say_broken(found, scripts)}")
+    """Writes the pattern of a plan, or says why there is none. Raises OSError."""
+    try:
+        found = find_pattern(plan)
+    except Refused as why:
+        say(str(why))
         return
     write_whole(path, found.text)
     if found.has_other_values:
         say(f"{path}: values that differ between ranks are left out: `{ANY_VALUE}` stands for them")
+    if holds_in_part(plan):
+        say(f"{path}: a verdict over this pattern {IN_PART}, as one over the plan does")
 
 
 def write_output(plan: Plan, recordings: Sequence[Recording], output: Output) -> str:

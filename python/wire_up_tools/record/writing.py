@@ -106,23 +106,26 @@ def say_mpi(plan: Plan) -> Iterator[str]:
         )
 
 
-def say_notes(plan: Plan) -> Iterator[str]:
-    """What the plan can't say, in lists."""
+def list_notes(plan: Plan) -> Iterator[tuple[str, Sequence[str]]]:
+    """What the plan can't say: titles, each with the lines below it."""
     notes = plan.notes
-    if plan.partings:
-        yield f"# {PARTED}"
-        yield from (f"#   {it}" for it in plan.partings)
-    lists = (
+    yield PARTED, list(plan.partings)
+    for title, counted in (
         (CUT_OFF, notes.cut_off),
         (LEFT_OUT, notes.left_out),
         (MORE_ORDERED, notes.more_ordered),
         (OTHERWISE_AFTER, notes.of_luck),
         (WRITTEN_OTHERWISE, notes.otherwise),
-    )
-    for title, counted in lists:
-        if any(counted.values()):
+    ):
+        yield title, [f"{count} {what}" for what, count in sorted(counted.items()) if count]
+
+
+def say_notes(plan: Plan) -> Iterator[str]:
+    """What the plan can't say, in lists."""
+    for title, them in list_notes(plan):
+        if them:
             yield f"# {title}"
-            yield from (f"#   {count} {what}" for what, count in sorted(counted.items()) if count)
+            yield from (f"#   {it}" for it in them)
 
 
 def say_head(plan: Plan) -> list[str]:

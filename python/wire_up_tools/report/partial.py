@@ -1,9 +1,11 @@
-"""Why a verdict holds only in part: what the head of a recorded plan says that can hide a race."""
+"""Why a verdict holds only in part: what the head of a recorded plan, or of its pattern, says that
+can hide a race."""
 import re
+from collections.abc import Sequence
 from typing import Optional
 
 from wire_up_tools import words
-from wire_up_tools.plan import Plan
+from wire_up_tools.plan import Plan, list_below
 from wire_up_tools.report.phrases import count_of, list_names
 
 # What is left out and can hide no race: it changes nothing that others see; or it is a part of
@@ -21,49 +23,57 @@ CUT_OFF = re.compile(r"(\d+) (processes whose recordings end before|last lines o
 
 def find_reasons(plan: Plan) -> list[str]:
     """Why the verdict on a plan holds only in part; none where it holds whole."""
-    if not plan.is_recorded:
-        return []
-    cut_off, left_out = say_cut_off(plan), say_left_out(plan)
-    ordered = plan.list_in_head(words.MORE_ORDERED)
-    received = say_received(plan)
-    reasons = [say_parted(plan), cut_off, say_polled(plan), *ordered, received, left_out]
+    return find_in_head(plan.declared.head) if plan.is_recorded else []
+
+
+def find_in_head(head: Sequence[str]) -> list[str]:
+    """Why a verdict holds only in part, by the head that the recorder wrote."""
+    cut_off, left_out = say_cut_off(head), say_left_out(head)
+    ordered = list_below(head, words.MORE_ORDERED)
+    received = say_received(head)
+    reasons = [say_parted(head), cut_off, say_polled(head), *ordered, received, left_out]
     return [it for it in reasons if it]
 
 
 def find_verdicts(plan: Plan) -> Optional[str]:
     """The verdicts with and without the order of polls, where the recorder says that they
     differ."""
-    said = (it for it in plan.declared.head if it.startswith(words.VERDICTS))
+    return find_both(plan.declared.head)
+
+
+def find_both(head: Sequence[str]) -> Optional[str]:
+    """The verdicts with and without the order of polls that a head has."""
+    said = (it for it in head if it.startswith(words.VERDICTS))
     return next((it.removeprefix(words.VERDICTS) for it in said), None)
 
 
-def say_polled(plan: Plan) -> Optional[str]:
+def say_polled(head: Sequence[str]) -> Optional[str]:
     """Of how many polls the order of one run is taken, and what the verdict is without."""
-    found = (POLLED.fullmatch(it) for it in plan.declared.head)
+    found = (POLLED.fullmatch(it) for it in head)
     count = next((int(it[1]) for it in found if it), 0)
     if not count:
         return None
-    verdicts = find_verdicts(plan)
+    verdicts = find_both(head)
     both = f": {verdicts}" if verdicts else ""
     return f"the order of {count_of(count, 'polled request')} is that of this run{both}"
 
 
-def say_received(plan: Plan) -> Optional[str]:
+def say_received(head: Sequence[str]) -> Optional[str]:
     """What could have come otherwise, so that another run may do something else."""
-    listed = plan.list_in_head(words.OTHERWISE_AFTER)
+    listed = list_below(head, words.OTHERWISE_AFTER)
     return f"another run may do otherwise after {list_names(listed)}" if listed else None
 
 
-def say_parted(plan: Plan) -> Optional[str]:
+def say_parted(head: Sequence[str]) -> Optional[str]:
     """Where several runs parted."""
-    partings = plan.list_in_head(words.PARTED)
+    partings = list_below(head, words.PARTED)
     return f"the runs part: {'; '.join(partings)}" if partings else None
 
 
-def say_cut_off(plan: Plan) -> Optional[str]:
+def say_cut_off(head: Sequence[str]) -> Optional[str]:
     """How many recordings were cut off."""
     titles = (words.CUT_OFF, words.LEFT_OUT, words.WRITTEN_OTHERWISE)
-    listed = [it for title in titles for it in plan.list_in_head(title)]
+    listed = [it for title in titles for it in list_below(head, title)]
     found = (CUT_OFF.fullmatch(it) for it in listed)
     count = max((int(it[1]) for it in found if it), default=0)
     if not count:
@@ -74,12 +84,13 @@ def say_cut_off(plan: Plan) -> Optional[str]:
 
 def hides_race(plan: Plan) -> bool:
     """Whether something was left out that can hide a race."""
-    return bool(say_left_out(plan) or say_cut_off(plan))
+    head = plan.declared.head
+    return bool(say_left_out(head) or say_cut_off(head))
 
 
-def say_left_out(plan: Plan) -> Optional[str]:
+def say_left_out(head: Sequence[str]) -> Optional[str]:
     """What was left out that can hide a race."""
-    counted = (it.partition(" ") for it in plan.list_in_head(words.LEFT_OUT))
+    counted = (it.partition(" ") for it in list_below(head, words.LEFT_OUT))
     found = [f"{count} {what}" for count, _, what in counted if not HARMLESS.fullmatch(what)]
     found = [it for it in found if not CUT_OFF.fullmatch(it)]
     return f"not in the plan: {list_names(found)}" if found else None

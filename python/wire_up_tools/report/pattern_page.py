@@ -18,6 +18,13 @@ def say_title(found: CleanPattern) -> str:
     return f"{found.pattern.name}: {say_clean(found)}"
 
 
+def choose_badge(found: CleanPattern) -> tuple[str, str]:
+    """The kind of the verdict, and its words."""
+    if found.reasons:
+        return "partly", "in part"
+    return ("waits", "calls wait for ever") if found.waits else ("quiet", "no race")
+
+
 def say_waiting(found: CleanPattern) -> str:
     """How many calls wait for ever."""
     return count_of(len(found.waits), "call waits for ever", "calls wait for ever")
@@ -30,7 +37,7 @@ def say_where(found: CleanPattern, waiting: Waiting) -> str:
 
 def write_pattern_page(found: CleanPattern) -> str:
     """The whole page."""
-    kind, badge = ("waits", "calls wait for ever") if found.waits else ("quiet", "no race")
+    kind, badge = choose_badge(found)
     title, today = escape(say_title(found)), datetime.date.today()
     meta = f"a pattern · checked by wire_up {found.version} · {today:%d %b %Y}"
     parts = [

@@ -4,16 +4,19 @@ A pattern is a text for plans of every size. In one that has a race the checker 
 counterexample, which is told as any other plan.
 """
 import dataclasses
+import itertools
 import os
 import re
 from collections.abc import Iterator, Sequence
 from dataclasses import dataclass
 from typing import Optional, Union
 
+from wire_up_tools import words
 from wire_up_tools.failures import Refused
 from wire_up_tools.plan import Plan
 from wire_up_tools.plan_reading import split_lines
 from wire_up_tools.report.asking import CLEAN, FOUND, Asker
+from wire_up_tools.report.partial import find_in_head
 from wire_up_tools.report.phrases import count_of
 
 OPTION = "--pattern"
@@ -27,6 +30,8 @@ COUNTEREXAMPLE = re.compile(r"counterexample, [1-9]\d* ranks?")
 FINDINGS = ("# race ", "# rewrite ")
 # What begins a role, and the lines of a script that are no calls.
 ROLES, NO_CALLS = ("one", "many"), ("for", "end")
+# What is said of a pattern that comes from a plan of which that is so.
+IN_PART = "Of the program that was recorded it holds only in part."
 # What a counterexample is called that stands in no file yet.
 PLAN_NAME = "counterexample.plan"
 
@@ -59,6 +64,12 @@ class Pattern:
         """The name of its file."""
         return os.fsencode(os.path.basename(self.path)).decode("utf-8", "replace")
 
+    @property
+    def head(self) -> Sequence[str]:
+        """The comments above the header."""
+        comments = itertools.takewhile(lambda line: line.startswith("#"), self.lines)
+        return [it[1:].removeprefix(" ") for it in comments]
+
 
 @dataclass(frozen=True, eq=False)
 class CleanPattern:
@@ -68,6 +79,13 @@ class CleanPattern:
     pattern: Pattern
     version: str
     waits: Sequence[Waiting]
+
+    @property
+    def reasons(self) -> Sequence[str]:
+        """Why the verdict holds only in part, by the head that the recorder wrote."""
+        head = self.pattern.head
+        is_made = any(it.startswith(words.PATTERN_BY) for it in head[:1])
+        return find_in_head(head) if is_made else ()
 
 
 @dataclass(frozen=True)
@@ -139,7 +157,8 @@ def say_counterexample(plan: Plan) -> str:
 
 def say_clean(found: CleanPattern) -> str:
     """The verdict on a pattern without findings, with the calls that wait for ever."""
-    said = f"no race, {EVERYWHERE}"
+    part = f" ({'; '.join(found.reasons)})" if found.reasons else ""
+    said = f"no race, {EVERYWHERE}{part}"
     if not found.waits:
         return said
     names = ", ".join(it.name for it in found.waits)
@@ -149,6 +168,12 @@ def say_clean(found: CleanPattern) -> str:
 
 def explain_clean(found: CleanPattern) -> str:
     """What the verdict means."""
+    said = explain_end(found)
+    return f"{said} {IN_PART}" if found.reasons else said
+
+
+def explain_end(found: CleanPattern) -> str:
+    """That each plan of the pattern has one end."""
     if found.waits:
         return (
             "Each plan of the pattern has one end, whichever ranks are fast. In some plans a rank "
