@@ -116,7 +116,6 @@ class CleanTest(PatternCase):
         self.assertIn('root 1 fence, <a href="#line-5">cards.pattern:5</a>', page)
         self.assertIn('<div id="line-5" class="named">', page)
 
-
     def test_a_pattern_of_a_plan_that_holds_in_part(self) -> None:
         """Its head has why. That of a pattern by hand says nothing."""
         checker = self.write_checker(f"{CLEAN}\n", 0)

@@ -11,6 +11,7 @@ from typing import Optional
 from wire_up_tools.failures import Refused, Unusable, explain
 from wire_up_tools.options import Option, Parser, describe
 from wire_up_tools.record.running import BY_SIGNAL, HANDED_ON, NotRun, Stopped
+from wire_up_tools.record.sizes.asking import asks_for_sizes, read_sizes_request
 from wire_up_tools.record.tasks import (
     CommandRequest,
     FilesRequest,
@@ -37,6 +38,16 @@ USES = (
     (
         "-o PLAN [OPTION..] --from FILE.. --from FILE..",
         "writes one plan of what several runs of a program share, and says where they part",
+    ),
+    (
+        "--sizes 3,4,8 -o PATTERN COMMAND..",
+        "runs the command with 3, 4 and 8 ranks, which stand where it has {}, writes one pattern "
+        "for every number,\n"
+        f"    {' ' * 47} and says what is found in it",
+    ),
+    (
+        "--sizes -o PATTERN --from FILE.. --from FILE.. --against FILE..",
+        "does so with recordings that are there, of which those behind --against hold the pattern",
     ),
     (
         "--where PROC N PLAN",
@@ -120,7 +131,9 @@ def refuse_alike(output: Output) -> None:
 
 
 def read_request(words: Sequence[str]) -> Request:
-    """What a command line asks for. Raises Unusable."""
+    """What a command line asks for. Raises Unusable, Refused."""
+    if asks_for_sizes(words, OPTIONS):
+        return read_sizes_request(words, OPTIONS)
     found = RecorderParser().read(words)
     if found.where is not None:
         return read_where_request([*found.where, *found.rest])

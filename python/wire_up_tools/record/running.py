@@ -103,9 +103,12 @@ def wait_and_hand_on(process: "subprocess.Popen[bytes]") -> int:
     return process.returncode
 
 
-def run(command: Sequence[str], environment: Mapping[str, str]) -> int:
+def run(
+    command: Sequence[str], environment: Mapping[str, str], output: Optional[int] = None
+) -> int:
     """Runs a command, hands signals on to it, and answers its status: below 0 for the signal that
-    ended it. Raises NotRun if it can't be run."""
+    ended it. `output` is the file to which its standard output goes, if not to ours. Raises NotRun
+    if it can't be run."""
     before = signal.pthread_sigmask(signal.SIG_BLOCK, (*HANDED_ON, signal.SIGCHLD))
 
     def unblock() -> None:
@@ -114,7 +117,7 @@ def run(command: Sequence[str], environment: Mapping[str, str]) -> int:
     try:
         # The command has the files that were opened for it.
         with subprocess.Popen(
-            command, env=environment, preexec_fn=unblock, close_fds=False
+            command, env=environment, preexec_fn=unblock, close_fds=False, stdout=output
         ) as process:
             return wait_and_hand_on(process)
     except FileNotFoundError as why:

@@ -21,6 +21,8 @@ from wire_up_tools.record.places import find_call_place, find_places, read_place
 from wire_up_tools.record.planning import Choices, Plan, make_plan, make_whole_plan
 from wire_up_tools.record.recordings import Recording, has_recordings, read_recordings
 from wire_up_tools.record.running import BY_SIGNAL, find_libraries, make_environment, run
+from wire_up_tools.record.sizes.asking import SizesRequest
+from wire_up_tools.record.sizes.doing import answer_sizes
 from wire_up_tools.record.verdicts import (
     compare_verdicts,
     judge_library,
@@ -73,7 +75,7 @@ class CommandRequest:
     command: Sequence[str]
 
 
-Request = Union[WhereRequest, FilesRequest, CommandRequest]
+Request = Union[WhereRequest, FilesRequest, CommandRequest, SizesRequest]
 
 
 def say(what: str) -> None:
@@ -267,6 +269,8 @@ def do(asked: Request, folder: str) -> int:
     """Does what is asked for, and answers the status. `folder` is that of the command."""
     if isinstance(asked, WhereRequest):
         return say_where(asked)
+    if isinstance(asked, SizesRequest):
+        return answer_sizes(asked, folder)
     if isinstance(asked, CommandRequest):
         return record(asked, folder)
     if len(asked.runs) > 1:

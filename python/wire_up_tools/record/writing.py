@@ -80,6 +80,17 @@ def say_words(plan: Plan) -> Iterator[str]:
             yield f"# The {what} {words[text]} is {show(text)}."
 
 
+def say_luck(plan: Plan) -> Iterator[str]:
+    """How many ends another run may have found open, and the verdicts with and without them."""
+    mpi = plan.mpi
+    if mpi.left_to_luck:
+        what = "nothing is taken from them" if plan.choices.is_strict else TAKEN
+        why = "a poll that succeeded, one of several, a peer that a message named"
+        yield f"# {mpi.left_to_luck} {LEFT_TO_LUCK} ({why}): {what}."
+    if mpi.verdicts:
+        yield f"# {VERDICTS}{mpi.verdicts}"
+
+
 def say_mpi(plan: Plan) -> Iterator[str]:
     """What of MPI's order the plan has."""
     mpi, choices = plan.mpi, plan.choices
@@ -94,12 +105,7 @@ def say_mpi(plan: Plan) -> Iterator[str]:
             "No call of PMIx made the lines of names that begin with"
         )
         yield f"# `{plan.spelling.mpi_mark}`, and the fences below a line `# MPI: ..`."
-    if mpi.left_to_luck:
-        what = "nothing is taken from them" if choices.is_strict else TAKEN
-        why = "a poll that succeeded, one of several, a peer that a message named"
-        yield f"# {mpi.left_to_luck} {LEFT_TO_LUCK} ({why}): {what}."
-    if mpi.verdicts:
-        yield f"# {VERDICTS}{mpi.verdicts}"
+    yield from say_luck(plan)
     if not choices.with_mpi or not any(it.recording.world for it in plan.processes.all):
         yield (
             f"# {WITHOUT_MPI}: if MPI orders the calls of a race, it is reported all the same."
