@@ -259,7 +259,8 @@ class AnswerTest(unittest.TestCase):
             ((tell(3),), "one size isn't enough: name the recordings of a second one by --from"),
             (
                 (part_ways(3), part_ways(4)),
-                "no pattern fits these runs: with 4 ranks, call 2 of app:0: `publish more#[app:0] x`",
+                "no pattern fits these runs: with 4 ranks, call 2 of app:0: `publish more#[app:0] "
+                "x`",
             ),
         ):
             self.assertEqual(self.refuse_runs(*runs), said)
