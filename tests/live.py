@@ -48,13 +48,29 @@ COMPILED = {
     "libthird.so": ("mpicc", "-shared", "-fPIC", "-DTHIRD", "chain.c"),
     "libprofiler.so": ("mpicc", "-shared", "-fPIC", "profiler.c"),
     "profiled": ("mpicc", "told.c", "-L{folder}", "-Wl,-rpath,{folder}", "-lprofiler"),
+    **{
+        f"own-{word}": ("mpicc", f"-DBY_{word.upper()}", "own.c")
+        for word in ("system", "opening", "function")
+    },
+    **{
+        f"lib{name}.so": ("mpicc", "-shared", "-fPIC", "-DLIBRARY", "own.c")
+        for name in ("event_x", "mca_common_x")
+    },
+    **{
+        f"own-{name}": (
+            "mpicc", "-DBY_LIBRARY", "own.c", "-L{folder}", "-Wl,-rpath,{folder}", f"-l{name}"
+        )
+        for name in ("event_x", "mca_common_x")
+    },
     "mixed": ("mpifort", "-J{folder}", "mixed.c", "mixed_parts.f90"),
     "fortran": ("mpifort", "-J{folder}", "fortran.f90"),
     "duplicate": ("mpifort", "-J{folder}", "duplicate.f90"),
 }
 SOURCES = (".c", ".f90")
 # The programs that call PMIx themselves.
-WITH_PMIX = ("alone", "calls", "direct", "hidden", "luck", "sessions", "pmix_plugin.so")
+WITH_PMIX = (
+    "alone", "calls", "direct", "hidden", "luck", "own-function", "sessions", "pmix_plugin.so"
+)
 NEEDED = ("mpicc", "mpirun", "make", "cc", "pkg-config")
 # `mpirun` may mix the lines of two processes where one is long, in about one run of six.
 TRIES = 10

@@ -13,7 +13,6 @@ assert support.TOP, "it says where the package is"
 SCRIPT = """#!/bin/sh
 case "$*" in
 --version) echo wire_up 1.2.3 ;;
---help) printf 'Commands:\\n  check    checks\\n  witness  shows\\n' ;;
 'check --help') echo '      --large  lifts the limits' ;;
 *) echo "$*"; cat; echo said >&2; exit 3 ;;
 esac
@@ -44,8 +43,6 @@ class CheckerTest(unittest.TestCase):
     def test_what_it_says_of_itself(self) -> None:
         checker = Checker(self.path)
         self.assertEqual(checker.version(), "1.2.3")
-        self.assertTrue(checker.has_command("witness"))
-        self.assertFalse(checker.has_command("wit"))
         self.assertTrue(checker.takes_large())
 
     def test_one_that_cannot_be_run(self) -> None:

@@ -30,7 +30,7 @@ MPI = {
     "OMPI_ALLOW_RUN_AS_ROOT_CONFIRM": "1",
     "OMPI_MCA_rmaps_base_oversubscribe": "1",
 }
-SECONDS, TRIES = 120, 3
+SECONDS, TRIES = 600, 3
 # How `man` reads a page: in long lines, and without a sandbox of its own, which doesn't start in
 # every container.
 READER = {"MANWIDTH": "400", "LC_ALL": "C.UTF-8", "MAN_DISABLE_SECCOMP": "1"}

@@ -1,12 +1,19 @@
 """Tests what calls of PMIx become in a plan."""
 import unittest
 from collections.abc import Sequence
-from dataclasses import dataclass
+from dataclasses import dataclass, replace
 from typing import Optional
 
-from tapes import Recorded, Tape, make_world, read_scripts, write_plan_of
+from tapes import Recorded, Tape, make_world, plan_tapes, read_scripts, write_plan_of
 from wire_up_tools.record.planning import Choices
-from wire_up_tools.words import LEFT_OUT, MORE_ORDERED, OTHERWISE_AFTER
+from wire_up_tools.record.writing import write_plan
+from wire_up_tools.words import (
+    LEFT_OUT,
+    MORE_ORDERED,
+    OTHERWISE_AFTER,
+    OTHERWISE_ALONE,
+    OWN_CODE,
+)
 
 PUT, COMMIT, FENCE = ("put global k text:v", "0"), ("commit", "0"), ("fence blocks all -", "0")
 COLLECTS = ("fence nb job:* pmix.collect=number:1:1", "0")
@@ -260,6 +267,33 @@ class CallsTest(unittest.TestCase):
         said = "".join(f"#   1 calls of MPI_{it}\n" for it in names)
         self.assertIn(f"{OTHERWISE_AFTER}\n{said}", plan)
         self.assertIn(f"{LEFT_OUT}\n#   1 calls of MPI_Win_flush\n", plan)
+
+    def test_own_code_that_has_no_call_of_pmix(self) -> None:
+        """What luck decides can lead to none then, if that is known of each process; and the order
+        that it takes hides none, or it would be said."""
+        for uses, is_alone in {
+            ("uses nothing", "uses nothing"): True,
+            ("uses nothing", "uses PMIx_Put"): False,
+            ("uses PMIx_Put", "uses nothing"): False,
+            ("uses nothing", "thread"): False,
+        }.items():
+            with self.subTest(uses):
+                tapes = [Tape(rank).say(it) for rank, it in enumerate(uses)]
+                plan = plan_tapes([tapes[0].say("polled MPI_Test 1"), tapes[1]])
+                told = f"{OTHERWISE_ALONE if is_alone else OTHERWISE_AFTER}\n#   1 calls of"
+                text = write_plan(plan)
+                self.assertIn(told, text)
+                self.assertEqual(f"# {OWN_CODE}\n" in text, is_alone)
+                differ = replace(plan, mpi=replace(plan.mpi, verdicts="findings 0, and findings 1"))
+                self.assertNotIn(OWN_CODE, write_plan(differ))
+
+    def test_own_code_of_a_process_that_begins_again(self) -> None:
+        """What it referred to once it may call."""
+        tape = Tape(0).say("uses dlopen").say("finalize").say("uses nothing")
+        self.assertNotIn(OWN_CODE, write_plan_of([tape.say("polled MPI_Test 1")]))
+
+    def test_own_code_where_nothing_is_luck(self) -> None:
+        self.assertNotIn(OWN_CODE, write_plan_of([Tape(0).say("uses nothing")]))
 
     def test_calls_that_are_counted(self) -> None:
         """The last count of a process is that of its calls, besides those with a record each."""

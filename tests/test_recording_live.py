@@ -36,6 +36,7 @@ from tapes import COMMAND, PATIENCE, PROGRAMS, ask_program, read_file, run_recor
 from wire_up_tools.limits import VERSION_1
 from wire_up_tools.record.calls import Collective, CollectiveEnd, Sources
 from wire_up_tools.record.recordings import read_recordings
+from wire_up_tools.words import OTHERWISE_AFTER, OTHERWISE_ALONE, OWN_CODE
 
 # What the test of 128 processes needs: cores, and bytes of memory.
 CORES, MEMORY = 4, 8 << 30
@@ -362,6 +363,22 @@ class OtherWaysTest(LiveTest):
     def test_other_names(self) -> None:
         self.hold("pmpi")
         self.hold("barrier")
+
+    def test_what_own_code_refers_to(self) -> None:
+        """Messages of any source lead to no call that it doesn't have; but it has one if a function
+        of PMIx or of names is in it, or another program or library can be: whatever name its own
+        libraries have."""
+        for name in ("event_x", "mca_common_x"):
+            self.compile(f"lib{name}.so")
+        uses = ("system", "opening", "function", "event_x", "mca_common_x")
+        for name in ("own", *(f"own-{it}" for it in uses)):
+            with self.subTest(name):
+                ran = self.record(*mpirun(3, self.compile(name)))
+                self.assertEqual((ran.returncode, ran.stdout), (0, "own done\n"))
+                is_alone, head = name == "own", read_file(self.plan).partition("\nrehearsal ")[0]
+                self.assertEqual(f"# {OWN_CODE}\n" in head, is_alone)
+                self.assertIn(OTHERWISE_ALONE if is_alone else OTHERWISE_AFTER, head)
+                self.assertEqual("another run may do otherwise" not in ran.stderr, is_alone)
 
     def test_functions_that_are_looked_up(self) -> None:
         self.hold("looked-up")

@@ -1,6 +1,8 @@
 """Tests which functions of a header the recorders note, and which they count."""
+import glob
 import os
 import re
+import shutil
 import subprocess
 import sys
 import tempfile
@@ -23,6 +25,47 @@ extern int MPI_Type_size_c(MPI_Datatype t, MPI_Count *size);
 extern int MPI_Put_c(const void *b, MPI_Count n);
 extern int MPI_Bcast(void *b, int n, MPI_Datatype t, int root, MPI_Comm c);
 """
+
+
+# Says whose the objects at some paths are, as a number of `enum owner`.
+OWNERS = b"""
+#include "core/owners.h"
+#include <stdio.h>
+int main(int count, char **words)
+{
+    for (int n = 1; n < count; n++)
+        printf("%d\\n", (int)find_object_owner(words[n]));
+    return 0;
+}
+"""
+OF_PROGRAM, _, _, OF_MPI, OF_PMIX, OF_SYSTEM, _ = range(7)
+# Whose objects are; that of a component only where the system or MPI has it, whatever its name.
+OWNER_OF = {
+    "/usr/lib/x86_64-linux-gnu/libmca_common_ompio.so.41": OF_MPI,
+    "/home/user/lib/libmca_common_x.so": OF_PROGRAM,
+    "/home/user/openmpi/mca_io_ompio.so": OF_MPI,
+    "/home/user/lib/libevent_x.so": OF_PROGRAM,
+    "/opt/lib/libevent_pthreads-2.1.so.7": OF_SYSTEM,
+    "/opt/lib/libevent-2.1.so.7": OF_SYSTEM,
+    "/opt/pmix/pmix/mca_gds_hash.so": OF_PMIX,
+    "/home/user/pmix-tests/mca_early": OF_PROGRAM,
+}
+
+
+class OwnersTest(unittest.TestCase):
+    """record/core/owners.c says whose code an object has."""
+
+    def test_objects(self) -> None:
+        if not shutil.which("cc"):
+            self.skipTest("there is no cc")
+        with tempfile.TemporaryDirectory(prefix="wire-up-") as room:
+            source = write_file(os.path.join(room, "owners.c"), OWNERS)
+            path = os.path.join(room, "owners")
+            sources = sorted(glob.glob(os.path.join(TOP, "record", "core", "*.c")))
+            flags = ["-std=gnu11", "-pthread", f"-I{os.path.join(TOP, 'record')}", "-ldl"]
+            subprocess.run(["cc", "-o", path, source, *sources, *flags], check=True)
+            ran = subprocess.run([path, *OWNER_OF], capture_output=True, text=True, check=True)
+        self.assertEqual([int(it) for it in ran.stdout.split()], list(OWNER_OF.values()))
 
 
 class OthersTest(unittest.TestCase):

@@ -10,7 +10,9 @@ import support
 from wire_up_tools.report.patterns import is_pattern
 from wire_up_tools.words import CUT_OFF, PATTERN_BY
 
-CLEAN = "findings 0 for every number of ranks on every placement"
+EVERYWHERE = "for every number of ranks on every placement"
+CLEAN = f"findings 0 {EVERYWHERE}"
+ANSWERED = "every call is answered for every number of ranks"
 # All workers put their cards, and read those of the others after a fence.
 CARDS = """\
 # Every rank reads every card.
@@ -43,8 +45,7 @@ SAID = "for every number of ranks: a counterexample with 2 ranks"
 # A checker that judges patterns: what it says of one stands in a file.
 CHECKER = """#!/bin/sh
 case "$*" in
-"check --help") "{program}" check --help; echo "  --pattern" ;;
-"check --pattern") cat > /dev/null; cat "{room}/said"; exit {status} ;;
+"check --pattern"*) cat > /dev/null; cat "{room}/said"; exit {status} ;;
 *) exec "{program}" "$@" ;;
 esac
 """
@@ -95,9 +96,10 @@ class CleanTest(PatternCase):
     """A pattern in which nothing is found."""
 
     def test_nothing_waits(self) -> None:
-        checker = self.write_checker(f"{CLEAN}\n", 0)
+        checker = self.write_checker(f"{CLEAN}\n{ANSWERED}\n", 0)
         text, page = self.report(checker, self.write("cards.pattern", CARDS), 0)
         said = "cards.pattern: no race, for every number of ranks on every placement"
+        said += "; every call is answered at every size"
         self.assertTrue(text.startswith(f"{said} However many ranks"), text)
         self.assertIn('<header class="quiet">', page)
         self.assertIn(f"<h1>{said}</h1>", page)
@@ -106,7 +108,8 @@ class CleanTest(PatternCase):
         self.assertEqual(made["runs"][0]["results"], [])
 
     def test_calls_that_wait(self) -> None:
-        checker = self.write_checker(f"{CLEAN}\nwaits root 1 fence\nwaits workers 4 get-now\n", 0)
+        said = f"{CLEAN}\nwaits root 1 fence\nwaits workers 4 get-now\n"
+        checker = self.write_checker(f"{said}answers workers 4 get-now none\n", 1)
         text, page = self.report(checker, self.write("cards.pattern", CARDS), 0)
         said = "2 calls wait for ever in some of its plans: root 1 fence, workers 4 get-now"
         self.assertIn(f"on every placement; {said} ", text)
@@ -127,8 +130,61 @@ class CleanTest(PatternCase):
             for it in (text, page):
                 self.assertEqual(said in it, is_in_part, it)
                 self.assertEqual("it holds only in part." in it, is_in_part, it)
-            kind = "partly" if is_in_part else "quiet"
-            self.assertIn(f'<header class="{kind}">', page)
+                self.assertEqual(f"{PATTERN_BY}, from one run" in it.partition("pattern 1")[0],
+                                 is_in_part)
+            badge = '<span class="badge">in part</span>'
+            self.assertEqual(badge in page, is_in_part)
+
+    def test_calls_that_may_wait(self) -> None:
+        checker = self.write_checker(f"{CLEAN}\n", 1)
+        text, page = self.report(checker, self.write("cards.pattern", CARDS), 0)
+        said = "That no call waits for ever is known of its small plans alone."
+        self.assertTrue(text.startswith(f"cards.pattern: no race, {EVERYWHERE} However "), text)
+        self.assertIn(said, text)
+        self.assertIn('<header class="partly">', page)
+        self.assertIn('<span class="badge">calls may wait</span>', page)
+
+    def test_at_least_so_many_ranks(self) -> None:
+        said = f"{CLEAN}\nat least 2 workers\nat least 3 others\n{ANSWERED}\n"
+        text, page = self.report(self.write_checker(said, 0), self.write("it.pattern", CARDS), 0)
+        least = "(at least 2 workers and at least 3 others)"
+        where = f"for every number of ranks {least} on every placement"
+        self.assertIn(f"it.pattern: no race, {where}; every call is answered", text)
+        self.assertIn(f"no race, {where}; every call is answered", page)
+
+    def test_calls_that_fail(self) -> None:
+        both = "PMIX_SUCCESS PMIX_ERR_NOT_FOUND"
+        said = f"{CLEAN}\n{ANSWERED}\nanswers workers 4 get-now {both}\n"
+        text, page = self.report(self.write_checker(said, 1), self.write("it.pattern", CARDS), 0)
+        self.assertIn("; 1 call fails in some of its plans: workers 4 get-now; every call", text)
+        where = "it.pattern:11: get-now each card"
+        self.assertIn(f"workers 4 get-now, {where}, PMIX_SUCCESS, PMIX_ERR_NOT_FOUND", text)
+        self.assertIn('<header class="fails">', page)
+        self.assertIn("<h2>1 call fails in some plans</h2>", page)
+        self.assertIn('<div id="line-11" class="named">', page)
+
+    def test_a_call_that_fails_and_is_not_named(self) -> None:
+        checker = self.write_checker(f"{CLEAN}\n{ANSWERED}\n", 1)
+        text, page = self.report(checker, self.write("it.pattern", CARDS), 0)
+        self.assertIn("; a call fails in some of its plans; every call is answered", text)
+        self.assertIn('<header class="fails">', page)
+
+
+class ShippedTest(PatternCase):
+    """Patterns that are shipped, by the built program."""
+
+    def badge(self, name: str) -> str:
+        """The words of the verdict on the page of a pattern that is shipped."""
+        path = os.path.join(support.TOP, "examples", "patterns", f"{name}.pattern")
+        page = report_support.run_report("-o", "-", path)
+        self.assertEqual(page.returncode, 0, page.stderr)
+        (found,) = re.findall('<span class="badge">(.*?)</span>', page.stdout)
+        return str(found)
+
+    def test_green_only_where_each_call_succeeds(self) -> None:
+        self.assertEqual(self.badge("business-cards"), "no race")
+        self.assertEqual(self.badge("node-local"), "calls fail")
+        self.assertEqual(self.badge("least-size"), "calls wait for ever")
 
 
 class CounterexampleTest(PatternCase):
@@ -138,7 +194,7 @@ class CounterexampleTest(PatternCase):
         checker = self.write_checker(FOUND, 1)
         text, page = self.report(checker, self.write("early.pattern", EARLY), 1)
         self.assertRegex(text, f"^early.pattern: 1 race; {SAID}(; | The replies)")
-        self.assertIn("app:1 1 get-now, counterexample.plan:9 ", text)
+        self.assertIn("app:1 1 get-now, counterexample.plan:9, early.pattern:7 ", text)
         self.assertIn("wire_up check --pattern early.pattern > counterexample.plan", text)
         self.assertIn("<h2>The counterexample</h2>", page)
         self.assertIn(f"1 race; {SAID}", page)
@@ -151,7 +207,7 @@ class CounterexampleTest(PatternCase):
         (result,) = made["runs"][0]["results"]
         where = result["locations"][0]["physicalLocation"]
         self.assertTrue(where["artifactLocation"]["uri"].endswith("/early.pattern"))
-        self.assertEqual(where["region"]["startLine"], 1)
+        self.assertEqual(where["region"]["startLine"], 5)
         said = result["relatedLocations"][0]["message"]["text"]
         self.assertEqual(said, "app:0 2 commit in counterexample.plan")
 
@@ -180,11 +236,15 @@ class RefusalsTest(PatternCase):
         self.assertRegex(ran.stderr, f"^{line}\n$")
 
     def test_an_older_checker(self) -> None:
-        older = self.write_checker("", 0)
-        text = report_support.read(older)
-        helped = text.replace('; echo "  --pattern"', " | sed s/--pattern//g")
-        self.write("checker", re.sub(r"(?m)^\"check --pattern.*\n", "", helped))
+        older = self.write_checker("", 5)
         self.refuse(older, r"wire_up-report: \S+: judges no patterns, and \S+it.pattern is one")
+
+    def test_an_older_checker_that_judges_patterns(self) -> None:
+        checker = self.write_checker(f"{CLEAN}\n", 0)
+        older = 'case "$*" in *--answers*) exit 5 ;; esac\ncase'
+        self.write("checker", report_support.read(checker).replace("case", older, 1))
+        ran = report_support.run_report("--text", self.write("it.pattern", EARLY), checker=checker)
+        self.assertEqual((ran.returncode, ran.stderr), (0, ""))
 
     def test_a_pattern_with_a_fault(self) -> None:
         checker = self.write_checker("", 2)
@@ -197,6 +257,10 @@ class RefusalsTest(PatternCase):
         for said in ("", "findings 0\n", f"{CLEAN}\nwaits root get\n"):
             checker = self.write_checker(said, 0)
             self.refuse(checker, "wire_up-report: .* is no verdict on a pattern")
+
+    def test_a_line_that_is_not_known(self) -> None:
+        checker = self.write_checker(f"{CLEAN}\n{ANSWERED}\nat most 2 workers\n", 0)
+        self.refuse(checker, "wire_up-report: .* is no verdict on a pattern")
 
 
 if __name__ == "__main__":

@@ -13,8 +13,6 @@ RACE = "race ocean:0 4 ocean:1 2 key ocean:0 coupler on ocean:1,air:0"
 # of one placement.
 CHECKER = """#!/bin/sh
 case "$*" in
---help) "{program}" --help; echo "  place RANK,RANK [FILE]" ;;
-"check --help") "{program}" check --help; echo "  --anywhere" ;;
 "check --anywhere") cat > /dev/null; cat "{room}/found"; exit {status} ;;
 "place ocean:1,air:0") cat > /dev/null; cat "{room}/placed" ;;
 *) exec "{program}" "$@" ;;
@@ -81,7 +79,7 @@ class PlacementsTest(unittest.TestCase):
         self.assertIn('class="fails"', page)
 
     def test_placements_that_were_not_judged(self) -> None:
-        text, page = self.report(self.write_checker(CHECKER, status=5))
+        text, page = self.report(self.write_checker(CHECKER, status=3))
         self.assertIn("Other placements weren't judged: ", text)
         self.assertIn('class="partly"', page)
 

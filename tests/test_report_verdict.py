@@ -5,8 +5,15 @@ import unittest
 
 import report_support
 from wire_up_tools.plan_reading import read_plan
-from wire_up_tools.report.partial import find_reasons
-from wire_up_tools.words import OTHERWISE_AFTER
+from wire_up_tools.report.partial import find_reasons, say_own_code
+from wire_up_tools.words import (
+    LEFT_TO_LUCK,
+    OTHERWISE_AFTER,
+    OTHERWISE_ALONE,
+    OWN_CODE,
+    RECORDED_BY,
+    TAKEN,
+)
 
 HEAD = "# Recorded by wire_up-record on a day: 2 processes\n"
 PLAN = "rehearsal 1\nnode n\njob app\nrank n\nput global k v\ncommit\n"
@@ -89,6 +96,18 @@ class ReasonsTest(unittest.TestCase):
         what = "2 receives that could have got another message"
         found = find_reasons_in(OTHERWISE_AFTER, f"  {what}")
         self.assertEqual(found, [f"another run may do otherwise after {what}"])
+
+    def test_own_code_that_has_no_call_of_pmix(self) -> None:
+        """What luck decides is told quietly then, and neither list nor order holds in part."""
+        what, polled = "2 receives that could have got another message", f"3 {LEFT_TO_LUCK} (x)"
+        head = f"# {RECORDED_BY}\n# {polled}: {TAKEN}.\n"
+        more = f"# {OWN_CODE}\n# {OTHERWISE_ALONE}\n#   {what}\n"
+        plan = read_plan((head + more + PLAN).encode())
+        self.assertEqual(find_reasons(plan), [])
+        self.assertIn(f"may do otherwise after {what}, but ", say_own_code(plan) or "")
+        plan = read_plan((head + PLAN).encode())
+        self.assertEqual(len(find_reasons(plan)), 1)
+        self.assertIsNone(say_own_code(plan))
 
     def test_a_recording_that_was_cut_off(self) -> None:
         title, last = "Left out:", "  1 last lines of recordings, which were cut"

@@ -45,11 +45,6 @@ class Checker:
         words = self._run("--version").stdout.split()
         return words[-1] if words else "unknown"
 
-    def has_command(self, command: str) -> bool:
-        """Whether it has a command, by what it says of itself. Raises OSError."""
-        said = self._run("--help").stdout
-        return re.search(rf"(?m)^ +{re.escape(command)}\b", said) is not None
-
     def takes(self, command: str, option: str) -> bool:
         """Whether a command takes an option, by what it says of itself. Raises OSError."""
         said = self._run(command, "--help").stdout

@@ -29,6 +29,13 @@ LEFT_OUT = "Left out:"
 MORE_ORDERED = "More ordered than the program, so that a race can be missed:"
 OTHERWISE_AFTER = "Another run may do otherwise after these, so that a race can be missed:"
 WRITTEN_OTHERWISE = "Written otherwise:"
+# The title in place of `OTHERWISE_AFTER`, and a line with it, where the program's own code refers
+# to nothing that leads to a call of PMIx.
+OTHERWISE_ALONE = "Another run may do otherwise after these, but its own code calls no PMIx:"
+OWN_CODE = (
+    "The program's own code refers to no function of PMIx, to none of MPI for names or for other "
+    "processes, and to none that opens or starts other code."
+)
 # What the head says of ends that were left to luck, after their number, and how it ends where
 # their order is taken. And how the line begins that has the verdicts with and without --strict.
 LEFT_TO_LUCK = "ends of requests that another run may have found open"

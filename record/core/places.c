@@ -18,46 +18,6 @@ static unsigned places_known;
 
 unsigned number_place(void) { return __atomic_add_fetch(&places_known, 1, __ATOMIC_RELAXED); }
 
-/* The objects that aren't the program's, by how their file names begin. */
-static const struct {
-    const char *start;
-    enum owner owner;
-} objects[] = {
-    {"libpmix.", OF_PMIX},       {"pmix_mca_", OF_PMIX},          {"libmpi_", OF_BINDINGS},
-    {"libmpi.", OF_MPI},         {"libmpich.", OF_MPI},           {"libopen-rte.", OF_MPI},
-    {"libopen-pal.", OF_MPI},    {"libopen_mpi", OF_MPI},         {"libc.", OF_SYSTEM},
-    {"libc-", OF_SYSTEM},        {"libpthread", OF_SYSTEM},       {"libevent-", OF_SYSTEM},
-    {"libevent_", OF_SYSTEM},    {"libevent.", OF_SYSTEM},        {"ld-linux", OF_SYSTEM},
-    {"record.so", OF_RECORDER},  {"record-mpi.so", OF_RECORDER},
-};
-
-/* Whether a file is a component: a library in a folder whose name is this, with a version or
- * without. */
-static bool is_component(const char *path, const char *folder)
-{
-    const char *slash = strrchr(path, '/'), *end = strrchr(path, '.'), *start = slash;
-    if (!slash || !begins_with(slash, "/mca_") || !end || strcmp(end, ".so"))
-        return false;
-    while (start > path && start[-1] != '/')
-        start--;
-    size_t size = strlen(folder);
-    return begins_with(start, folder) && start + size + strspn(start + size, "0123456789.") == slash;
-}
-
-enum owner find_object_owner(const char *path)
-{
-    const char *slash = strrchr(path, '/');
-    const char *name = slash ? slash + 1 : path;
-    if (is_component(path, "pmix"))
-        return OF_PMIX;
-    if (is_component(path, "openmpi"))
-        return OF_MPI;
-    for (size_t n = 0; n < sizeof objects / sizeof *objects; n++)
-        if (begins_with(name, objects[n].start))
-            return objects[n].owner;
-    return OF_PROGRAM;
-}
-
 /* The tools, by where their objects begin. */
 #define MOST_TOOLS 8
 static const void *tools[MOST_TOOLS];

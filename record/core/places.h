@@ -2,6 +2,7 @@
 #ifndef WIRE_UP_PLACES_H
 #define WIRE_UP_PLACES_H
 
+#include "core/owners.h"
 #include "record.h"
 
 #include <unwind.h>
@@ -14,9 +15,6 @@ enum owner find_owner(const void *address);
 
 /* The same, without memory for a place. */
 enum owner read_owner(const void *address);
-
-/* Finds whose code an object has, by the path of its file. */
-enum owner find_object_owner(const char *path);
 
 /* The innermost functions of the program that have called each other: the last called first. */
 #define MOST_FRAMES 8

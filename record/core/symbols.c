@@ -5,6 +5,7 @@
 #include "core/objects.h"
 #include "core/places.h"
 #include "core/text.h"
+#include "core/uses.h"
 
 #include <dlfcn.h>
 #include <stdio.h>
@@ -99,6 +100,7 @@ __attribute__((optimize("O2"))) EXPORTED void *dlsym(void *restrict object,
     wire_up_find_symbol *find = wire_up_dlsym();
     void *caller = __builtin_return_address(0), *own = NULL;
     if (has_recorded_name(name) && is_of_program(caller)) {
+        take_lookup(name);
         if (object != RTLD_DEFAULT)
             own = find_for_lookup(find, object, name, caller);
         if (!own)

@@ -4,6 +4,7 @@
 #include "core/launcher.h"
 #include "core/recording.h"
 #include "core/text.h"
+#include "core/uses.h"
 
 #include <errno.h>
 #include <pthread.h>
@@ -101,6 +102,7 @@ void leave_session(void)
     if (is_last) {
         struct text what;
         wire_up_note_past();
+        note_uses();
         write_all_counts();
         wire_up_text_open(&what);
         wire_up_text_add(&what, "finalize");

@@ -134,7 +134,7 @@ module _ (family : Family) (words : Words) (plan : Plan) (portable : IsPortable 
   owes p (Lookup name) p_open is may = tt
   owes p (Unpublish name) p_open is may = tt
   owes p UnpublishAll p_open is may = tt
-  owes p (Fixed r) p_open is may = tt
+  owes p (Fixed r) p_open is may = portable.reserved (next_event s p) (r, is) (asked plan h all (next_event s p) refl)
 
   pub stuck : IsLibraryEnd family words plan h → IsEnd plan s
   stuck ends p = false_from_ne_true _ (λ enabled.

@@ -1,7 +1,8 @@
--- Libraries of PMIx, by what their calls may reply. Nothing is said of caches, requests or messages: only what an answer
--- may be by what has happened since the call was made. So a library isn't one system here, but any that keeps these
--- axioms; each is a sentence of the standard, or what the libraries do that were measured. They are meant for plans that
--- put each key once: no more is known of libraries.
+-- Libraries of PMIx, by what their calls may reply. Nothing is said of caches, requests or messages: only what an
+-- answer may be by what has happened since the call was made. So a library isn't one system here, but any that keeps
+-- these axioms. Each is a sentence of the standard, whose heading stands behind it in brackets, or what the libraries
+-- do that were measured: then it says `measured`. tests/test_library_axioms.py holds them to what was recorded of each
+-- library. They are meant for plans that put each key once: no more is known of libraries.
 use Rattle.std.specs.Prelude.{◌≡◌, ◌≢◌, ◌⊎◌, ℕ, suc, ◌≤◌, List, [], ◌∷◌, ◌++◌, Bool, true, false, Option, Some, None, is_some, slice_get}
 use Rattle.wire_runs.specs.Plan.{Plan, Event, Kind, Put, Commit, Arrive, Leave, Get, GetNow, Publish, Lookup, LookupWait, Unpublish, UnpublishAll, Fixed}
 use Rattle.wire_runs.specs.Plan.{kind, node_of, same_node, admits, update}
@@ -15,10 +16,11 @@ use Rattle.wire_runs.specs.Races.{FenceDelivers}
 
 -- in what families of libraries differ. flaky: a get that waits for a process of its node may miss the very commit that
 -- brings its key (OpenPMIx 4.2.2). at_once: a server answers another node's request once its process has committed
--- anything (4.2, Slurm), and not once it has committed the key that is asked for (5.0, 7.0). brings: a fence that collects
--- surely brings (not 5.0). names: there are publish and lookup (not under Slurm). star: a call that takes away all names
--- of its process does so as the standard says (not 4.2, which replies PMIX_ERR_BAD_PARAM and takes none away). Where flaky and at_once hold and the others don't,
--- each library that was measured is of the family
+-- anything (4.2, Slurm), and not once it has committed the key that is asked for (5.0, 7.0). brings: a fence that
+-- collects surely brings (not 5.0). names: there are publish and lookup (not under Slurm). star: a call that takes away
+-- all names of its process does so, as the standard says (PMIx_Unpublish). Measured: 4.2 replies PMIX_ERR_BAD_PARAM and
+-- 5.0 PMIX_SUCCESS, and neither takes one away; 7.0 does. Where flaky and at_once hold and the others don't, each
+-- library that was measured is of the family
 pub record Family : Type 0 where
   pub flaky : Bool
   pub at_once : Bool
@@ -76,9 +78,10 @@ pub record IsMade (plan : Plan) (h : List Moment) (p : ℕ) (commit : Event) : T
   pub its : commit.proc ≡ p
   pub is_done : IsDone (told plan h) commit
 
--- a get that waits for a process of its node fails only at a commit of that process, made since the get was asked, after
--- which the key isn't there; flaky: or at any such commit, if the key wasn't there when it was asked.
--- (The server answers all gets that wait for a process of its own when that process commits, with what is there then.)
+-- a get that waits for a process of its node fails only at a commit of that process, made since the get was asked,
+-- after which the key isn't there; flaky: or at any such commit, if the key wasn't there when it was asked. By the
+-- standard a get waits for the key (Retrieval Rules for Non-Reserved Keys). Measured: when a process commits, the
+-- server answers all gets of its node that wait for it, with what is there then
 pub record FailsNear (family : Family) (plan : Plan) (before past : List Moment) (owner key : ℕ) : Type 0 where
   pub commit : Event
   pub made : IsMade plan past owner commit
@@ -88,8 +91,8 @@ pub record FailsNear (family : Family) (plan : Plan) (before past : List Moment)
 
 -- a get that waits for a process of another node fails only by what the owner's server sent at some moment, which lacks
 -- the key though the owner had committed something; not at_once: the key of the request. The moment lies after this get
--- was asked, or after another get of the node was asked that waited for the same owner when this one was asked: such gets
--- share a request
+-- was asked, or after another get of the node was asked that waited for the same owner when this one was asked.
+-- Measured: a node asks the owner's server, and gets that come till it has the answer share that request
 pub record FailsFar (family : Family) (plan : Plan) (before past : List Moment) (p owner key : ℕ) : Type 0 where
   pub other : ℕ
   pub other_before : List Moment
@@ -105,9 +108,9 @@ pub record FailsFar (family : Family) (plan : Plan) (before past : List Moment) 
   pub its_key : family.at_once ≡ false → is_some (stored plan owner other_key ((told plan moment).done owner)) ≡ true
   pub missing : stored plan owner key ((told plan moment).done owner) ≡ None
 
--- the answer to a get of p: its own put, if there is one (PMIx_Get sees what its process has put); of another's key only
--- a value that the owner has committed by now (values are true), or a failure, whatever error that is: as above, or where
--- what is committed isn't for the reader's node
+-- the answer to a get of p: its own put, if there is one (measured); of another's key only a value that the owner has
+-- committed by now (a commit hands it to the server: PMIx_Commit), or a failure, whatever error that is: as above, or
+-- where what is committed isn't for the reader's node (Scope of Put Data)
 pub data GetSays (family : Family) (plan : Plan) (before past : List Moment) (p owner key : ℕ) (a : Answer) : Type 0 where
   own_put : (u : ℕ) → p ≡ owner → own plan owner key ((told plan past).done p) ≡ Some u → a ≡ Value (record { proc = owner; at = u }) →
       GetSays family plan before past p owner key a
@@ -118,9 +121,10 @@ pub data GetSays (family : Family) (plan : Plan) (before past : List Moment) (p 
   fails_near : p ≢ owner → same_node plan owner p ≡ true → FailsNear family plan before past owner key → GetSays family plan before past p owner key a
   fails_far : same_node plan owner p ≡ false → FailsFar family plan before past p owner key → GetSays family plan before past p owner key a
 
--- by what the value of another node's process can have come to a node: a fence that has ended, one of whose calls collects
--- and which has a member there, or a get there, of whatever key of this owner, that was under way once this key was
--- committed (not at_once: and its own key)
+-- by what the value of another node's process can have come to a node: a fence that has ended, one of whose calls
+-- collects and which has a member there (PMIx_Fence), or a get there, of whatever key of this owner, that was under way
+-- once this key was committed (not at_once: and its own key). Measured: the answer to a request has all keys of the
+-- owner
 pub data HasCome (family : Family) (plan : Plan) (past : List Moment) (node owner key u : ℕ) : Type 0 where
   by_fence : (members : List ℕ) (j : ℕ) (call : Event) (of_it : IsArrival plan members j call) → of_it.collect ≡ true →
       is_complete plan (told plan past).done members j ≡ true → has_node plan members node ≡ true → (at : ℕ) →
@@ -138,9 +142,10 @@ pub record IsMate (words : Words) (plan : Plan) (members : List ℕ) (node owner
   pub there : node_of plan mate ≡ node
   pub job : words.job mate ≡ words.job owner
 
--- by what it has surely come: where fences bring, a process of the node has left a fence that brings the key, all of whose
--- calls collect, and some member there is of the owner's job; or a get there of a key that was committed no earlier has got
--- its value
+-- by what it has surely come: where fences bring, a process of the node has left a fence that brings the key, all of
+-- whose calls collect, and some member there is of the owner's job; or a get there of a key that was committed no
+-- earlier has got its value. Measured: a node keeps what was brought to it; by a fence a node without a job gets no
+-- keys of it (4.2, 7.0)
 pub data SurelyCame (family : Family) (words : Words) (plan : Plan) (past : List Moment) (node owner key : ℕ) : Type 0 where
   left : (members : List ℕ) (j mate : ℕ) (leave : Event) → family.brings ≡ true → FenceDelivers plan owner key node members j →
       IsMate words plan members node owner mate → kind plan leave ≡ Some (Leave members) → arrivals plan leave.proc members leave.at ≡ j →
@@ -150,7 +155,8 @@ pub data SurelyCame (family : Family) (words : Words) (plan : Plan) (past : List
       stored plan owner key (suc commit.at) ≡ Some u → admits (scope_of plan owner u) false ≡ true → SurelyCame family words plan past node owner key
 
 -- the answer to a get-now: of one's own key the last put; on the owner's node what is committed there, unless it is for
--- other nodes alone; elsewhere a value only if it can have come, and PMIX_ERR_NOT_FOUND only if it hasn't surely come
+-- other nodes alone; elsewhere a value only if it can have come, and PMIX_ERR_NOT_FOUND only if it hasn't surely come.
+-- The standard leaves open what the server has to hold (PMIX_IMMEDIATE). Measured
 pub data NowSays (family : Family) (words : Words) (plan : Plan) (past : List Moment) (p owner key : ℕ) (a : Answer) : Type 0 where
   own_put : p ≡ owner → a ≡ sight_reply owner (held (own plan owner key ((told plan past).done p))) → NowSays family words plan past p owner key a
   near : p ≢ owner → same_node plan owner p ≡ true →
@@ -191,10 +197,11 @@ abbrev pub IsPlainSoFar : Words → Plan → List Moment → ℕ → List ℕ �
 IsPlainSoFar words plan past p members =
     IsPlainFence words plan (IsDone (told plan past)) members (arrivals plan p members ((told plan past).done p))
 
--- what may be answered to p's next event, of this kind, which it made right after `before`. Puts and commits succeed. A
--- plain fence lets a member go once all have arrived, with success. A name is there from its publish till its publisher
--- takes it away, as long as no publish found it there and no unpublish missed it; a lookup that waits is answered once it
--- is there. Of other fences and names nothing is said, and of reserved keys nothing but those that are known
+-- what may be answered to p's next event, of this kind, which it made right after `before`. Puts and commits succeed
+-- (PMIx_Put, PMIx_Commit). A plain fence lets a member go once all have arrived, with success (PMIx_Fence). A name is
+-- there from its publish (PMIx_Publish) till its publisher takes it away (PMIx_Unpublish), as long as no publish found
+-- it there and no unpublish missed it; a lookup that waits is answered once it is there (PMIx_Lookup). Of other fences
+-- and names nothing is said, and of reserved keys nothing but those that are known (Reserved Keys)
 abbrev pub MaySay : Family → Words → Plan → List Moment → List Moment → ℕ → Answer → Kind → Type 0
 MaySay family words plan before past p a (Put key scope) = a ≡ Success
 MaySay family words plan before past p a Commit = a ≡ Success
@@ -227,7 +234,8 @@ IsLibraryRun family words plan (m ∷ past) = CanCome family words plan past m �
 
 -- a get that the library owes an answer: one's own key, once it is put; a key of the node, once it is committed for it;
 -- a key of another node, once it is committed for others, and so are the keys of all gets of the node that wait for the
--- same owner
+-- same owner. (By the standard its own key is enough. Measured: 5.0 and 7.0 answer a shared request once the key comes
+-- that was asked for first)
 pub data OwesGet (plan : Plan) (h : List Moment) (p owner key : ℕ) : Type 0 where
   own_put : p ≡ owner → is_some (own plan owner key ((told plan h).done p)) ≡ true → OwesGet plan h p owner key
   near : (u : ℕ) → p ≢ owner → same_node plan owner p ≡ true → stored plan owner key ((told plan h).done owner) ≡ Some u →
@@ -239,12 +247,13 @@ pub data OwesGet (plan : Plan) (h : List Moment) (p owner key : ℕ) : Type 0 wh
       × (admits (scope_of plan owner v) false ≡ true)) → OwesGet plan h p owner key
 
 -- to which open calls the library owes an answer: to all that don't wait; to those that wait, once what they wait for is
--- there
+-- there; of calls of reserved keys and names to those that are known. (Measured: some others wait for ever)
 abbrev pub Owes : Family → Words → Plan → List Moment → ℕ → Kind → Type 0
 Owes family words plan h p (Get owner key) = OwesGet plan h p owner key
 Owes family words plan h p (Leave members) =
     IsPlainSoFar words plan h p members × (is_complete plan (told plan h).done members (arrivals plan p members ((told plan h).done p)) ≡ true)
 Owes family words plan h p (LookupWait name) = KeepsName family plan name h × (is_some ((told plan h).names name) ≡ true)
+Owes family words plan h p (Fixed r) = words.known (next_event (told plan h) p) ≡ true
 Owes family words plan h p _ = Unit {0}
 
 -- the run has come to its end: each process that has a call left has made it, and is owed no answer

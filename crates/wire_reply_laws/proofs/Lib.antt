@@ -3,3 +3,4 @@ mod FullerLabels
 mod AllDone
 mod Judged
 mod Lawful
+pub mod TextsAnswered

@@ -7,16 +7,18 @@ use Rattle.wire_runs.specs.Patterns as plan
 use Rattle.wire_runs.specs.Patterns.{Coding, instance_of}
 use Rattle.wire_content.specs.Scripts.{Scripts}
 use Rattle.wire_content.specs.Planned.{plan_of}
+use Rattle.wire_script.specs.declared.Size.{Size}
 use Rattle.wire_script.specs.declared.Size.TheVariants.{OfVersion}
 use Rattle.wire_script.specs.Reads.{Reads}
 use Rattle.wire_pattern.specs.Pattern.{Pattern}
 use Rattle.wire_pattern.specs.Planned.{pattern_of}
 use Rattle.wire_pattern.specs.Lawful.{IsSound}
-use Rattle.wire_pattern.specs.Instances.{cast_of, instance_text}
+use Rattle.wire_pattern.specs.Instances.{Cast, IsCast, cast_of, instance_text}
 use Rattle.wire_size_laws.specs.Stages.{Stages}
 use Rattle.wire_sweep_laws.specs.Sizes.{total_of}
 use Rattle.wire_sweep_laws.specs.Promised.{IsAnyCast, IsSettledForAll}
 use Rattle.wire_sweep.specs.Selections.{Selection, most_sizes, selections}
+use Rattle.wire_sweep.specs.Texts.{HaveLeast}
 use Rattle.wire_pattern_waits.specs.Waits.{alone, AllRead, AllReplied}
 use Rattle.wire_reply_laws.specs.Kept.{KeepsStages}
 
@@ -47,3 +49,11 @@ IsAnsweredForAll p = (coding : Coding) (cast : plan.Cast) → IsAnyCast p cast �
 
 abbrev pub AllAnswered : Type 0
 AllAnswered = (p : Pattern) (stages : Stages) → IsJudged p stages → IsAnsweredForAll p
+
+-- so it is in the plan that the text of an instance reads as, whatever the size and the nodes, if it reads at all
+abbrev pub AreTextsAnswered : Pattern → Type 0
+AreTextsAnswered p = (cast : Cast) (size : Size) (s : Scripts) → IsCast p cast → HaveLeast p.roles cast.sizes
+    → Reads size (instance_text p cast) (Ok s) → IsAlwaysAnswered (plan_of s)
+
+abbrev pub TextsAnswered : Type 0
+TextsAnswered = (p : Pattern) (stages : Stages) → IsJudged p stages → AreTextsAnswered p

@@ -62,3 +62,11 @@ pub staged_answered : StagedAnswered
 staged_answered stages pattern coding bound least most lawful allow settled small cast cast_is order has y k is =
     let up = bounded stages pattern coding bound least most lawful allow settled small (length cast.roles) cast (omega arith) cast_is order has in
     live_done (instance_of pattern coding cast) (settled cast cast_is order has) up.one y (staged_live stages pattern coding cast up.staged up.may y k is)
+
+-- and each lookup-wait of all instances is of a name that is published once
+pub all_wait_for_one : (stages : Stages) (pattern : Pattern) (coding : Coding) (bound : ℕ) (least most : ℕ → ℕ) → IsLawful pattern → AllowThree bound least most
+    → ((cast : Cast) → IsCastOf pattern cast → IsInOrder bound cast → HasLeast bound least cast → IsSettled (instance_of pattern coding cast))
+    → ((cast : Cast) → IsCastOf pattern cast → IsInOrder bound cast → HasLeast bound least cast → HasMost bound most cast → IsStagedWell stages pattern coding cast)
+    → (cast : Cast) → IsCastOf pattern cast → IsInOrder bound cast → HasLeast bound least cast → WaitsForOne (instance_of pattern coding cast)
+all_wait_for_one stages pattern coding bound least most lawful allow settled small cast cast_is order has =
+    (bounded stages pattern coding bound least most lawful allow settled small (length cast.roles) cast (omega arith) cast_is order has).one

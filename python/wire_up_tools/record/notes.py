@@ -13,10 +13,10 @@ from wire_up_tools.record.calls import (
     Publish,
     Unpublish,
 )
-from wire_up_tools.record.directives import KNOWN, find_ending, gives_up
+from wire_up_tools.record.directives import KNOWN, find_ending, gives_up, stands_early
 from wire_up_tools.record.messages import Messages
 from wire_up_tools.record.processes import Processes
-from wire_up_tools.record.recordings import Recording
+from wire_up_tools.record.recordings import NO_USE, Recording
 from wire_up_tools.words import show
 
 # Functions whose result depends on which rank was faster, or behind which another rank's memory is
@@ -29,6 +29,13 @@ OF_LUCK = re.compile(
     r"|(\w+ of any source|Im?probe) in a communicator that isn't known)"
     r"|PMIx_Register_event_handler"
 )
+# Calls whose end the plan takes to be waited for: gets that can stand anywhere, and others.
+WAITED_FOR = (
+    "of the program that don't block and ended before others: in the plan it waited for them"
+)
+FLOATING, UNAWAITED = f"gets {WAITED_FOR}", f"calls {WAITED_FOR}"
+# Stands for the functions that own code refers to where the recording doesn't tell them.
+NOT_NOTED = "(not noted)"
 # Functions by which processes are started. A library of MPI calls them too.
 STARTING = ("PMIx_Spawn", "PMIx_Spawn_nb")
 
@@ -37,13 +44,20 @@ STARTING = ("PMIx_Spawn", "PMIx_Spawn_nb")
 class Notes:
     """What a plan can't say of the program, each with how often that was: where the run was cut
     off; what was left out; what is more ordered than the program, so that a race can be missed;
-    after what another run may do otherwise; and what is written otherwise."""
+    after what another run may do otherwise; what is written otherwise; and the functions to which
+    the program's own code refers that can lead to a call of PMIx."""
 
     cut_off: Counter[str] = field(default_factory=Counter)
     left_out: Counter[str] = field(default_factory=Counter)
     more_ordered: Counter[str] = field(default_factory=Counter)
     of_luck: Counter[str] = field(default_factory=Counter)
     otherwise: Counter[str] = field(default_factory=Counter)
+    uses: Counter[str] = field(default_factory=Counter)
+
+    @property
+    def can_call_pmix(self) -> bool:
+        """Whether what luck decides can lead to a call of PMIx by the program's own code."""
+        return any(self.uses.values())
 
     def add(self, others: "Notes") -> None:
         """Takes other notes too, also those that say that something was never so."""
@@ -52,6 +66,7 @@ class Notes:
         self.more_ordered.update(others.more_ordered)
         self.of_luck.update(others.of_luck)
         self.otherwise.update(others.otherwise)
+        self.uses.update(others.uses)
 
 
 def note_recording(recording: Recording, notes: Notes) -> None:
@@ -63,6 +78,8 @@ def note_recording(recording: Recording, notes: Notes) -> None:
             "processes whose recordings end before PMIx_Finalize: how they went on isn't known"
         ] += 1
     notes.more_ordered.update(recording.unseen_pmix)
+    uses = recording.uses.decode() if recording.uses else NOT_NOTED
+    notes.uses[uses] += recording.uses != NO_USE
     for name, count in recording.others.items():
         noted = notes.of_luck if OF_LUCK.fullmatch(name) else notes.left_out
         noted[f"calls of {name}"] += count
@@ -113,12 +130,18 @@ def note_directives(call: Call, notes: Notes) -> None:
                 notes.left_out[f"directives {show(it.key)}"] += 1
 
 
+def is_floating(call: Call) -> bool:
+    """Whether a call is a get of the program that doesn't block, waits for its key, and has it."""
+    action = call.action
+    is_get = isinstance(action, Get) and not stands_early(action)
+    return is_get and find_ending(action) is Ending.CALLS_PROGRAM and call.status == 0
+
+
 def note_unawaited(calls: Sequence[Call], messages: Messages, notes: Notes) -> None:
     """Notes the calls of the program that didn't block, ended, and were followed by others."""
     last = max(calls[-1].begins if calls else 0, messages.begins[-1] if messages.begins else 0)
-    unawaited = (it for it in calls if it.is_of_pmix and it.ends and it.ends < last)
-    count = sum(find_ending(it.action) is Ending.CALLS_PROGRAM for it in unawaited)
-    notes.more_ordered[
-        "calls of the program that don't block and ended before others: in the plan it waited for "
-        "them"
-    ] += count
+    ended = (it for it in calls if it.is_of_pmix and it.ends and it.ends < last)
+    unawaited = [it for it in ended if find_ending(it.action) is Ending.CALLS_PROGRAM]
+    floating = sum(is_floating(it) for it in unawaited)
+    notes.more_ordered[FLOATING] += floating
+    notes.more_ordered[UNAWAITED] += len(unawaited) - floating

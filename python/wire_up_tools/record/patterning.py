@@ -9,7 +9,7 @@ from wire_up_tools.record.patterns.indexing import index_numbers, index_order
 from wire_up_tools.record.patterns.scripts import Script
 from wire_up_tools.record.patterns.writing import Pattern, make_pattern, say_broken
 from wire_up_tools.record.planning import Plan
-from wire_up_tools.record.writing import list_notes, say_luck
+from wire_up_tools.record.writing import list_notes, say_luck, say_own_code
 from wire_up_tools.words import WRITTEN_OTHERWISE
 
 # A job of so many ranks tells nothing of loops: any plan of it fits a pattern.
@@ -53,7 +53,7 @@ def find_pattern(plan: Plan) -> Pattern:
 def add_notes(text: str, plan: Plan) -> str:
     """A pattern with what its plan can't say behind the first line."""
     first, _, rest = text.partition("\n")
-    lines = [first, *say_luck(plan)]
+    lines = [first, *say_luck(plan), *say_own_code(plan)]
     for title, them in list_notes(plan):
         if them and title != WRITTEN_OTHERWISE:
             lines += [f"# {title}", *(f"#   {it}" for it in them)]

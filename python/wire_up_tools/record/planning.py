@@ -6,6 +6,7 @@ from typing import Optional
 from wire_up_tools.failures import Refused
 from wire_up_tools.limits import VERSION_1, Limits
 from wire_up_tools.record.draft import Draft, Part, Step, make_draft, walk
+from wire_up_tools.record.floating import drop_floating
 from wire_up_tools.record.meetings import Sets
 from wire_up_tools.record.mpi_order import MpiOrder, order_by_mpi
 from wire_up_tools.record.names import Spelling, find_spelling
@@ -22,12 +23,14 @@ from wire_up_tools.record.shortening import shorten
 
 @dataclass(frozen=True)
 class Choices:
-    """What is taken from recordings: the order of MPI, unless `with_mpi` is false; and with
-    `is_strict` none from ends that another run may have found open. `most` are the limits."""
+    """What is taken from recordings: the order of MPI, unless `with_mpi` is false; with `is_strict`
+    none from ends that another run may have found open; and none from gets that don't block,
+    without `has_floating`. `most` are the limits."""
 
     with_mpi: bool = True
     is_strict: bool = False
     most: Limits = VERSION_1
+    has_floating: bool = True
 
 
 @dataclass(frozen=True)
@@ -117,6 +120,8 @@ def make_whole_plan(recordings: Sequence[Recording], choices: Choices) -> Plan:
     fences = make_fences(sets, spelling)
     calls = make_lines(processes, spelling, choices.with_mpi)
     note_overlaps(processes, calls, fences, choices.with_mpi)
+    if not choices.has_floating:
+        drop_floating(calls.part)
     calls.notes.add(fences.notes)
     parts, notes, mpi = [calls.part, fences.part], calls.notes, MpiSummary()
     refuse_too_many(parts, choices.most)

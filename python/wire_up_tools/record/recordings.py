@@ -99,7 +99,9 @@ class Recording:
     `others` counts the calls that are only counted, by their names; `polls` those that found
     nothing before another call, and `found` those that found a request complete which isn't known
     as a receive or a collective; `unseen` what called MPI past the recorder, and `unseen_pmix` what
-    called PMIx so, by what is said of it. `outer` has the number of the place at which the function
+    called PMIx so, by what is said of it. `uses` is a function to which the program's own code
+    refers that can lead to a call of PMIx, `NO_USE` for none, and None where that wasn't noted.
+    `outer` has the number of the place at which the function
     of a place was called; `by_threads` counts the other threads that called, and the calls of MPI
     that another thread waited for. The job has `job_size` processes, and the process is one of the
     job's program `application`, if the library told that; `host` is its node by the library, or
@@ -120,6 +122,7 @@ class Recording:
     found: Mapping[str, int]
     unseen: Mapping[str, int]
     unseen_pmix: Mapping[str, int]
+    uses: Optional[bytes]
     job_size: Optional[int]
     application: Optional[int]
     world: Optional[World]
@@ -161,6 +164,7 @@ PLAIN = {
     "found": re.compile(r"found (MPI_\w+) (\d{1,18})"),
     "unseen": re.compile(rf"unseen ({UNSEEN_KINDS}) ({WORD})"),
     "thread": re.compile(r"thread"),
+    "uses": re.compile(r"uses (\w{1,128})"),
     "job": re.compile(r"job (\d{1,10})"),
     "application": re.compile(r"application (\d{1,10})"),
     "node": re.compile(rf"node ({WORD})"),
@@ -172,8 +176,11 @@ PLAIN = {
 }
 
 
-# What the library tells of the process and its job.
-TOLD = ("job", "application", "node")
+# What the library tells of the process and its job, and the recorder of the program's own code.
+USES = "uses"
+TOLD = ("job", "application", "node", USES)
+# What is told where own code refers to no function that can lead to a call of PMIx.
+NO_USE = b"nothing"
 
 
 def read_communicator(groups: Groups) -> RecordedCommunicator:
@@ -324,7 +331,7 @@ class Records:
         elif verb == "thread":
             self.by_threads += 1
         elif verb in TOLD:
-            self.told[verb] = decode(groups[0])
+            self.tell(verb, decode(groups[0]))
         elif verb == "world":
             self.world = World(int(groups[0]), int(groups[1]), number)
         elif verb in ("comm", "inter"):
@@ -334,6 +341,11 @@ class Records:
             self.outer.update([(groups[0], groups[3])] if groups[3] else [])
         elif verb == "line":
             self.places[groups[0]] = read_line(groups)
+
+    def tell(self, what: str, said: bytes) -> None:
+        """Takes what is told of the process. What its own code refers to once, it can call."""
+        if what != USES or self.told.get(USES, NO_USE) == NO_USE:
+            self.told[what] = said
 
 
 @dataclass(frozen=True)
@@ -403,6 +415,7 @@ def read_recording(path: str, data: bytes) -> Recording:
         found=records.found,
         unseen=records.unseen,
         unseen_pmix=records.unseen_pmix,
+        uses=records.told.get(USES),
         job_size=find_number(records.told, "job"),
         application=find_number(records.told, "application"),
         world=records.world,

@@ -12,8 +12,9 @@ from wire_up_tools.checker import Checker, find_checker
 from wire_up_tools.failures import Refused
 from wire_up_tools.files import STANDARD_OUTPUT, write_whole
 from wire_up_tools.limits import LARGE, VERSION_1
+from wire_up_tools.record.floating import settle_floating
 from wire_up_tools.record.merging import merge_plans
-from wire_up_tools.record.notes import Notes
+from wire_up_tools.record.notes import FLOATING
 from wire_up_tools.record.partings import Run
 from wire_up_tools.record.patterning import find_pattern, holds_in_part
 from wire_up_tools.record.patterns.scripts import ANY_VALUE
@@ -25,11 +26,12 @@ from wire_up_tools.record.sizes.asking import SizesRequest
 from wire_up_tools.record.sizes.doing import answer_sizes
 from wire_up_tools.record.verdicts import (
     compare_verdicts,
+    finds_nothing,
     judge_library,
     judge_placements,
     judge_runs,
 )
-from wire_up_tools.record.writing import write_answers, write_plan
+from wire_up_tools.record.writing import is_by_mpi_alone, write_answers, write_plan
 
 # What is said of verdicts over plans that are known to be more ordered than the program.
 IN_PART = "holds only in part"
@@ -98,13 +100,14 @@ def count_notes(notes: Mapping[str, int]) -> str:
     return ", ".join(f"{count} {what}" for what, count in sorted(notes.items()) if count)
 
 
-def say_part(notes: Notes) -> None:
+def say_part(plan: Plan) -> None:
     """Says why a verdict over a plan holds only in part, if it does."""
+    notes = plan.notes
     in_part = f"a verdict over this plan {IN_PART}"
     for before, noted in (("the run was cut off: ", notes.cut_off), ("", notes.more_ordered)):
         if any(noted.values()):
             say(f"{before}{in_part}: {count_notes(noted)}")
-    if any(notes.of_luck.values()):
+    if any(notes.of_luck.values()) and not is_by_mpi_alone(plan):
         received = count_notes(notes.of_luck)
         say(f"{received}: another run may do otherwise after them")
 
@@ -136,7 +139,7 @@ def write_output(plan: Plan, recordings: Sequence[Recording], output: Output) ->
         write_whole(output.answers, answers)
     if output.pattern:
         write_pattern(plan, output.pattern)
-    say_part(plan.notes)
+    say_part(plan)
     return text
 
 
@@ -163,11 +166,28 @@ def add_verdicts(plan: Plan, make_other: Callable[[Choices], Plan], checker: Che
     return replace(plan, mpi=replace(plan.mpi, verdicts=verdicts))
 
 
+def settle_gets(plan: Plan, make_other: Callable[[Choices], Plan], checker: Checker) -> Plan:
+    """A plan that no longer says of its gets that don't block that they order more than the program
+    does, where nothing is found in it, nor in one without them. The other plan is made by what is
+    taken for it. Raises Refused."""
+    if not plan.notes.more_ordered[FLOATING]:
+        return plan
+    without = make_other(replace(plan.choices, has_floating=False))
+    if not finds_nothing(checker, write_plan(plan), write_plan(without)):
+        return plan
+    return replace(plan, notes=settle_floating(plan.notes))
+
+
 def say_verdicts(plan: Plan) -> None:
     """Says the verdicts with and without --strict, where they differ."""
     if plan.mpi.verdicts:
         of_luck = f"which takes nothing from {plan.mpi.left_to_luck} ends of requests"
         say(f"{plan.mpi.verdicts}, {of_luck}")
+
+
+def judge_otherwise(plan: Plan, make_other: Callable[[Choices], Plan], checker: Checker) -> Plan:
+    """A plan that says what is found where less is taken from the recordings. Raises Refused."""
+    return settle_gets(add_verdicts(plan, make_other, checker), make_other, checker)
 
 
 def make_choices(output: Output, path: Optional[str]) -> Choices:
@@ -194,7 +214,7 @@ def merge(output: Output, runs: Sequence[Sequence[str]], folder: str) -> None:
     plan = merge_plans(made)
     if path is not None:
         checker = Checker(path, choices.most is LARGE)
-        plan = add_verdicts(
+        plan = judge_otherwise(
             plan, lambda other: merge_plans([make_run(it, other) for it in recordings]), checker
         )
     text = write_plan(plan, made[0].places)
@@ -205,7 +225,7 @@ def merge(output: Output, runs: Sequence[Sequence[str]], folder: str) -> None:
         write_pattern(plan, output.pattern)
     for parting in plan.partings:
         say(f"the runs part: {parting}")
-    say_part(plan.notes)
+    say_part(plan)
     say_verdicts(plan)
     if path is not None:
         own = [write_plan(it.plan, it.places) for it in made]
@@ -225,7 +245,7 @@ def make(output: Output, paths: Sequence[str], folder: str) -> None:
     plan = make_plan(recordings, choices)
     if path is not None:
         checker = Checker(path, choices.most is LARGE)
-        plan = add_verdicts(plan, lambda other: make_plan(recordings, other), checker)
+        plan = judge_otherwise(plan, lambda other: make_plan(recordings, other), checker)
     text = write_output(plan, recordings, output)
     say_verdicts(plan)
     if path is not None:

@@ -36,6 +36,11 @@ def compare_verdicts(checker: Checker, plan: str, strict_plan: str) -> Optional[
     return f"{found}, and {strict} with --strict"
 
 
+def finds_nothing(checker: Checker, *plans: str) -> bool:
+    """Whether the checker finds nothing in any of these plans."""
+    return all(find_verdict(checker, it) == NOTHING for it in plans)
+
+
 def judge_placements(checker: Checker, plan: str) -> Optional[str]:
     """What is found on other placements of the ranks alone; None where nothing is, where something
     is found as the plan is placed, or where the checker judges no other placements."""

@@ -18,6 +18,8 @@ from wire_up_tools.words import (
     MORE_ORDERED,
     MPI_COMMENT,
     OTHERWISE_AFTER,
+    OTHERWISE_ALONE,
+    OWN_CODE,
     PARTED,
     PLACE_COMMENT,
     RECORDED_BY,
@@ -112,6 +114,18 @@ def say_mpi(plan: Plan) -> Iterator[str]:
         )
 
 
+def is_by_mpi_alone(plan: Plan) -> bool:
+    """Whether what another run may do otherwise leads to no call of PMIx but MPI's own, and hides
+    no finding among these."""
+    return not plan.notes.can_call_pmix and not plan.mpi.verdicts
+
+
+def say_own_code(plan: Plan) -> Iterator[str]:
+    """That what luck decides leads to no call of PMIx, where it decides something."""
+    if is_by_mpi_alone(plan) and (plan.mpi.left_to_luck or any(plan.notes.of_luck.values())):
+        yield f"# {OWN_CODE}"
+
+
 def list_notes(plan: Plan) -> Iterator[tuple[str, Sequence[str]]]:
     """What the plan can't say: titles, each with the lines below it."""
     notes = plan.notes
@@ -120,7 +134,7 @@ def list_notes(plan: Plan) -> Iterator[tuple[str, Sequence[str]]]:
         (CUT_OFF, notes.cut_off),
         (LEFT_OUT, notes.left_out),
         (MORE_ORDERED, notes.more_ordered),
-        (OTHERWISE_AFTER, notes.of_luck),
+        (OTHERWISE_ALONE if is_by_mpi_alone(plan) else OTHERWISE_AFTER, notes.of_luck),
         (WRITTEN_OTHERWISE, notes.otherwise),
     ):
         yield title, [f"{count} {what}" for what, count in sorted(counted.items()) if count]
@@ -136,7 +150,8 @@ def say_notes(plan: Plan) -> Iterator[str]:
 
 def say_head(plan: Plan) -> list[str]:
     """The comments at the head of the plan."""
-    return [*say_recordings(plan), *say_words(plan), *say_mpi(plan), *say_notes(plan)]
+    mpi = [*say_mpi(plan), *say_own_code(plan)]
+    return [*say_recordings(plan), *say_words(plan), *mpi, *say_notes(plan)]
 
 
 # --- the plan ---

@@ -13,8 +13,14 @@ from wire_up_tools.plan import Call
 
 # The exit statuses of an answer: nothing is found, or something is.
 CLEAN, FOUND = 0, 1
+# The exit status of a checker that has no such command or option.
+NOT_READ = 5
 # How many bytes of an answer are read at once.
 BLOCK = 1 << 20
+
+
+class NotTaken(Refused):
+    """What an older checker says of a command or an option that it doesn't have."""
 
 
 @dataclass(frozen=True)
@@ -31,20 +37,6 @@ class Asker:
         except OSError as why:
             raise Refused(f"{self.checker.path}: {why.strerror}") from None
 
-    def has_command(self, command: str) -> bool:
-        """Whether the checker has a command. Raises Refused if it can't be run."""
-        try:
-            return self.checker.has_command(command)
-        except OSError as why:
-            raise Refused(f"{self.checker.path}: {why.strerror}") from None
-
-    def takes(self, command: str, option: str) -> bool:
-        """Whether a command of the checker takes an option. Raises Refused if it can't be run."""
-        try:
-            return self.checker.takes(command, option)
-        except OSError as why:
-            raise Refused(f"{self.checker.path}: {why.strerror}") from None
-
     def ask(self, command: str, *words: str) -> Answer:
         """Asks a command. Raises Refused if the checker can't be run."""
         try:
@@ -53,10 +45,12 @@ class Asker:
             raise Refused(f"{self.checker.path}: {why.strerror}") from None
 
     def judge(self, status: int, stderr: str) -> None:
-        """Raises Refused for a status that isn't that of an answer, with what was said last."""
+        """Raises Refused for a status that isn't that of an answer, with what was said last;
+        NotTaken if the checker is an older one, which can't read the command line."""
         if status not in (CLEAN, FOUND):
             last = stderr.strip().split("\n")[-1]
-            raise Refused(last or f"{self.checker.path} ended with status {status}")
+            kind = NotTaken if status == NOT_READ else Refused
+            raise kind(last or f"{self.checker.path} ended with status {status}")
 
     def refuse(self, wanted: str) -> Refused:
         """What to raise for an answer that isn't what was wanted."""

@@ -15,7 +15,7 @@ from wire_up_tools.report.contents import Report, make_report
 from wire_up_tools.report.html_page import write_page
 from wire_up_tools.report.library_page import find_judged
 from wire_up_tools.report.pattern_page import write_pattern_page, write_pattern_text
-from wire_up_tools.report.patterns import CleanPattern, is_pattern, judge_pattern
+from wire_up_tools.report.patterns import CleanPattern, is_pattern, judge_pattern, locate_calls
 from wire_up_tools.report.sarif import write_results, write_sarif
 from wire_up_tools.report.terminal_text import write_text
 from wire_up_tools.run.libraries.traits import LIBRARIES, take_library
@@ -156,7 +156,9 @@ def write_forms(options: Options, asker: Asker) -> Written:
         sarif = write_results(found.version, [], options.source) if options.sarif else ""
         return Written(write(found), sarif, CLEAN)
     report = report_plan(options, replace(asker, data=found.data))
-    return write_plan_forms(options, replace(report, pattern=found.pattern))
+    lines = locate_calls(found.pattern, report.plan)
+    report = replace(report, pattern=found.pattern, pattern_lines=lines)
+    return write_plan_forms(options, report)
 
 
 def report_plan(options: Options, asker: Asker) -> Report:

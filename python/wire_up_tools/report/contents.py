@@ -2,7 +2,7 @@
 import os
 import time
 from collections.abc import Sequence
-from dataclasses import dataclass
+from dataclasses import dataclass, field
 from typing import Optional
 
 from wire_up_tools import words
@@ -14,6 +14,7 @@ from wire_up_tools.report.diagram import Diagram
 from wire_up_tools.report.findings import find_groups
 from wire_up_tools.report.orders import Order, find_order
 from wire_up_tools.report.partial import find_reasons, find_verdicts
+from wire_up_tools.report.pattern_lines import Lines
 from wire_up_tools.report.patterns import PLAN_NAME, Pattern, is_counterexample
 from wire_up_tools.report.placements import Elsewhere, find_elsewhere
 from wire_up_tools.report.race_diagram import make_race_diagram
@@ -56,7 +57,8 @@ class Report:
     the plan, if that is asked for.
 
     `path` is that of the plan as it was given, or of the pattern of which the plan is the
-    counterexample, and `version` that of the checker.
+    counterexample, and `version` that of the checker. `pattern_lines` are the lines of the pattern
+    from which the calls of that plan come.
     """
 
     path: str
@@ -67,6 +69,7 @@ class Report:
     wire_up: Optional[WireUp] = None
     elsewhere: Optional[Elsewhere] = None
     pattern: Optional[Pattern] = None
+    pattern_lines: Lines = field(default_factory=dict)
     judged: Optional[Judged] = None
 
     @property

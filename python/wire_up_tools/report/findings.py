@@ -1,8 +1,8 @@
 """What the checker finds in a plan: its findings in groups, of which each is one mistake.
 
-They are taken from `wire_up check --lines`, and unless there are too many from its JSON. That has
-of each group its first finding and how many there are: the others of a group are the findings of
-the same mistake.
+They are taken from the JSON of `wire_up check --lines`, unless its lines say that there are too
+many. The JSON has of each group its first finding and how many there are: the others of a group
+are the findings of the same mistake.
 """
 import collections
 import contextlib
@@ -23,6 +23,8 @@ PAIRS = 40
 # The JSON is read of no more findings than this. Of more, the groups are read as lines, and pairs
 # are taken from the first findings.
 READ_AS_JSON, PAIRED = 20_000, 20_000
+# A plan of at most so many calls can't have more findings: its JSON is read at once.
+FEW_CALLS = 200
 # How many groups are read.
 MOST_GROUPS = 20_000
 # The two lines of a group, and the last line.
@@ -134,19 +136,30 @@ def find_groups(asker: Asker, plan: Plan) -> list[Group]:
 
     Raises Refused if the checker refuses the plan, ends with a fault, or doesn't write findings.
     """
-    with contextlib.closing(stream_lines(asker, "check", "--lines")) as lines:
-        said = list(itertools.islice(lines, 2 * MOST_GROUPS))
     try:
+        if plan.call_count <= FEW_CALLS:
+            return ask_groups(asker, plan)
+        with contextlib.closing(stream_lines(asker, "check", "--lines")) as lines:
+            said = list(itertools.islice(lines, 2 * MOST_GROUPS))
         groups, total = read_counted(plan, said)
         if not total:
             return []
         if total > READ_AS_JSON or len(groups) >= MOST_GROUPS:
             return add_pairs(asker, plan, groups)
-        answer = asker.ask("check", "--lines", "--json")
-        asker.judge(answer.status, answer.stderr)
-        return read_groups(plan, json.loads(answer.stdout))
+        return ask_groups(asker, plan)
     except (ValueError, LookupError, TypeError):
         raise asker.refuse("finding") from None
+
+
+def ask_groups(asker: Asker, plan: Plan) -> list[Group]:
+    """The groups of a plan of few findings, as JSON has them.
+
+    Raises Refused if the plan is refused, and ValueError, LookupError or TypeError for an answer of
+    another form.
+    """
+    answer = asker.ask("check", "--lines", "--json")
+    asker.judge(answer.status, answer.stderr)
+    return read_groups(plan, json.loads(answer.stdout))
 
 
 def read_groups(plan: Plan, said: Any) -> list[Group]:

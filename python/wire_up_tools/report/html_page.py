@@ -17,6 +17,7 @@ from wire_up_tools.report.library_page import write_library
 from wire_up_tools.report.markup import escape, escape_lines
 from wire_up_tools.report.messages import explain_late, find_late
 from wire_up_tools.report.page_style import STYLE
+from wire_up_tools.report.pattern_text import write_pattern
 from wire_up_tools.report.phrases import VALUE_WIDTH, count_of, cut, describe_circle, pick
 from wire_up_tools.report.placements import Placed
 from wire_up_tools.report.places import list_places, say_place
@@ -39,6 +40,8 @@ HEAD = """<!DOCTYPE html>
 <body>
 """
 FOOT = "\n</body>\n</html>\n"
+# How links to the lines of a pattern begin, where the plan below has lines too.
+OF_PATTERN = "pattern"
 LISTS_ALL = "<code>wire_up check</code> lists all."
 
 
@@ -54,7 +57,7 @@ def write_page(report: Report) -> str:
     parts += [write_placed(report, number, it) for number, it in placed]
     judged = report.judged
     parts += [write_library(judged, report.plan)] if judged and judged.found else []
-    parts.append(write_plan(report))
+    parts += [*write_pattern_of(report), write_plan(report)]
     return HEAD.format(title=title, style=STYLE) + "\n".join(parts) + FOOT
 
 
@@ -185,13 +188,15 @@ def write_calls(report: Report, finding: Finding, calls: Sequence[Call]) -> str:
     """Calls that are told of a finding, with their lines and places."""
     has_places = any(it.place for it in calls)
     in_plan = f"line in the {'recorded ' * report.plan.is_recorded}plan"
-    heads = ["rank", "call", *["in the program"] * has_places, in_plan]
+    in_pattern = ["line in the pattern"] * bool(report.pattern_lines)
+    heads = ["rank", "call", *["in the program"] * has_places, in_plan, *in_pattern]
     rows = ["".join(f"<th>{it}</th>" for it in heads)]
     for call in calls:
         role = write_beside([explaining.role(finding, call)])
         cells = [escape(call.rank.name), escape(f"{call.number} {name_kind(call)}") + role]
         cells += [write_place(report, call)] if has_places else []
         cells.append(link_to_call(call, f"{report.plan_name}:{call.line}"))
+        cells += link_to_pattern(report, call)
         rows.append("".join(f"<td>{it}</td>" for it in cells))
     table = "".join(f"<tr>{it}</tr>" for it in rows)
     return f'<div class="wide" tabindex="0"><table>{table}</table></div>'
@@ -211,6 +216,20 @@ def write_beside(said: Sequence[str]) -> str:
 def link_to_call(call: Call, said: str) -> str:
     """A link to the line of a call."""
     return f'<a href="#line-{call.line}">{escape(said)}</a>'
+
+
+def link_to_pattern(report: Report, call: Call) -> list[str]:
+    """A link to the line of the pattern from which a call comes, if that is known."""
+    line = report.pattern_lines.get(call)
+    said = f"{report.name}:{line}"
+    return [f'<a href="#{OF_PATTERN}-{line}">{escape(said)}</a>'] if line else []
+
+
+def write_pattern_of(report: Report) -> list[str]:
+    """The pattern of which the plan is the counterexample, with the lines of the races."""
+    calls = [call for it in report.causes for call in it.first.calls]
+    named = {report.pattern_lines.get(it, 0) for it in calls}
+    return [write_pattern(report.pattern, named, OF_PATTERN)] if report.pattern else []
 
 
 def link_with_place(plan: Plan, call: Call) -> str:

@@ -51,7 +51,7 @@ def say_polled(head: Sequence[str]) -> Optional[str]:
     """Of how many polls the order of one run is taken, and what the verdict is without."""
     found = (POLLED.fullmatch(it) for it in head)
     count = next((int(it[1]) for it in found if it), 0)
-    if not count:
+    if not count or is_by_mpi_alone(head):
         return None
     verdicts = find_both(head)
     both = f": {verdicts}" if verdicts else ""
@@ -62,6 +62,24 @@ def say_received(head: Sequence[str]) -> Optional[str]:
     """What could have come otherwise, so that another run may do something else."""
     listed = list_below(head, words.OTHERWISE_AFTER)
     return f"another run may do otherwise after {list_names(listed)}" if listed else None
+
+
+def is_by_mpi_alone(head: Sequence[str]) -> bool:
+    """Whether the head says that what luck decides leads to no call of PMIx but MPI's own."""
+    return words.OWN_CODE in head
+
+
+def say_own_code(plan: Plan) -> Optional[str]:
+    """What luck decides that leads to no call of PMIx, and on what that rests; None where it
+    decides nothing, or can lead to one."""
+    if not is_by_mpi_alone(plan.declared.head):
+        return None
+    listed = plan.list_in_head(words.OTHERWISE_ALONE)
+    of_luck = list_names(listed) if listed else "requests that it may find open"
+    return (
+        f"Another run may do otherwise after {of_luck}, but makes no call of PMIx by that. "
+        f"{words.OWN_CODE}"
+    )
 
 
 def say_parted(head: Sequence[str]) -> Optional[str]:

@@ -15,41 +15,28 @@ from wire_up_tools import words
 from wire_up_tools.failures import Refused
 from wire_up_tools.plan import Plan
 from wire_up_tools.plan_reading import split_lines
-from wire_up_tools.report.asking import CLEAN, FOUND, Asker
+from wire_up_tools.report.asking import CLEAN, FOUND, NOT_READ, Asker
 from wire_up_tools.report.partial import find_in_head
+from wire_up_tools.report.pattern_answers import CallLine, Settled, read_settled
+from wire_up_tools.report.pattern_lines import Lines, find_lines
 from wire_up_tools.report.phrases import count_of
 
 OPTION = "--pattern"
 # Lines that are skipped, and the first word after them.
 FIRST = re.compile(rb"(?:[ \t]*(?:#[^\n]*)?\r?\n)*[ \t]*pattern(?=\s|\Z)")
-EVERYWHERE = "for every number of ranks on every placement"
-NOTHING = f"findings 0 {EVERYWHERE}"
-WAITS = re.compile(r"waits (\S+) ([1-9]\d*) (\S+)")
+# What is asked besides: the statuses of get-nows, and whether each call succeeds.
+MORE = ("--answers", "--complete")
+FIRST_COMMENT = "# counterexample, "
 COUNTEREXAMPLE = re.compile(r"counterexample, [1-9]\d* ranks?")
 # How the comments at the end of a counterexample say what is found in it.
 FINDINGS = ("# race ", "# rewrite ")
-# What begins a role, and the lines of a script that are no calls.
-ROLES, NO_CALLS = ("one", "many"), ("for", "end")
+# What begins a role, and the lines behind that which are no calls.
+MANY = "many"
+ROLES, NO_CALLS = ("one", MANY), ("for", "end", "job")
 # What is said of a pattern that comes from a plan of which that is so.
 IN_PART = "Of the program that was recorded it holds only in part."
 # What a counterexample is called that stands in no file yet.
 PLAN_NAME = "counterexample.plan"
-
-
-@dataclass(frozen=True)
-class Waiting:
-    """A call of a pattern that waits for ever in some plan of it: the number of the call in its
-    role, and its line in the file, if it is found there."""
-
-    role: str
-    number: int
-    verb: str
-    line: Optional[int]
-
-    @property
-    def name(self) -> str:
-        """How it is named."""
-        return f"{self.role} {self.number} {self.verb}"
 
 
 @dataclass(frozen=True, eq=False)
@@ -73,19 +60,28 @@ class Pattern:
 
 @dataclass(frozen=True, eq=False)
 class CleanPattern:
-    """A pattern without findings, and its calls that wait for ever somewhere. `version` is that of
-    the checker."""
+    """A pattern without findings, and what is said of its calls. `version` is that of the
+    checker."""
 
     pattern: Pattern
     version: str
-    waits: Sequence[Waiting]
+    said: Settled
+
+    def find_line(self, line: CallLine) -> Optional[int]:
+        """The line of the file where a call stands, if it is found there."""
+        calls = list_calls(self.pattern)
+        return next((it for role, number, it in calls if line.is_at(role, number)), None)
 
     @property
     def reasons(self) -> Sequence[str]:
         """Why the verdict holds only in part, by the head that the recorder wrote."""
-        head = self.pattern.head
-        is_made = any(it.startswith(words.PATTERN_BY) for it in head[:1])
-        return find_in_head(head) if is_made else ()
+        return find_in_head(self.pattern.head) if self.origin else ()
+
+    @property
+    def origin(self) -> str:
+        """What the recorder says of where it comes from; nothing for one by hand."""
+        first = "".join(self.pattern.head[:1])
+        return first if first.startswith(words.PATTERN_BY) else ""
 
 
 @dataclass(frozen=True)
@@ -103,23 +99,20 @@ def is_pattern(data: bytes) -> bool:
 
 def judge_pattern(path: str, asker: Asker) -> Union[CleanPattern, Counterexample]:
     """What the checker says of a pattern. Raises Refused if it refuses it, or judges none."""
-    if not asker.takes("check", OPTION):
+    small = dataclasses.replace(asker, checker=dataclasses.replace(asker.checker, is_large=False))
+    answer = small.ask("check", OPTION, *MORE)
+    if answer.status == NOT_READ:
+        answer = small.ask("check", OPTION)
+    if answer.status == NOT_READ:
         raise Refused(f"{asker.checker.path}: judges no patterns, and {path} is one")
-    small = dataclasses.replace(asker.checker, is_large=False)
-    answer = dataclasses.replace(asker, checker=small).ask("check", OPTION)
     asker.judge(answer.status, answer.stderr)
     pattern = Pattern(path, split_lines(asker.data))
-    if answer.status == FOUND:
+    if answer.status == FOUND and answer.stdout.startswith(FIRST_COMMENT):
         return Counterexample(pattern, answer.stdout.encode())
-    lines = answer.stdout.splitlines()
-    first, rest = "".join(lines[:1]), lines[1:]
-    waits = [WAITS.fullmatch(it) for it in rest]
-    if answer.status != CLEAN or first != NOTHING or not all(waits):
+    said = read_settled(answer.stdout.splitlines(), answer.status == CLEAN)
+    if not said:
         raise asker.refuse("verdict on a pattern")
-    line_of = {(role, number): line for role, number, line in list_calls(pattern)}
-    found = [(it[1], int(it[2]), it[3]) for it in waits if it]
-    waiting = [Waiting(*it, line_of.get((it[0], it[1]))) for it in found]
-    return CleanPattern(pattern, asker.version(), waiting)
+    return CleanPattern(pattern, asker.version(), said)
 
 
 def list_calls(pattern: Pattern) -> Iterator[tuple[str, int, int]]:
@@ -134,6 +127,17 @@ def list_calls(pattern: Pattern) -> Iterator[tuple[str, int, int]]:
         elif role and said[0] not in NO_CALLS:
             count += 1
             yield role, count, number
+
+
+def find_groups(pattern: Pattern) -> list[str]:
+    """The names of the groups of a pattern that may be empty: no line says a least number."""
+    said = (line.split() for line in pattern.lines)
+    return [it[1] for it in said if len(it) == 2 and it[0] == MANY]
+
+
+def locate_calls(pattern: Pattern, plan: Plan) -> Lines:
+    """From which line of a pattern each call of its counterexample comes."""
+    return find_lines("\n".join(pattern.lines), [it for _, _, it in list_calls(pattern)], plan)
 
 
 def is_counterexample(plan: Plan) -> bool:
@@ -153,33 +157,3 @@ def is_counterexample(plan: Plan) -> bool:
 def say_counterexample(plan: Plan) -> str:
     """What a counterexample is one for."""
     return f"for every number of ranks: a counterexample with {count_of(len(plan.ranks), 'rank')}"
-
-
-def say_clean(found: CleanPattern) -> str:
-    """The verdict on a pattern without findings, with the calls that wait for ever."""
-    part = f" ({'; '.join(found.reasons)})" if found.reasons else ""
-    said = f"no race, {EVERYWHERE}{part}"
-    if not found.waits:
-        return said
-    names = ", ".join(it.name for it in found.waits)
-    what = count_of(len(found.waits), "call waits", "calls wait")
-    return f"{said}; {what} for ever in some of its plans: {names}"
-
-
-def explain_clean(found: CleanPattern) -> str:
-    """What the verdict means."""
-    said = explain_end(found)
-    return f"{said} {IN_PART}" if found.reasons else said
-
-
-def explain_end(found: CleanPattern) -> str:
-    """That each plan of the pattern has one end."""
-    if found.waits:
-        return (
-            "Each plan of the pattern has one end, whichever ranks are fast. In some plans a rank "
-            "waits there for ever: what comes after that call is never reached."
-        )
-    return (
-        "However many ranks its groups have, on whichever nodes they are, and whichever of them "
-        "are fast: each plan of the pattern has one end."
-    )

@@ -12,7 +12,7 @@ from typing import Optional
 from wire_up_tools.failures import Refused
 from wire_up_tools.plan import Plan
 from wire_up_tools.plan_reading import read_plan
-from wire_up_tools.report.asking import CLEAN, Asker, stream_lines
+from wire_up_tools.report.asking import CLEAN, Asker, NotTaken, stream_lines
 from wire_up_tools.report.causes import Cause, find_causes
 from wire_up_tools.report.diagram import Diagram, Lane
 from wire_up_tools.report.findings import PAIRED, Finding, read_line, tally_up
@@ -54,11 +54,11 @@ def find_elsewhere(search: Search, order: Order, written: Iterable[Cause]) -> Op
     Raises Refused if the checker can't be run, or writes lines of another form.
     """
     asker = search.asker
-    if not asker.takes("check", ANYWHERE):
-        return None
     try:
         with contextlib.closing(stream_lines(asker, "check", ANYWHERE)) as lines:
             said = list(itertools.islice(lines, PAIRED))
+    except NotTaken:
+        return None
     except Refused as why:
         return Elsewhere(fault=f"{why}")
     try:
@@ -89,7 +89,7 @@ def find_placed(
     search: Search, order: Order, cause: Cause, ranks: Sequence[str]
 ) -> Optional[Placed]:
     """A cause on its placement; None where the checker doesn't write that."""
-    if not ranks or search.is_late or not search.asker.has_command(PLACE):
+    if not ranks or search.is_late:
         return None
     written = search.asker.ask(PLACE, ",".join(ranks))
     if written.status != CLEAN:

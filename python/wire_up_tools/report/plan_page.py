@@ -61,11 +61,12 @@ def write_left_out(count: int) -> list[str]:
     return [f'<div class="cut"><b>…</b>{count_of(count, "line")}</div>'] if count > 0 else []
 
 
-def write_plan_line(number: int, line: str, is_named: bool) -> str:
-    """A line of the plan. A long one is cut, and has its whole as a title."""
+def write_plan_line(number: int, line: str, is_named: bool, of: str = "line") -> str:
+    """A line of the plan. A long one is cut, and has its whole as a title. `of` is how links to it
+    begin."""
     said = line.split()
     kind = "said" if said and said[0].startswith("#") else ""
     kind = "named" if is_named else kind
     title = f' title="{escape(line)}"' if len(line) > LINE_WIDTH else ""
     shown = f"<b>{number}</b>{escape(cut(line, LINE_WIDTH))}"
-    return f'<div id="line-{number}" class="{kind}"{title}>{shown}</div>'
+    return f'<div id="{of}-{number}" class="{kind}"{title}>{shown}</div>'

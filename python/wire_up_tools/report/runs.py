@@ -8,7 +8,7 @@ from typing import Any
 
 from wire_up_tools.limits import VERSION_2
 from wire_up_tools.plan import Call
-from wire_up_tools.report.asking import CLEAN, FOUND, Asker, name_pair, read_json
+from wire_up_tools.report.asking import CLEAN, FOUND, NOT_READ, Asker, name_pair, read_json
 from wire_up_tools.report.findings import Finding, Kind
 from wire_up_tools.report.language import name_verb, say_value
 
@@ -59,13 +59,12 @@ class Runs:
 
 @dataclass(frozen=True)
 class Search:
-    """A search for runs and chains: the checker, whether it can look for them, and until when.
+    """A search for runs and chains: the checker, and until when.
 
     The deadline is a moment of the monotonic clock, in seconds.
     """
 
     asker: Asker
-    has_witness: bool
     deadline: float
 
     @property
@@ -75,13 +74,10 @@ class Search:
 
 
 def begin_search(asker: Asker, took: float) -> Search:
-    """Begins to look for runs, where a check took so many seconds: not long of a large plan.
-
-    Raises Refused if the checker can't be run.
-    """
+    """Begins to look for runs, where a check took so many seconds: not long of a large plan."""
     is_large = len(asker.data) > VERSION_2.plan_bytes
     seconds = CHECKS * took if is_large else SECONDS
-    return Search(asker, asker.has_command("witness"), time.monotonic() + seconds)
+    return Search(asker, time.monotonic() + seconds)
 
 
 def find_runs(search: Search, finding: Finding) -> Runs:
@@ -91,12 +87,12 @@ def find_runs(search: Search, finding: Finding) -> Runs:
     """
     if finding.kind is Kind.REWRITE:
         return Runs(Outcome.REWRITE)
-    if not search.has_witness:
-        return Runs(Outcome.ABSENT)
     if search.is_late:
         return Runs(Outcome.LATE)
     asker, pair = search.asker, name_pair(finding.first, finding.second)
     answer = asker.ask("witness", "--json", *pair)
+    if answer.status == NOT_READ:
+        return Runs(Outcome.ABSENT)
     if asker.checker.is_large and answer.status not in (CLEAN, FOUND):
         return Runs(Outcome.LARGE)
     said = read_json(answer)

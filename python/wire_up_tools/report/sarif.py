@@ -151,12 +151,12 @@ def locate(report: Report, call: Call, source: Source) -> Location:
 
 def locate_in_plan(report: Report, call: Call, source: Source) -> Location:
     """Where a call stands in the plan, which may be below the folder of the source. One of a
-    counterexample stands in no file: then it is the pattern."""
+    counterexample stands in no file: then it is its line in the pattern."""
     path = os.path.realpath(report.path)
     if source.folder:
         relative = os.path.relpath(path, os.path.realpath(source.folder))
         path = path if relative.split(os.sep)[0] == os.pardir else relative
-    return Location(path, 1 if report.pattern else call.line)
+    return Location(path, report.pattern_lines.get(call, 1) if report.pattern else call.line)
 
 
 def make_location(source: Source, where: Location, said: str) -> dict[str, Any]:

@@ -98,7 +98,9 @@ def describe_told(report: Report, finding: Finding, call: Call) -> str:
 def describe_call(report: Report, call: Call) -> str:
     """A call with its line and its place."""
     place = f", {say_place(report.plan, call)}" if call.place else ""
-    return f"{call.name} {name_kind(call)}, {report.plan_name}:{call.line}{place}"
+    line = report.pattern_lines.get(call)
+    in_pattern = f", {report.name}:{line}" if line else ""
+    return f"{call.name} {name_kind(call)}, {report.plan_name}:{call.line}{in_pattern}{place}"
 
 
 def write_runs(runs: Runs) -> list[str]:

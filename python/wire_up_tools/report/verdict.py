@@ -3,12 +3,14 @@ from wire_up_tools.report.causes import Cause
 from wire_up_tools.report.contents import Report
 from wire_up_tools.report.findings import MOST_GROUPS, Kind
 from wire_up_tools.report.library_page import say_otherwise
-from wire_up_tools.report.partial import hides_race
-from wire_up_tools.report.patterns import say_counterexample
+from wire_up_tools.report.partial import hides_race, say_own_code
+from wire_up_tools.report.patterns import find_groups, say_counterexample
 from wire_up_tools.report.phrases import count_of
 from wire_up_tools.report.placements import Placed
 from wire_up_tools.report.runs import SECONDS, Outcome
 
+# What helps where a counterexample is smaller than a job can be.
+SMALL = "If a group can't be that small in your job, say its least number, as in `many {} min N`."
 # What it means that there are no two runs.
 WITHOUT_RUNS = {
     Outcome.REWRITE: (
@@ -82,13 +84,17 @@ def say_pattern(report: Report) -> list[str]:
     if not report.pattern:
         return []
     command = f"wire_up check --pattern {report.name} > {report.plan_name}"
-    return [f"The plan below is one of the pattern; this writes it: {command}"]
+    said = [f"The plan below is one of the pattern; this writes it: {command}"]
+    groups = find_groups(report.pattern)
+    return [*said, SMALL.format(groups[0])] if groups else said
 
 
 def say_besides(report: Report) -> list[str]:
-    """What is said below the verdict: of the pattern, of other placements, and of a library."""
+    """What is said below the verdict: of the pattern, of other placements, of a library, and of the
+    program's own code."""
     of_library = [say_otherwise(report.judged)] if report.judged else []
-    return [*say_pattern(report), *say_placements(report), *of_library]
+    own = say_own_code(report.plan)
+    return [*say_pattern(report), *say_placements(report), *of_library, *([own] if own else [])]
 
 
 def say_reasons(report: Report) -> str:

@@ -47,6 +47,9 @@ class ProfileRule(enum.Enum):
     LOOKUP = Words("a lookup replies with what is there now", "PMIx_Lookup")
     LOOKUP_WAIT = Words("a lookup-wait waits until there is something", "PMIx_Lookup")
     UNPUBLISH = Words("an unpublish takes away what the caller published, and no more", OWN)
+    UNPUBLISH_ALL = Words(
+        "an unpublish without names takes away all that the caller published", "PMIx_Unpublish"
+    )
     MAP = Words("five reserved keys tell where a rank is", "Reserved Keys")
     RESERVED = Words("a put or a name that is reserved is refused", OWN)
     RESERVED_GET = Words("a get of another reserved key finds nothing", OWN)

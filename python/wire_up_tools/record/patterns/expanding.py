@@ -98,7 +98,7 @@ class Instance:
             if it == ALL:
                 found.update(self.of_job[rank.rpartition(":")[0]])
             elif job:
-                found.update(self.of_job[job[1]])
+                found.update(self.of_job.get(job[1], ()))
             elif it in self.ranks:
                 found.update(self.ranks[it])
             else:

@@ -6,13 +6,15 @@ import sys
 import tempfile
 from collections import Counter
 from collections.abc import Iterator, Sequence
-from dataclasses import dataclass
+from dataclasses import dataclass, replace
 from typing import Union
 
 from wire_up_tools.checker import Checker, find_checker
 from wire_up_tools.failures import Refused
 from wire_up_tools.files import STANDARD_OUTPUT, write_whole
 from wire_up_tools.limits import LARGE, VERSION_1
+from wire_up_tools.record.floating import settle_floating
+from wire_up_tools.record.notes import FLOATING
 from wire_up_tools.record.places import find_places, read_places
 from wire_up_tools.record.planning import Choices, Plan, make_plan
 from wire_up_tools.record.recordings import read_recordings
@@ -36,12 +38,22 @@ from wire_up_tools.record.sizes.judging import (
 )
 from wire_up_tools.record.sizes.plans import SizedPlan, can_race, take_plan
 from wire_up_tools.record.writing import list_notes as list_plan_notes
-from wire_up_tools.record.writing import say_luck, write_plan
-from wire_up_tools.words import CUT_OFF, MORE_ORDERED, PATTERN_BY, WRITTEN_OTHERWISE
+from wire_up_tools.record.writing import is_by_mpi_alone, say_luck, say_own_code, write_plan
+from wire_up_tools.words import (
+    CUT_OFF,
+    MORE_ORDERED,
+    OTHERWISE_AFTER,
+    PATTERN_BY,
+    WRITTEN_OTHERWISE,
+)
 
 STANDARD_ERROR = 2
 GUESS = "That other numbers do the same is a guess."
-IN_PART = "it holds only in part of the program:"
+# What is said before why a verdict says less of the program.
+DOUBTS = {
+    MORE_ORDERED: "a verdict holds only in part:",
+    OTHERWISE_AFTER: "another run may do otherwise after",
+}
 
 
 @dataclass(frozen=True)
@@ -57,12 +69,17 @@ def make_sized(name: str, paths: Sequence[str], choices: Choices) -> Made:
     """The plan of the recordings of a run. Raises Refused, OSError."""
     recordings = read_recordings(paths, choices.most)
     plan = make_plan(recordings, choices)
+    text_of, lean = plan, plan
+    if plan.notes.more_ordered[FLOATING]:
+        # Without gets that may float nothing is more ordered by them.
+        lean = make_plan(recordings, replace(choices, has_floating=False))
+        plan = replace(plan, notes=settle_floating(plan.notes))
     folders = dict.fromkeys(os.path.dirname(it.path) for it in recordings)
     places = find_places(plan.draft, read_places(folders))
     for title, them in list_plan_notes(plan):
         if title == CUT_OFF and them:
             raise Refused(f"{name}: the run was cut off, and no pattern is made of it: {them[0]}")
-    return Made(take_plan(name, plan, places), plan, write_plan(plan, places))
+    return Made(take_plan(name, lean, places), plan, write_plan(text_of, places))
 
 
 def run_sizes(asked: SizesRequest, choices: Choices, folder: str) -> Iterator[Made]:
@@ -123,7 +140,7 @@ def answer(checker: Checker, taken: Sequence[Made], held: Sequence[Made]) -> Ans
     """The answer on runs. Raises Refused if their calls fit no pattern, and no run has what is
     found; OSError."""
     every = [*taken, *held]
-    in_part = [f"{IN_PART} {it}" for it in list_in_part(every)]
+    in_part = list_doubts(every)
     ours, others = [it.sized for it in taken], [it.sized for it in held]
     if not any(can_race(it.sized) for it in every):
         return Answer(ours, others, None, Verdict([]), in_part=in_part)
@@ -138,10 +155,11 @@ def answer(checker: Checker, taken: Sequence[Made], held: Sequence[Made]) -> Ans
     return Answer(ours, others, None, Verdict([]), shown, unfit, in_part)
 
 
-def list_in_part(runs: Sequence[Made]) -> Sequence[str]:
-    """Why a verdict over the plans holds only in part."""
+def list_doubts(runs: Sequence[Made]) -> Sequence[str]:
+    """Why a verdict over the plans says less of the program."""
     return [
-        it for title, them in join_notes(runs) if title == MORE_ORDERED for it in them
+        f"{DOUBTS[title]} {it}" for title, them in join_notes(runs) if title in DOUBTS
+        for it in them
     ]
 
 
@@ -161,9 +179,11 @@ def join_notes(runs: Sequence[Made]) -> Iterator[tuple[str, Sequence[str]]]:
 
 def write_head(found: Answer, runs: Sequence[Made]) -> str:
     """The head of the pattern: what it comes from, and what it can't say."""
+    last = runs[-1].plan
     lines = [f"{PATTERN_BY}, {say_origin(found.taken, found.held)}. {GUESS}"]
-    lines += [it for it in list_notes(found) if not it.startswith(IN_PART)]
-    lines += [it.removeprefix("# ") for it in say_luck(runs[-1].plan)]
+    lines += [it for it in list_notes(found) if it not in found.in_part]
+    own = say_own_code if all(is_by_mpi_alone(it.plan) for it in runs) else say_luck
+    lines += dict.fromkeys(it.removeprefix("# ") for say in (say_luck, own) for it in say(last))
     for title, them in join_notes(runs):
         lines += [title, *(f"  {it}" for it in them)] if them else []
     return "".join(f"# {it}\n" for it in lines)

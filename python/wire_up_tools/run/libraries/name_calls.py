@@ -53,8 +53,10 @@ def look_up(world: World, call: Call) -> Reply:
 
 
 def unpublish(world: World, call: Call) -> Reply:
-    """What an unpublish gives. That of every name wasn't measured: it is as in the profile."""
+    """What an unpublish gives."""
     if call.about == EVERY_NAME:
+        if world.has(Rule.UNPUBLISH_ALL):
+            return world.traits.kept_all
         for there in world.names.values():
             there[:] = [it for it in there if it.owner is not call.rank]
         return SUCCESS

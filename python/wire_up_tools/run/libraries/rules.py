@@ -19,6 +19,7 @@ answered once the key comes that was asked for first, found or not, and none bef
     LOCAL_ELSEWHERE = "a key of scope local gives an error of the library on other nodes"
     RESERVED_KEYS = "reserved keys are taken like others, and some of the map isn't found"
     NAMES = "a second publish of a name succeeds, and so does an unpublish of what isn't there"
+    UNPUBLISH_ALL = "an unpublish without names takes nothing away"
     MIXED_COLLECT = "a fence whose callers differ in collecting fails for all or one of them, or \
 brings a part"
     FENCE_OF_JOBS = "a fence of several jobs brings no keys of a rank to a node without its job"

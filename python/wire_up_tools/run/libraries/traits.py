@@ -64,15 +64,17 @@ class Traits:
     """How a library answers.
 
     `local_elsewhere` is the reply for a key of scope local on another node, `missing_elsewhere`
-    that for one that isn't there, of a job that the caller's node doesn't have, and `invalid` that
-    for a fence whose callers differ. With `asks_owner_at_once` a get of a rank on another node that
-    has committed anything is answered at once. `drops_repeats`: a list is taken as a set.
+    that for one that isn't there, of a job that the caller's node doesn't have, `invalid` that for
+    a fence whose callers differ, and `kept_all` that for an unpublish without names that takes none
+    away. With `asks_owner_at_once` a get of a rank on another node that has committed anything is
+    answered at once. `drops_repeats`: a list is taken as a set.
     """
 
     rules: frozenset[Rule]
     local_elsewhere: str = OUTSIDE
     missing_elsewhere: str = NOT_FOUND
     invalid: str = ""
+    kept_all: str = "PMIX_SUCCESS"
     asks_owner_at_once: bool = False
     drops_repeats: bool = False
     brought: Brought = Brought.WITH_MEMBERS
@@ -126,10 +128,12 @@ OPENPMIX_4 = Traits(
         Rule.MIXED_COLLECT,
         Rule.FENCE_OF_JOBS,
         Rule.OWN_FROM_STORE,
+        Rule.UNPUBLISH_ALL,
     },
     local_elsewhere="PMIX_STATUS(-13,HANDSHAKE-FAILED)",
     missing_elsewhere="PMIX_STATUS(-17,PROC-ENTRY-NOT-FOUND)",
     invalid="PMIX_STATUS(-33,INVALID-ARG)",
+    kept_all="PMIX_ERR_BAD_PARAM",
     asks_owner_at_once=True,
     brought=Brought.WITH_RANKS,
     has_own_reserved=False,
@@ -145,6 +149,7 @@ OPENPMIX_5 = Traits(
         Rule.ANSWERED_AT_COMMIT,
         Rule.SHARED_REQUEST,
         Rule.MIXED_COLLECT,
+        Rule.UNPUBLISH_ALL,
     },
     invalid="PMIX_STATUS(-33,PMIX_ERR_INVALID_ARG)",
     mixed=Mixed.FAILS_FOR_FIRST,

@@ -1,0 +1,147 @@
+"""What `wire_up check --pattern` says of a pattern without findings: reads it, and says it in
+words."""
+import re
+from collections.abc import Sequence
+from dataclasses import dataclass, field
+from typing import Optional
+
+from wire_up_tools.report.phrases import count_of, name_all
+
+EVERYWHERE = "for every number of ranks on every placement"
+NOTHING = f"findings 0 {EVERYWHERE}"
+ANSWERED = "every call is answered for every number of ranks"
+LEAST = re.compile(r"at least ([1-9]\d*) (\S+)")
+WAITS = re.compile(r"waits (\S+) ([1-9]\d*) (\S+)")
+ANSWERS = re.compile(r"answers (\S+) ([1-9]\d*) (\S+) (\S.*)")
+SUCCESS, NEVER = "PMIX_SUCCESS", "none"
+
+
+@dataclass(frozen=True)
+class CallLine:
+    """A call of a pattern: its role, its number there from 1, and its verb."""
+
+    role: str
+    number: int
+    verb: str
+
+    @property
+    def name(self) -> str:
+        """How it is named."""
+        return f"{self.role} {self.number} {self.verb}"
+
+    def is_at(self, role: str, number: int) -> bool:
+        """Whether it is the call of this number in a role."""
+        return (self.role, self.number) == (role, number)
+
+
+@dataclass(frozen=True)
+class Failing:
+    """A call that doesn't succeed in some plan of a pattern, and all its statuses."""
+
+    call: CallLine
+    statuses: Sequence[str]
+
+
+@dataclass
+class Settled:
+    """What is said of a pattern without findings: how many ranks a group has at least, where that
+    is more than none; whether every call is answered at every size; the calls that wait for ever
+    in plans that were judged, and those that fail there; and whether each call is said to succeed
+    in all of these."""
+
+    is_complete: bool
+    least: list[tuple[int, str]] = field(default_factory=list)
+    is_answered: bool = False
+    waits: list[CallLine] = field(default_factory=list)
+    fails: list[Failing] = field(default_factory=list)
+
+    def take(self, line: str) -> bool:
+        """Takes a line of the answer. Answers whether it has one of the forms."""
+        least, waits = LEAST.fullmatch(line), WAITS.fullmatch(line)
+        answers = ANSWERS.fullmatch(line)
+        if line == ANSWERED:
+            self.is_answered = True
+        elif least:
+            self.least.append((int(least[1]), least[2]))
+        elif waits:
+            self.waits.append(CallLine(waits[1], int(waits[2]), waits[3]))
+        elif answers:
+            self.add_statuses(CallLine(answers[1], int(answers[2]), answers[3]), answers[4])
+        return line == ANSWERED or bool(least or waits or answers)
+
+    def add_statuses(self, call: CallLine, said: str) -> None:
+        """Takes the statuses of a call: one that is never answered doesn't fail."""
+        statuses = said.split()
+        if statuses not in ([SUCCESS], [NEVER]):
+            self.fails.append(Failing(call, statuses))
+
+    @property
+    def named(self) -> list[CallLine]:
+        """The calls that wait for ever or fail."""
+        return [*self.waits, *(it.call for it in self.fails)]
+
+
+def read_settled(lines: Sequence[str], is_complete: bool) -> Optional[Settled]:
+    """What an answer says whose first line is that nothing is found; None for one of another form.
+    `is_complete`: whether each call is said to succeed."""
+    said = Settled(is_complete)
+    if lines[:1] != [NOTHING] or not all([said.take(it) for it in lines[1:]]):
+        return None
+    return said
+
+
+def say_where(said: Settled) -> str:
+    """For which numbers of ranks a verdict holds."""
+    least = name_all([f"at least {count} {role}" for count, role in said.least])
+    return f"for every number of ranks ({least}) on every placement" if least else EVERYWHERE
+
+
+def say_settled(said: Settled) -> str:
+    """The verdict, with the calls that wait for ever or fail."""
+    parts = [f"no race, {say_where(said)}"]
+    if said.waits:
+        what = count_of(len(said.waits), "call waits", "calls wait")
+        names = ", ".join(it.name for it in said.waits)
+        parts.append(f"{what} for ever in some of its plans: {names}")
+    if said.fails:
+        what = count_of(len(said.fails), "call fails", "calls fail")
+        parts.append(f"{what} in some of its plans: {', '.join(it.call.name for it in said.fails)}")
+    elif said.is_answered and not said.is_complete:
+        parts.append("a call fails in some of its plans")
+    if said.is_answered:
+        parts.append("every call is answered at every size")
+    return "; ".join(parts)
+
+
+def explain_settled(said: Settled) -> str:
+    """What the verdict means."""
+    if said.waits:
+        return (
+            "Each plan of the pattern has one end, whichever ranks are fast. In some plans a rank "
+            "waits there for ever: what comes after that call is never reached."
+        )
+    parts = [
+        "However many ranks its groups have, on whichever nodes they are, and whichever of them "
+        "are fast: each plan of the pattern has one end."
+    ]
+    if said.is_answered:
+        parts.append("No call waits for ever there.")
+    else:
+        parts.append("That no call waits for ever is known of its small plans alone.")
+    if said.fails:
+        parts.append("In some plans a call ends there with an error.")
+    elif said.is_answered and not said.is_complete:
+        parts.append("In some plans a call ends there with an error: a replay names it.")
+    return " ".join(parts)
+
+
+def choose_badge(said: Settled) -> tuple[str, str]:
+    """The kind of the verdict, and its words: green only where each call is answered, and none
+    fails."""
+    if said.waits:
+        return "waits", "calls wait for ever"
+    if said.fails:
+        return "fails", "calls fail"
+    if not said.is_answered:
+        return "partly", "calls may wait"
+    return ("quiet", "no race") if said.is_complete else ("fails", "calls fail")

@@ -1,0 +1,92 @@
+"""Tests gets that don't block: whether the order that a plan takes from them hides a race."""
+import os
+import tempfile
+import unittest
+
+import support
+from tapes import Tape, read_file, run_recorder, write_file
+from wire_up_tools.record.floating import SETTLED
+from wire_up_tools.record.notes import FLOATING, UNAWAITED
+from wire_up_tools.words import MORE_ORDERED, WRITTEN_OTHERWISE
+
+
+def put_and_commit(*keys: str) -> Tape:
+    """Process 0, which puts and commits keys, and leaves a fence."""
+    tape = Tape(0)
+    for key in keys:
+        tape.call(f"put global {key} text:v")
+    return tape.call("commit").call("fence blocks all -")
+
+
+def get_without_waiting(*calls: str) -> Tape:
+    """Process 1, which gets a key by a call that doesn't block, makes these calls, and leaves a
+    fence."""
+    tape = Tape(1).call("get own job:0 :k -", "0 text:v")
+    for call in calls:
+        tape.call(call, "0 text:v")
+    return tape.call("fence blocks all -")
+
+
+class FloatingTest(unittest.TestCase):
+    """Plans of processes of which one gets a key without waiting."""
+
+    def setUp(self) -> None:
+        self.program = support.program()
+        room = tempfile.TemporaryDirectory(prefix="wire-up-record-")
+        self.addCleanup(room.cleanup)
+        self.room = room.name
+
+    def record(self, *tapes: Tape, checker: str = "") -> tuple[str, str]:
+        """The plan of some processes, and what is said of it."""
+        paths = [
+            write_file(os.path.join(self.room, f"{n}.recording"), it.text())
+            for n, it in enumerate(tapes)
+        ]
+        plan = os.path.join(self.room, "plan")
+        words = ["--checker", checker or self.program, "-o", plan, "--from"]
+        ran = run_recorder(*words, *paths)
+        self.assertEqual(ran.returncode, 0, ran.stderr)
+        return read_file(plan), ran.stderr
+
+    def test_where_nothing_is_found_without_them(self) -> None:
+        plan, said = self.record(put_and_commit("k"), get_without_waiting())
+        self.assertEqual(said, "")
+        self.assertIn(f"# {WRITTEN_OTHERWISE}\n#   1 {SETTLED}\n", plan)
+        self.assertIn("\nget app:0 k\n", plan)
+        self.assertNotIn(MORE_ORDERED, plan)
+
+    def test_where_they_order_what_would_race(self) -> None:
+        """The get of `k` is all that brings the commit before the get of `other`."""
+        later = get_without_waiting("get blocks job:0 :other pmix.immediate=number:1:1")
+        plan, said = self.record(put_and_commit("k", "other"), later)
+        self.assertIn(f"holds only in part: 1 {FLOATING}\n", said)
+        self.assertIn(f"# {MORE_ORDERED}\n#   1 {FLOATING}\n", plan)
+
+    def test_where_something_is_found(self) -> None:
+        """Others may be missed then."""
+        others = [Tape(n).call("publish blocks n=text:v -", "0") for n in (2, 3)]
+        plan, said = self.record(put_and_commit("k"), get_without_waiting(), *others)
+        self.assertIn(FLOATING, said)
+        self.assertIn(MORE_ORDERED, plan)
+
+    def test_without_a_checker(self) -> None:
+        plan, said = self.record(put_and_commit("k"), get_without_waiting(), checker="/bin/false")
+        self.assertIn(FLOATING, said)
+        self.assertIn(MORE_ORDERED, plan)
+
+    def test_calls_that_change_something(self) -> None:
+        """What doesn't block and isn't such a get is told of as before."""
+        tape = Tape(0).call("publish own n=text:v -").call("commit")
+        plan, said = self.record(tape)
+        self.assertIn(f"1 {UNAWAITED}\n", said)
+        self.assertIn(MORE_ORDERED, plan)
+
+    def test_a_get_that_was_answered_with_an_error(self) -> None:
+        """It didn't wait for its key, so that it can't stand anywhere."""
+        tape = Tape(1).call("get own job:0 :k -", "-46").call("fence blocks all -")
+        _, said = self.record(put_and_commit("k"), tape)
+        self.assertIn(f"1 {UNAWAITED}\n", said)
+
+
+if __name__ == "__main__":
+    unittest.main()
