@@ -4,11 +4,10 @@ from wire_up_tools.record.sizes.plans import Call, SizedPlan
 
 
 def expand_plan(text: str, size: int) -> SizedPlan:
-    """The plan of a pattern of one job with one group, with so many ranks in all."""
+    """The plan of a pattern of one job, with so many ranks in each group."""
     roles = read_pattern(text)
-    singles = sum(not it.is_group for it in roles)
-    sizes = {it.name: size - singles for it in roles if it.is_group}
+    sizes = {it.name: size for it in roles if it.is_group}
     calls = {
         rank: [Call(it) for it in them] for rank, them in expand(roles, sizes, {}).items()
     }
-    return SizedPlan(f"{size} ranks", roles[0].job, calls)
+    return SizedPlan(f"{size} in a group", roles[0].job, calls)
