@@ -1,6 +1,6 @@
-"""Expands random patterns with 3 and 4 ranks in the group, and infers a pattern of these plans again: it must
-have the same verdict. `WIRE_UP_SIZED_PATTERNS=1000` says how many, `WIRE_UP_SEED` from which
-seed on."""
+"""Expands random patterns with 3 and 4 ranks in the group, and infers a pattern of these plans
+again: it must have the same verdict. `WIRE_UP_SIZED_PATTERNS=1000` says how many,
+`WIRE_UP_SEED=7` from which seed on."""
 import collections
 import os
 import random
@@ -27,8 +27,11 @@ class OneGroupMaker(DealMaker):
     def all_parts(self) -> list[Part]:
         self.jobs = [b"app"]
         before, behind = self.dice.choice(BEFORE), self.dice.choice(BEHIND)
-        parts = [(name, None) for name in before], [(b"w", 0)], [(name, None) for name in behind]
-        return [Part(b"app", *it) for them in parts for it in them]
+        return [
+            *(Part(b"app", name, None) for name in before),
+            Part(b"app", b"w", 0),
+            *(Part(b"app", name, None) for name in behind),
+        ]
 
 
 def make_text(dice: random.Random) -> str:

@@ -19,8 +19,8 @@ IsClean = Callable[[str], bool]
 class Inferred:
     """A pattern: its text without a head, from which plans it comes, which others hold it, and the
     plan that didn't hold a first one, if there is one. `dropped` counts the claims that don't grow
-    with the ranks. If the pattern `needs_messages`, something is found without the order of
-    messages, and of fences that aren't of all ranks."""
+    with the ranks. If the pattern `needs_messages`, something is found without what ranks of a
+    group know, or what is known of them, by messages and by fences that aren't of all ranks."""
 
     text: str
     skeleton: Skeleton
@@ -58,7 +58,9 @@ def infer_way(
             return Inferred(text, skeleton, 0, False, taken, larger)
     claims, dropped = find_claims(skeleton, fitted)
     text = write_pattern(skeleton, claims)
-    return why_other(fitted, claims) or Inferred(text, skeleton, dropped, True, taken, larger)
+    groups = {it.name for it in skeleton.roles if it.is_group}
+    of_many = any(groups & {it.role, it.source} for it in claims)
+    return why_other(fitted, claims) or Inferred(text, skeleton, dropped, of_many, taken, larger)
 
 
 def change_plans(skeleton: Skeleton, change: Callable[[SizedPlan], SizedPlan]) -> Skeleton:
