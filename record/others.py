@@ -72,8 +72,8 @@ if (is_noted(caller))
     wire_up_count(&others);
 """,
 }
-# A library of MPI has handlers of its own.
-OF_PROGRAM = ("PMIx_Register_event_handler",)
+# A library of MPI has handlers of its own, and says which files go with the job.
+OF_PROGRAM = ("PMIx_Register_event_handler", "PMIx_Job_control", "PMIx_Job_control_nb")
 NOTES_OF_PROGRAM = NOTES["PMIx"].replace("is_noted", "is_of_program")
 # What the function makes may have the handle of something that is gone.
 FORGETTING = {

@@ -62,6 +62,9 @@ EXPORTED bool wire_up_is_recording(void);
  * told that it called. */
 EXPORTED bool wire_up_takes_calls(void);
 
+/* Sets what lets MPI go on while a call is held back. */
+EXPORTED void wire_up_set_progress(void (*function)(void));
+
 /* Makes a new number for a call. */
 EXPORTED unsigned long wire_up_number(void);
 

@@ -348,3 +348,65 @@ STOPPED = (
         b"fault 12 NotReady 2\n  2 | app:1\n  stands at: its end, with no call left\n",
     ),
 )
+
+# What is said where ranks wait for ever, of a deadlock, and of what never comes.
+DEADLOCK = b"  deadlock, each for the next and the last for the first:\n"
+NEVER = b"  for what never comes:\n"
+
+# Plans in which nothing is found and ranks wait for ever, each with what is said of them.
+STANDING = (
+    (
+        "two gets before the commits",
+        text_of("examples/standstill.plan"),
+        DEADLOCK
+        + b"    app:0 1 get waits for app:1 to commit the key b\n"
+        + b"    app:1 1 get waits for app:0 to commit the key a\n",
+    ),
+    (
+        "a fence and a get, and a rank that is in no circle",
+        b"rehearsal 1\nnode n0\njob app\nrank n0\nfence all\nput global a 1\ncommit\n"
+        b"rank n0\nget app:0 a\nfence all\nrank n0\nfence all\n",
+        DEADLOCK
+        + b"    app:0 1 fence waits for app:1 to arrive\n"
+        + b"    app:1 1 get waits for app:0 to commit the key a\n",
+    ),
+    (
+        "a name that is published twice",
+        b"rehearsal 1\nnode n0\njob app\nrank n0\nlookup-wait x\npublish y 1\n"
+        b"rank n0\nlookup-wait y\npublish x 1\nunpublish x\npublish x 2\n",
+        DEADLOCK
+        + b"    app:0 1 lookup-wait waits for the name x to be published\n"
+        + b"    app:1 1 lookup-wait waits for the name y to be published\n",
+    ),
+    (
+        "a deadlock, and what never comes",
+        text_of("examples/standstill.plan") + b"rank n1\nget app:0 c\n",
+        DEADLOCK
+        + b"    app:0 1 get waits for app:1 to commit the key b\n"
+        + b"    app:1 1 get waits for app:0 to commit the key a\n"
+        + NEVER
+        + b"    app:2 1 get waits for app:0 to commit the key c\n",
+    ),
+    (
+        "an own key, and a name that nobody publishes",
+        FENCED,
+        NEVER
+        + b"    app:0 2 get waits for its own key k, which it hasn't put\n"
+        + b"    app:1 2 lookup-wait waits for the name svc to be published\n",
+    ),
+    (
+        "a fence that a member doesn't call, and one who waits behind it",
+        b"rehearsal 1\nnode n0\njob app\nrank n0\nfence app:0,app:1\nput global a 1\ncommit\n"
+        b"rank n0\nput global b 1\nrank n0\nget app:0 a\n",
+        NEVER + b"    app:0 1 fence waits for app:1 to arrive\n",
+    ),
+    (
+        "more ranks than have a line",
+        b"rehearsal 1\nnode n0\njob app\nrank n0\ncommit\n" + b"rank n0\nget app:0 k\n" * 19,
+        NEVER
+        + b"".join(
+            b"    app:%d 1 get waits for app:0 to commit the key k\n" % it for it in range(1, 17)
+        )
+        + b"    and 3 more\n",
+    ),
+)

@@ -34,22 +34,20 @@ class Family:
 
 @dataclass(frozen=True)
 class Library:
-    """A library: its family, and what of a plan it takes as the rules do. Of fences `takes_jobs`
-    says whether it takes those of several jobs; of the others it may know some by less than the
-    whole list (`takes_parts`): then it takes those within a node, and those of the whole job that
-    collect. `tells_far`: of the map it tells other nodes too."""
+    """A library: its family, and what of a plan it takes as the rules do. `takes_jobs`: fences of
+    several jobs. `takes_all`: all others; else those within a node, and those that collect and are
+    spelt as the whole job. `tells_far`: of the map it tells other nodes too."""
 
     family: Family
     takes_jobs: bool = True
-    takes_parts: bool = True
+    takes_all: bool = True
     tells_far: bool = True
 
     def takes(self, facts: Facts, call: Event) -> bool:
         """Whether it takes a fence as the rules do."""
         jobs = {facts.job(it) for it in facts.members(call)}
-        is_whole = facts.members(call) == frozenset(facts.ranks) and facts.collects(call)
-        is_taken = self.takes_parts or is_whole or len(facts.nodes(call)) == 1
-        return is_taken and (self.takes_jobs or len(jobs) == 1)
+        is_easy = facts.collects(call) and facts.is_of_job(call) or len(facts.nodes(call)) == 1
+        return (self.takes_all or is_easy) and (self.takes_jobs or len(jobs) == 1)
 
     def sign(self, facts: Facts, call: Event) -> Sign:
         """How a call of a fence spells its set; None where that has repeats, or isn't taken."""
@@ -70,14 +68,14 @@ class Library:
 
 
 # Each library that was measured, by the name of its table. 4.2 sometimes doesn't end a fence of two
-# jobs. Slurm ends a fence that doesn't collect by the ranks of the node, and never one that
-# collects over a part of the job's ranks on several nodes.
+# jobs. Slurm ends a fence that doesn't collect by the ranks of the node, and never one of a list of
+# ranks on several nodes that collects.
 LIBRARIES: Mapping[str, Library] = {
     "openpmix-4.2": Library(Family(flaky=True, at_once=True, brings=True), takes_jobs=False),
     "openpmix-5.0": Library(Family()),
     "openpmix-7.0": Library(Family(brings=True, star=True)),
     "slurm-24.11": Library(
-        Family(at_once=True, brings=True, names=False), takes_parts=False, tells_far=False
+        Family(at_once=True, brings=True, names=False), takes_all=False, tells_far=False
     ),
 }
 

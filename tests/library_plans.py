@@ -113,6 +113,11 @@ class Facts:
         items = grammar.items_of_set(word) or [(job, None)]
         return None if len(set(items)) < len(items) else tuple(sorted(map(repr, items)))
 
+    def is_of_job(self, call: Event) -> bool:
+        """Whether a call of a fence spells its set as all ranks of the caller's job."""
+        job = self.job(call.rank)
+        return grammar.items_of_set(self.words(call)[1]) in ([], [(job, None)])
+
     def members(self, call: Event) -> frozenset[int]:
         """The members of a call's fence."""
         return self.plan.fence_of[call].members

@@ -1,5 +1,6 @@
 """A reference for patterns, slow and unproved: says what `check --pattern` must write, byte for
-byte. It judges all casts to the cutoff, by the checker of tests/pattern_plan.py.
+byte, but for the line that every call is answered for every number of ranks. It judges all casts to
+the cutoff, by the checker of tests/pattern_plan.py.
 
 Usage: python3 tests/pattern_reference.py [--answers] FILE
 """
@@ -17,6 +18,8 @@ from pattern_grammar import Line, Loop, Pattern
 from pattern_plan import NOT_FOUND, OUTSIDE, SUCCESS, Finding, Plan, Verdict, answered
 
 CLEAN = b"findings 0 for every number of ranks on every placement"
+# What a judge can say besides, and the reference can't: it judges few sizes.
+ANSWERED = b"every call is answered for every number of ranks\n"
 # How many turns may be left out or taken in the largest instance that is judged.
 MOST_TURNS = 20
 STATUSES = (SUCCESS, NOT_FOUND, OUTSIDE)
@@ -307,8 +310,10 @@ class Judge:
 
     def lines(self) -> list[bytes]:
         """What is written of a pattern without findings."""
-        names = [it.name for it in self.pattern.roles]
-        return [CLEAN, *(b"waits %s %d %s" % (names[it[0]], *it[1:]) for it in sorted(self.waits))]
+        roles = self.pattern.roles
+        least = [b"at least %d %s" % (it.least, it.name) for it in roles if it.least]
+        waits = [b"waits %s %d %s" % (roles[it[0]].name, *it[1:]) for it in sorted(self.waits)]
+        return [CLEAN, *least, *waits]
 
     def answers(self) -> Iterator[bytes]:
         """What is written of each get-now line."""
@@ -335,6 +340,11 @@ def judge(text: bytes) -> tuple[int, bytes, bytes]:
     if shown:
         return 1, shown, b""
     return 0, text_of(judge.lines()), text_of([*judge.answers()])
+
+
+def without_answered(wrote: bytes) -> bytes:
+    """What is written without the line that every call is answered for every number of ranks."""
+    return b"".join(it for it in wrote.splitlines(True) if it != ANSWERED)
 
 
 def main(words: list[str]) -> int:

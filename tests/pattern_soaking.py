@@ -4,10 +4,13 @@
   fault and the line that this reader names.
 - `check --pattern` writes what the reference writes, with `--answers` and without; the same about
   the file, standard input, and the file with comments, blank lines, tabs and carriage returns
-  added.
+  added. That every call is answered is said only where none waits.
 - A counterexample is a plan of which `check` finds what the counterexample says.
 - Of a pattern without findings, `check` finds nothing in instances that are larger than those that
-  are judged: 4 to 7 ranks of a group, any turns, and any placement.
+  are judged: 4 to 7 ranks of a group, any turns, and any placement. If it is said that every call
+  is answered, none of these waits.
+- With `--complete` the same is written. The status is 0 only if it is said that every call is
+  answered, and then each succeeds in an instance of a size that is judged.
 - `expand` writes the plan of an instance in which all turns are taken, as the reference has it.
 
 A pattern with too many instances for the reference is held to all of this but the second, and one
@@ -22,7 +25,7 @@ import grammar
 import pattern_grammar
 import pattern_reference
 from pattern_calls import Script
-from pattern_reference import CLEAN, Ranks
+from pattern_reference import ANSWERED, CLEAN, Ranks, without_answered
 from random_plans import styled
 from soak_runner import Difference, Ran, Runner, same
 
@@ -70,6 +73,11 @@ def has_expand(program: str) -> bool:
     """Whether a program writes instances of patterns."""
     ran = subprocess.run([program, "expand", "--help"], capture_output=True, check=False)
     return not ran.returncode
+
+
+def known(ran: Ran) -> Ran:
+    """How a run ended, without the line that the reference can't say."""
+    return ran._replace(wrote=without_answered(ran.wrote))
 
 
 def canonical_nodes(nodes: list[int]) -> list[int]:
@@ -126,9 +134,10 @@ class Look:
         if pattern_reference.instance_count(self.pattern) <= MOST_INSTANCES:
             status, wrote, more = pattern_reference.judge(self.text)
             name = "another answer of check --pattern than the reference's"
-            same(name, Ran(status, wrote, b""), said, "check --pattern")
+            same(name, Ran(status, wrote, b""), known(said), "check --pattern")
             if words == ANSWERS:
-                same(name, Ran(status, wrote + more, b""), longest, "check --pattern --answers")
+                wanted = Ran(status, wrote + more, b"")
+                same(name, wanted, known(longest), "check --pattern --answers")
             self.runner.held["check --pattern"] += 1
         self.at_inputs(words, longest)
         if has_expand(self.runner.program):
@@ -137,7 +146,11 @@ class Look:
             self.at_counterexample(said)
             return "with findings"
         same("the first line of a pattern without findings", CLEAN, said.wrote.split(b"\n")[0])
-        self.at_larger()
+        is_answered = ANSWERED in said.wrote
+        if is_answered and b"\nwaits " in said.wrote:
+            raise Difference("every call is answered, and one waits", said.wrote.decode())
+        self.at_larger(is_answered)
+        self.at_complete(said, is_answered)
         return "without findings"
 
     def at_inputs(self, words: tuple[str, ...], said: Ran) -> None:
@@ -155,8 +168,8 @@ class Look:
         checked = self.runner.run("check", given=said.wrote)
         same("a counterexample that has other findings", Ran(1, found, b""), checked)
 
-    def at_larger(self) -> None:
-        """Nothing is found in larger instances."""
+    def at_larger(self, is_answered: bool) -> None:
+        """Nothing is found in larger instances; and where every call is answered, no rank waits."""
         for _ in range(LARGER):
             it = random_instance(self.pattern, self.dice, *LARGER_SIZES)
             is_plan = it.ranks.count <= grammar.LIMITS[b"2"].ranks
@@ -167,6 +180,27 @@ class Look:
                     found = "findings in a larger instance of a clean pattern"
                     same(found, Ran(0, b"findings 0\n", b""), checked, text)
                     self.runner.held["a larger instance"] += 1
+                if checked.status == 0 and is_answered:
+                    self.at_answered(text)
+
+    def at_answered(self, plan: bytes) -> None:
+        """No rank of an instance waits."""
+        last = self.runner.run("replay", given=plan).wrote.splitlines()[-1]
+        same("a call waits in a pattern that is answered", b"waiting 0", last, plan)
+        self.runner.held["an answered instance"] += 1
+
+    def at_complete(self, said: Ran, is_answered: bool) -> None:
+        """What `--complete` says by its status."""
+        ran = self.runner.run(*CHECK, "--complete", self.path)
+        same("other lines with --complete", said.wrote, ran.wrote)
+        if ran.status:
+            return
+        same("a complete pattern that isn't answered", True, is_answered)
+        judged = random_instance(self.pattern, self.dice, 0, 3)
+        apart = judged._replace(nodes=[*range(judged.ranks.count)]).text
+        replayed = self.runner.run("replay", "--complete", given=apart)
+        same("a call that fails in a complete pattern", 0, replayed.status, apart)
+        self.runner.held["a complete instance"] += 1
 
     def at_expanded(self) -> None:
         """The plan of one instance."""

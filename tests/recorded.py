@@ -4,6 +4,7 @@ from dataclasses import dataclass
 from typing import Optional
 
 from tapes import ask_program, read_file
+from wire_up_tools import words
 
 RACE = re.compile(r"race app:\d+ \d+ app:\d+ \d+ name \w+\n")
 
@@ -39,6 +40,12 @@ FAILED = (
     "2 collectives that failed, or were left by a jump: whether they met those of the others isn't "
     "known\n"
 )
+EACH_RUN = f"wire_up-record: {words.EACH_RUN}\n"
+ONCE_OTHERWISE = (
+    "wire_up-record: answered otherwise than by the rules: 1 of 23 calls, first app:0 11 lookup at "
+    "look_up (luck.c:26): PMIX_ERR_NOT_FOUND, by the rules PMIX_SUCCESS text: the verdict doesn't "
+    "hold of this library's run\n"
+)
 FOUND_BY_TEST = "MPI_Test that found a request complete"
 HANDLER = "1 processes that called in a handler of a signal: another run may call elsewhere\n"
 CALLBACK = (
@@ -59,7 +66,8 @@ class Program:
     finding, `received` the receives that could have got another message, and `first` those that
     were the first of several requests; `poll` is the function by which `polls` found nothing before
     another call, and `called` another, whose `calls` have a result that is luck. `is_replayed` says
-    that the replay of the plan answers as the program was answered."""
+    that the replay of the plan answers as the program was answered, and `tested` is what the
+    recorder says of that, or of each run of the program, where there is a checker."""
 
     processes: int
     findings: int
@@ -75,6 +83,7 @@ class Program:
     called: str = ""
     calls: int = 1
     is_replayed: bool = True
+    tested: str = ""
 
     @property
     def says_both(self) -> str:
@@ -107,18 +116,18 @@ CASES = {
     "wild1": Program(3, 1, 2, received=2),
     "wild2": Program(3, 1, 2, received=2),
     "poll": Program(2, 0, 1, luck=1),
-    "probe": Program(2, 0, 1),
-    "matched": Program(2, 0, 1),
-    "later": Program(2, 0, 1),
-    "split": Program(2, 0, 1),
+    "probe": Program(2, 0, 1, tested=EACH_RUN),
+    "matched": Program(2, 0, 1, tested=EACH_RUN),
+    "later": Program(2, 0, 1, tested=EACH_RUN),
+    "split": Program(2, 0, 1, tested=EACH_RUN),
     "window": Program(2, 0, 2),
     "duplicate": Program(2, 0, 1),
     "epoch": Program(2, 0, 1),
     "tags": Program(2, 0, 0),
-    "inter": Program(4, 0, 1),
+    "inter": Program(4, 0, 1, tested=EACH_RUN),
     "scattered": Program(2, 1, 1),
-    "merged": Program(4, 0, 1),
-    "jump": Program(2, 0, 1),
+    "merged": Program(4, 0, 1, tested=EACH_RUN),
+    "jump": Program(2, 0, 1, tested=EACH_RUN),
     "begun": Program(2, 0, 1),
     "unsent": Program(2, 0, 1),
     "failed": Program(2, 0, 1, IN_PART, f"{IN_PART}{FAILED}"),
@@ -129,10 +138,10 @@ CASES = {
 }
 # Programs of their own.
 OTHERS = {
-    "collectives": Program(4, 0, 0),
+    "collectives": Program(4, 0, 0, tested=EACH_RUN),
     "early": Program(2, 1, 1),
     "names": Program(4, 0, 2),
-    "ring": Program(4, 0, 0),
+    "ring": Program(4, 0, 0, tested=EACH_RUN),
     "spawn": Program(2, 0, 0),
     "told": Program(2, 0, 1),
     "mpi4py": Program(3, 0, 3),
@@ -185,7 +194,9 @@ LUCK = {
     "among": Program(2, 0, 1, called="MPI_Testany that found a request complete"),
     "header": Program(3, 0, 1, luck=2, received=2),
     "answer": Program(3, 0, 1, luck=2, received=2),
-    "once": Program(2, 0, 1, IN_PART, f"{IN_PART}{GOES_AWAY}", is_replayed=False),
+    "once": Program(
+        2, 0, 1, IN_PART, f"{IN_PART}{GOES_AWAY}", is_replayed=False, tested=ONCE_OTHERWISE
+    ),
     "brief": Program(2, 0, 0, IN_PART, f"{IN_PART}{SHORT_WAIT}"),
 }
 # Those of `handles`.
@@ -207,6 +218,12 @@ HIDDEN = {
     "event": Program(2, 0, 1, called="PMIx_Register_event_handler"),
 }
 SHIPPED = {**CASES, **DIRECT, **HANDLES, **HIDDEN, **LUCK, **OTHERS, **OTHER_WAYS}
+
+
+def drop_each_run(said: str) -> str:
+    """What the recorder says, but for the line that each run makes the calls of the plan: it is
+    said where there is a checker, and of some programs with some libraries alone."""
+    return said.replace(EACH_RUN, "")
 
 
 def why_other_findings(program: str, plan: str, count: int) -> Optional[str]:

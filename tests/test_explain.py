@@ -2,7 +2,7 @@
 import os
 import unittest
 
-from explained import ASKED, EXPLAINED, ORDERED, REFUSED_PATTERNS, STOPPED
+from explained import ASKED, EXPLAINED, ORDERED, REFUSED_PATTERNS, STANDING, STOPPED
 from running import (
     CARDS,
     CARDS_REPORT,
@@ -16,6 +16,9 @@ from running import (
     written,
 )
 
+# What stands in each report of ranks that wait.
+WAITING = (b"waiting",)
+
 
 def explanations(room: str) -> Runs:
     """The runs with `--explain`."""
@@ -24,6 +27,7 @@ def explanations(room: str) -> Runs:
     yield from explained_orders(room)
     yield from explained_words(room)
     yield from explained_stops(room)
+    yield from explained_waits()
     yield from nothing_to_explain(room)
     yield from other_explanations(room)
 
@@ -173,6 +177,17 @@ def explained_stops(room: str) -> Runs:
         )
 
 
+def explained_waits() -> Runs:
+    """Plans of which ranks wait for ever."""
+    for name, plan, lines in STANDING:
+        said = b"wire_up: ranks wait for ever\n" + lines
+        for options in ("", " --json", " --anyway", " --large --workers 4"):
+            words = f"replay --explain{options}"
+            yield Run(f"{name}, by {words}", words.split(), plan, wrote=WAITING, said=said)
+        yield Run(f"{name}, not explained", ["replay"], plan, wrote=WAITING)
+        yield Run(f"{name}, only checked", ["check", "--explain"], plan, wrote=NOTHING)
+
+
 def nothing_to_explain(room: str) -> Runs:
     """Runs that go well."""
     racy = written(room, "explained.plan", RACY)
@@ -184,6 +199,13 @@ def nothing_to_explain(room: str) -> Runs:
         ["check", "--explain", racy],
         status=1,
         wrote=(b"findings 1\n",),
+    )
+    yield Run(
+        "a race, ranks that wait, and nothing to explain",
+        ["replay", "--anyway", "--explain"],
+        given=RACY + b"get app:1 k\n",
+        status=1,
+        wrote=(b"unsettled\n", b"waiting 1\n"),
     )
 
 

@@ -81,7 +81,8 @@ class Reference(unittest.TestCase):
         for it in examples(".verdict"):
             with self.subTest(it):
                 _, wrote, more = pattern_reference.judge(text_at(f"{it}.pattern"))
-                self.assertEqual(text_at(f"{it}.verdict"), wrote + more)
+                verdict = pattern_reference.without_answered(text_at(f"{it}.verdict"))
+                self.assertEqual(verdict, wrote + more)
         for it in examples(".fault"):
             with self.subTest(it):
                 with self.assertRaises(grammar.Refused) as refused:
@@ -225,7 +226,8 @@ class Program(ProgramCase):
         """`--complete` changes the status alone."""
         path = os.path.join(FOLDER, "node-local.pattern")
         words = ["check", "--pattern", "--complete", "--json", path]
-        wrote = pattern_as_json(pattern_reference.CLEAN + b"\n")
+        clean = pattern_reference.CLEAN + b"\n"
+        wrote = pattern_as_json(clean + pattern_reference.ANSWERED)
         self.hold(Run("answers that fail, as JSON", words, status=1, wrote=wrote))
 
     def test_complete_where_a_call_waits(self) -> None:
@@ -250,13 +252,13 @@ class Program(ProgramCase):
         for it in pattern_faults.taken():
             with self.subTest(it[:200]):
                 given = pattern_faults.text_of(it)
+                ran = start(self.program, Run(it, ["check", "--pattern"], given))
+                self.assertIn(ran.returncode, (0, 1), ran.stderr)
                 count = pattern_reference.instance_count(pattern_reference.read_pattern(given))
                 if count <= MOST_INSTANCES:
                     status, wrote, _ = pattern_reference.judge(given)
-                    self.hold(Run(it, ["check", "--pattern"], given, status=status, wrote=wrote))
-                else:
-                    ran = start(self.program, Run(it, ["check", "--pattern"], given))
-                    self.assertIn(ran.returncode, (0, 1), ran.stderr)
+                    said = pattern_reference.without_answered(ran.stdout)
+                    self.assertEqual((status, wrote), (ran.returncode, said))
 
     def test_random_patterns(self) -> None:
         """What is written of random patterns is what the reference says, and holds of larger
@@ -268,6 +270,8 @@ class Program(ProgramCase):
                     pattern_soaking.look(runner, text, number)
             self.assertEqual(PATTERNS, runner.held["check --pattern"])
             self.assertGreater(runner.held["a larger instance"], PATTERNS)
+            self.assertGreater(runner.held["an answered instance"], PATTERNS)
+            self.assertGreater(runner.held["a complete instance"], 0)
 
     def test_damaged_patterns(self) -> None:
         """Random patterns that are damaged are refused, or read, as the second reader does."""

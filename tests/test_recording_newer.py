@@ -9,6 +9,14 @@ from newer import NewerCase
 
 TESTS = ["python3", "-m", "unittest", "-v", "tests.test_recording_live"]
 LAUNCHERS = ["prterun", "prun", "srun"]
+# Of the tests that show races in programs.
+SHOWN = (
+    "ShownTest.test_messages_of_any_source",
+    "ShownTest.test_another_branch_and_another_end",
+    "TurnedTest.test_orders_that_programs_keep",
+    "CommandTest.test_signals_in_the_middle",
+    "CommandTest.test_another_launcher",
+)
 
 
 class NewerTest(NewerCase):
@@ -25,6 +33,13 @@ class NewerTest(NewerCase):
         support.program()
         ran = self.run_inside("prterun", ["python3", "-m", "tests.hold_launchers", *LAUNCHERS])
         self.assertEqual(ran.returncode, 0, ran.stdout[-6000:] + ran.stderr[-3000:])
+
+    def test_shown(self) -> None:
+        """Races are shown, orders are turned round, and signals end it, there too."""
+        support.program()
+        tests = [f"tests.test_recording_showing.{it}" for it in SHOWN]
+        ran = self.run_inside("prterun", ["python3", "-m", "unittest", "-v", *tests])
+        self.assertEqual(ran.returncode, 0, ran.stderr[-3000:])
 
 
 if __name__ == "__main__":

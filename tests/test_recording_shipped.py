@@ -37,7 +37,7 @@ class ShippedTest(unittest.TestCase):
         words += ["--checker", self.program or "/dev/null", *([] if with_mpi else ["--no-mpi"])]
         ran = run_recorder(*words, "--from", os.path.join(tapes.SHIPPED, name))
         said += of.says_otherwise(with_mpi)
-        said += of.says_both if with_mpi and self.program else ""
+        said += of.tested + of.says_both if with_mpi and self.program else ""
         self.assertEqual((ran.returncode, ran.stderr), (0, said))
         if self.program:
             wrong = why_wrong(self.program, self.plan, self.answers, count, of.is_replayed)

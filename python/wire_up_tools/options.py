@@ -15,6 +15,7 @@ KINDS = {
     "WORDS": "command line",
     "COUNT": "number",
     "SECONDS": "number of seconds",
+    "RACE": "race",
 }
 # What begins as an option and is none: a word, and what ends the options.
 STANDARD_STREAM, END = "-", "--"
@@ -96,4 +97,4 @@ class Parser(argparse.ArgumentParser):
 def describe(options: Sequence[Option]) -> str:
     """The rows of a help that say what options mean, and that the help is one."""
     rows = [*((it.written, it.meaning) for it in options), ("-h, --help", "shows this")]
-    return "".join(f"  {option:<16} {meaning}\n" for option, meaning in rows)
+    return "".join(f"  {option:<15}  {meaning}\n" for option, meaning in rows)

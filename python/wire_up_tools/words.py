@@ -29,6 +29,12 @@ LEFT_OUT = "Left out:"
 MORE_ORDERED = "More ordered than the program, so that a race can be missed:"
 OTHERWISE_AFTER = "Another run may do otherwise after these, so that a race can be missed:"
 WRITTEN_OTHERWISE = "Written otherwise:"
+# What the head says where the program is known to go by nothing but its calls, and the titles of
+# what the library answered otherwise than the rules, and of what it is known to answer by timing.
+EACH_RUN = "each run of this program on these nodes makes these calls, if it goes by them alone"
+EACH_RUN_SENTENCE = f"{EACH_RUN[0].upper()}{EACH_RUN[1:]}."
+ANSWERED = "Answered otherwise than by the rules, so that the verdict doesn't hold of this run:"
+TIMED = "Known to be answered by which rank is fast, so that the verdict says less:"
 # The title in place of `OTHERWISE_AFTER`, and a line with it, where the program's own code refers
 # to nothing that leads to a call of PMIx.
 OTHERWISE_ALONE = "Another run may do otherwise after these, but its own code calls no PMIx:"
@@ -41,6 +47,18 @@ OWN_CODE = (
 LEFT_TO_LUCK = "ends of requests that another run may have found open"
 TAKEN = "their order is taken all the same, and --strict takes nothing from them"
 VERDICTS = "Verdicts: "
+# How the lines of the head begin that say what came of a race which was tried in the program, by
+# the word for that; which command tried it; and what came of orders that were turned round.
+TRIED_IN_HEAD = {
+    "shown": "Shown in this program",
+    "shown-later": "Shown later in this program",
+    "alike": "Alike in both orders",
+    "not-made": "Not made in this program",
+}
+TRIED_BY = "Tried by: "
+TURNED_ROUND, TURNED_IN_VAIN = "Turned round on", "Turned round in vain on"
+ALL_PAIRS = "all that the plan orders"
+TRIED_STOPPED = "Trying was stopped on"
 # How the line of the head begins that says that no order of MPI is known.
 WITHOUT_MPI = "MPI's order isn't recorded"
 

@@ -4,6 +4,7 @@
 #define _GNU_SOURCE
 #include "core/recording.h"
 #include "core/counters.h"
+#include "core/holds.h"
 #include "core/lines.h"
 #include "core/text.h"
 
@@ -548,6 +549,8 @@ void wire_up_write_numbers(char sign, unsigned long number, struct place *place,
     if (file < 0)
         return;
     struct line line;
+    if (named_count && sign == '+')
+        hold_numbers(what);
     write_what_is_new(file, sign, place);
     if (!begin_writing())
         return;
@@ -678,6 +681,7 @@ void open_recording(const struct identity *me)
                         "recorded\n");
         return;
     }
+    read_holds(folder, me);
     int file = create_file();
     if (file < 0)
         fprintf(stderr, "wire_up-record: %s: %s; nothing is recorded\n", recording.path,

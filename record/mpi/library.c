@@ -34,6 +34,10 @@ static const struct {
     {offsetof(struct mpi_library, type_size), "PMPI_Type_size_x"},
     {offsetof(struct mpi_library, test_cancelled), "PMPI_Test_cancelled"},
     {offsetof(struct mpi_library, error_class), "PMPI_Error_class"},
+    {offsetof(struct mpi_library, finalized), "PMPI_Finalized"},
+    {offsetof(struct mpi_library, query_thread), "PMPI_Query_thread"},
+    {offsetof(struct mpi_library, is_thread_main), "PMPI_Is_thread_main"},
+    {offsetof(struct mpi_library, iprobe), "PMPI_Iprobe"},
 };
 
 /* Where the library is: it was opened as `opened`, or the program was loaded with it, and it is
@@ -94,6 +98,25 @@ static bool has_other_handles(const char *object) { return strstr(object, "libmp
 
 bool is_mpi_found(void) { return __atomic_load_n(&state, __ATOMIC_ACQUIRE) == FOUND; }
 
+/* Whether this thread may call MPI now, whatever others do. */
+static bool may_call(void)
+{
+    int yes = 0, level = MPI_THREAD_SINGLE;
+    if (mpi.initialized(&yes) || !yes || mpi.finalized(&yes) || yes || mpi.query_thread(&level))
+        return false;
+    if (level == MPI_THREAD_MULTIPLE)
+        return true;
+    return level <= MPI_THREAD_FUNNELED && !mpi.is_thread_main(&yes) && yes;
+}
+
+/* Lets MPI go on: what was sent goes out. It asks for a message that nobody sends. */
+static void go_on(void)
+{
+    int found;
+    if (may_call())
+        mpi.iprobe(MPI_ANY_SOURCE, MPI_ANY_TAG, mpi.self, &found, MPI_STATUS_IGNORE);
+}
+
 /* Keeps what was found in a library, unless another thread just did. */
 static void keep_library(void *library, const struct mpi_library *found, bool are_there)
 {
@@ -102,6 +125,8 @@ static void keep_library(void *library, const struct mpi_library *found, bool ar
         mpi = *found;
         __atomic_store_n(&known_library, library, __ATOMIC_RELEASE);
         __atomic_store_n(&state, are_there ? FOUND : LACKING, __ATOMIC_RELEASE);
+        if (are_there)
+            wire_up_set_progress(go_on);
     }
     pthread_mutex_unlock(&finding);
 }

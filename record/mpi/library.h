@@ -27,6 +27,10 @@ struct mpi_library {
     int (*type_size)(MPI_Datatype type, MPI_Count *size);
     __typeof__(&PMPI_Test_cancelled) test_cancelled;
     __typeof__(&PMPI_Error_class) error_class;
+    __typeof__(&PMPI_Finalized) finalized;
+    __typeof__(&PMPI_Query_thread) query_thread;
+    __typeof__(&PMPI_Is_thread_main) is_thread_main;
+    __typeof__(&PMPI_Iprobe) iprobe;
     MPI_Comm world, self, no_comm;
     MPI_Request no_request;
     MPI_Datatype no_type;

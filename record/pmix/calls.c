@@ -1,5 +1,6 @@
 /* Notes of PMIx calls. */
 #include "pmix/calls.h"
+#include "core/holds.h"
 #include "core/text.h"
 #include "pmix/words.h"
 
@@ -10,7 +11,9 @@
 /* Writes that a call begins, and answers its number. */
 static unsigned long write_begin(const struct call *call, struct text *what)
 {
+    unsigned which = named_count ? hold_call(what, call->place) : 0;
     unsigned long number = wire_up_number();
+    number_held(which, number);
     wire_up_write('+', number, call->place, what);
     wire_up_text_close(what);
     return number;
@@ -142,6 +145,8 @@ static void write_end(unsigned long number, struct text *what)
 {
     wire_up_write('-', number, NULL, what);
     wire_up_text_close(what);
+    if (named_count)
+        end_held(number);
 }
 
 void note_end(unsigned long number, pmix_status_t status)

@@ -105,11 +105,13 @@ pub fn language_of(command: Command<'_>) -> Language {
     }
 }
 
-/// What is noted while an order is read: how far that is, and what is kept of it.
+/// What is noted while a command works: how far it is, what is kept of an order, and whether a plan was run in which
+/// nothing is found.
 #[derive(Drop)]
 pub struct OrderWatch<'w> {
     pub progress: &'w Progress,
     pub kept: &'w mut Kept,
+    pub has_run: &'w mut bool,
 }
 
 /// Runs the command that was requested over its plan, which is open, and answers the exit status.
@@ -123,7 +125,7 @@ pub fn run_command<R: Read, W: Sink>(
     let manner = manner_of(&request);
     match request.command {
         Command::Check(judged) => status_of(check(rt, manner, judged, reader, writer)),
-        Command::Replay(options) => { replay(rt, manner, options, watch.progress, reader, writer) }
+        Command::Replay(options) => replay(rt, manner, options, watch, reader, writer),
         Command::Follow(order) => {
             if request.plan.is_none() {
                 // Where standard input is closed, the order would be opened in its place, and be read as the
@@ -234,7 +236,7 @@ fn replay<S: Source, W: Sink>(
     rt: &(impl Eprint + AllocGlobal + Threads + Wait + Sync),
     manner: Manner<'_>,
     options: ReplayOptions,
-    progress: &Progress,
+    watch: OrderWatch<'_>,
     reader: &mut S,
     writer: &mut W,
 ) -> Result<u8, Fault> {
@@ -249,11 +251,12 @@ fn replay<S: Source, W: Sink>(
         gate: &OpenGate,
     };
     let replayed = replay_plan(rt, rt.alloc(), reader, writer, replaying)?;
+    *watch.has_run = matches!(replayed.ended, Ended::Clean);
     if !options.complete {
         return Ok(replayed.ended.status());
     }
     if let Some(line) = &replayed.failure {
-        progress.close(rt);
+        watch.progress.close(rt);
         tell_call(rt, line.as_slice());
     }
     Ok(replayed.status())

@@ -27,7 +27,8 @@ use std::{env, io, thread};
 use terminal_line::{NotedReader, NotedWriter, Progress, Streams, start_line};
 use wire_command_line::{CallPair, Command, Refusal, Request, read_request};
 use wire_explain::{
-    explain_file, explain_order, explain_part, explain_rank, explain_stop, explain_word,
+    explain_file, explain_order, explain_part, explain_rank, explain_standstill, explain_stop,
+    explain_word,
 };
 use wire_types::{Fault, FromRead, ToWrite, write_out};
 
@@ -117,13 +118,15 @@ fn tell_misused(rt: &impl Eprint, line: &str) -> Result<u8, Failure> {
     Err(Failure::Usage)
 }
 
-/// What a command notes while it works: how far it is, and what it was given and has read.
+/// What a command notes while it works: how far it is, what it was given and has read, and whether a plan was run in
+/// which nothing is found.
 #[derive(Drop)]
 struct Watch<'p, 'w> {
     progress: &'p Progress,
     request: Request<'w>,
     plan: Kept,
     order: Kept,
+    has_run: bool,
 }
 
 /// The word of two calls at a place, from 1.
@@ -322,9 +325,13 @@ fn serve_explained(
         request,
         plan: Kept::new(rt.alloc(), request.explain),
         order: Kept::new(rt.alloc(), request.explain),
+        has_run: false,
     };
     match serve(rt, &mut watch) {
-        Ok(status) => Ok(status),
+        Ok(status) => {
+            tell_standstill(rt, &watch);
+            Ok(status)
+        }
         Err(fault) => {
             if request.explain {
                 Err(explain_failure(rt.alloc(), fault, &watch))
@@ -332,6 +339,32 @@ fn serve_explained(
                 Err(fault.into())
             }
         }
+    }
+}
+
+/// Tells on standard error of the ranks that wait for ever, where a plan was run in which nothing is found, and a copy of
+/// it was kept. Nothing where memory fails.
+fn tell_standstill(rt: &(impl Eprint + AllocGlobal + Wait), watch: &Watch<'_, '_>) {
+    let Some(plan) = &watch.plan.bytes else {
+        return;
+    };
+    if !watch.has_run {
+        return;
+    }
+    if let Ok(told) = explain_standstill(rt.alloc(), watch.request.size, plan.as_slice()) {
+        tell_waits(rt, watch.progress, told.as_slice());
+    }
+}
+
+/// Tells these lines of ranks that wait for ever, where there are any. They are printable ASCII.
+fn tell_waits(rt: &(impl Eprint + Wait), progress: &Progress, lines: &[u8]) {
+    if lines.is_empty() {
+        return;
+    }
+    if let Ok(text) = str::from_utf8(lines) {
+        progress.close(rt);
+        let _ = rt.eprint("wire_up: ranks wait for ever\n");
+        let _ = rt.eprint(text);
     }
 }
 
@@ -344,7 +377,12 @@ fn serve(
     let mut reader = open_plan(rt, request.plan, progress, &mut watch.plan)?;
     let mut writer = ToWrite::new(NotedWriter::new(rt, progress));
     let kept = &mut watch.order;
-    let order = OrderWatch { progress, kept };
+    let has_run = &mut watch.has_run;
+    let order = OrderWatch {
+        progress,
+        kept,
+        has_run,
+    };
     run_command(rt, request, order, &mut reader, &mut writer)
 }
 

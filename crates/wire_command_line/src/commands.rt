@@ -49,11 +49,11 @@ const ANSWERS: Argument<'static> = Argument {
     help: "With --pattern: tells all statuses with which each get-now is answered",
 };
 
-/// Whether no call of a pattern waits, and each `get-now` succeeds.
+/// Whether no call of a pattern waits with any number of ranks, and each call of the instances that are judged succeeds.
 const ALL_SUCCEED: Argument<'static> = Argument {
     name: "complete",
     kind: Kind::Flag,
-    help: "With --pattern: ends with status 1 if a call waits, or a get-now is answered otherwise than PMIX_SUCCESS",
+    help: "With --pattern: ends with status 1 if a call may wait with some number of ranks, or fails in a plan that is judged",
 };
 
 /// The limits are lifted.

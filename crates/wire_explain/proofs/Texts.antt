@@ -39,7 +39,7 @@ pub then_joined : {R E : Type 0} (r : Result R E) (zero one two three a b c : Li
 then_joined (Ok x) zero one two three a b c e f g = joined zero one two three a b c e f g
 then_joined (Err x) zero one two three a b c e f g = tt
 
-two_joined : {R E : Type 0} (r : Result R E) (zero one two a b : List ℕ) → one ≡ zero ++ a → OnOk r (two ≡ one ++ b) → OnOk r (two ≡ zero ++ (a ++ b))
+pub two_joined : {R E : Type 0} (r : Result R E) (zero one two a b : List ℕ) → one ≡ zero ++ a → OnOk r (two ≡ one ++ b) → OnOk r (two ≡ zero ++ (a ++ b))
 two_joined (Ok x) zero one two a b e f = f ∙ ap (λ t. t ++ b) e ∙ append_assoc zero a b
 two_joined (Err x) zero one two a b e f = tt
 

@@ -36,7 +36,11 @@ fn line_of_step(alloc: Global, bytes: &[u8], step: u64) -> Result<u64, AllocErro
 }
 
 /// Appends a call, and its verb.
-fn push_said_call(out: &mut Vec<u8>, scripts: &Scripts, place: CallAt) -> Result<(), AllocError>
+pub(crate) fn push_said_call(
+    out: &mut Vec<u8>,
+    scripts: &Scripts,
+    place: CallAt,
+) -> Result<(), AllocError>
     ensures { OnOk result (out.new.items ≡ out.old.items ++ spec.said_call scripts.now place) }
 {
     push_call(out, scripts, place)?;

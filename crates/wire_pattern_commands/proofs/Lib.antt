@@ -10,4 +10,5 @@ pub mod StringsBack
 mod InstancesShown
 mod ShownJson
 mod SettledJson
+mod Succeeded
 mod Emptied

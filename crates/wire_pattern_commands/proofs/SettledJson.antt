@@ -1,8 +1,22 @@
 -- The pieces of the object about a pattern in which nothing is found, one after another.
 use Rattle.std.proofs.Common.{◌≡◌, ◌∙◌, ap, ℕ, List, ◌++◌, append_assoc}
 
-pub shown_settled : (start answers middle waits end out one two three four : List ℕ) → out ≡ start → one ≡ out ++ answers → two ≡ one ++ middle → three ≡ two ++ waits
-    → four ≡ three ++ end → four ≡ start ++ (answers ++ (middle ++ (waits ++ end)))
-shown_settled start answers middle waits end out one two three four is a b c d =
-    d ∙ ap (λ t. t ++ end) (c ∙ ap (λ t. t ++ waits) (b ∙ ap (λ t. t ++ middle) (a ∙ ap (λ t. t ++ answers) is)))
-    ∙ append_assoc ((start ++ answers) ++ middle) waits end ∙ append_assoc (start ++ answers) middle (waits ++ end) ∙ append_assoc start answers (middle ++ (waits ++ end))
+-- the first three pieces, and the rest of them
+first_three : (start answers middle out one two rest : List ℕ) → out ≡ start → one ≡ out ++ answers → two ≡ one ++ middle
+    → two ++ rest ≡ start ++ (answers ++ (middle ++ rest))
+first_three start answers middle out one two rest is a b =
+    ap (λ t. t ++ rest) (b ∙ ap (λ t. t ++ middle) (a ∙ ap (λ t. t ++ answers) is))
+    ∙ append_assoc (start ++ answers) middle rest ∙ append_assoc start answers (middle ++ rest)
+
+-- the last four
+last_four : (two least word waits end three four five six : List ℕ) → three ≡ two ++ least → four ≡ three ++ word → five ≡ four ++ waits → six ≡ five ++ end
+    → six ≡ two ++ (least ++ (word ++ (waits ++ end)))
+last_four two least word waits end three four five six c d e f =
+    f ∙ ap (λ t. t ++ end) (e ∙ ap (λ t. t ++ waits) (d ∙ ap (λ t. t ++ word) c))
+    ∙ append_assoc ((two ++ least) ++ word) waits end ∙ append_assoc (two ++ least) word (waits ++ end) ∙ append_assoc two least (word ++ (waits ++ end))
+
+pub shown_settled : (start answers middle least word waits end out one two three four five six : List ℕ) → out ≡ start → one ≡ out ++ answers
+    → two ≡ one ++ middle → three ≡ two ++ least → four ≡ three ++ word → five ≡ four ++ waits → six ≡ five ++ end
+    → six ≡ start ++ (answers ++ (middle ++ (least ++ (word ++ (waits ++ end)))))
+shown_settled start answers middle least word waits end out one two three four five six is a b c d e f =
+    last_four two least word waits end three four five six c d e f ∙ first_three start answers middle out one two (least ++ (word ++ (waits ++ end))) is a b

@@ -17,7 +17,7 @@ use Rattle.wire_pattern.specs.Pattern.{Pattern}
 use Rattle.wire_pattern.specs.Lawful.{IsSound}
 use Rattle.wire_pattern.specs.Instances.{Cast, IsCast, instance_text}
 use Rattle.wire_sweep_laws.specs.Promised.{IsSettledForAll, HasOneEndForAll}
-use Rattle.wire_reply_laws.specs.Promised.{IsAnsweredForAll}
+use Rattle.wire_reply_laws.specs.Promised.{IsAnsweredForAll, AreTextsAnswered}
 use Rattle.wire_pattern_waits.specs.declared.lines.CallLine.{CallLine}
 use Rattle.wire_pattern_waits.specs.Lines.{waits_text}
 use Rattle.wire_pattern_waits.specs.Waits.{AreWaiting, AllRead, AllReplied}
@@ -27,6 +27,8 @@ use Rattle.wire_pattern_answers.specs.Answers.{AreAnswers}
 use Rattle.wire_pattern_commands.specs.declared.asked.PatternAsked.{PatternAsked}
 use Rattle.wire_commands.specs.Ending.{ended_of}
 use Rattle.wire_sweep.specs.Judged.{IsCounterexample, IsSweepFault, IsWithinLimits}
+use Rattle.wire_pattern_commands.specs.AtLeast.{least_text}
+use Rattle.wire_pattern_commands.specs.Succeeding.{IsSuccessTold}
 use Rattle.wire_pattern_commands.specs.PatternJson.{json_counterexample, json_settled}
 use Rattle.wire_pattern_commands.specs.Read.{ReadAsPattern, RefusesPattern}
 use Rattle.wire_commands.specs.declared.ended.Ended.{Ended}
@@ -56,11 +58,11 @@ counterexample_form json text scripts found = if json then json_counterexample t
 abbrev pub answered_line : Bool → List ℕ
 answered_line everywhere = if everywhere then codes "every call is answered for every number of ranks\n" else []
 
--- that nothing is found, a line for each call line at which something waits, that no call waits with any number of ranks,
--- and where that is asked for a line for each get-now
+-- that nothing is found, a line for each group with a least number and for each call line at which something waits, that no
+-- call waits with any number of ranks, and where that is asked for a line for each get-now
 abbrev pub settled_text : Bool → Bool → Pattern → List CallLine → List LineAnswers → List ℕ
 settled_text asked everywhere p lines answers =
-    settled_line ++ (waits_text p lines ++ (answered_line everywhere ++ (if asked then answers_text p answers else [])))
+    settled_line ++ (least_text p ++ (waits_text p lines ++ (answered_line everywhere ++ (if asked then answers_text p answers else []))))
 
 -- the same in the form that is asked for
 abbrev pub settled_form : PatternAsked → Bool → Pattern → List CallLine → List LineAnswers → List ℕ
@@ -72,18 +74,19 @@ abbrev pub succeeds : LineAnswers → Bool
 succeeds answers = answers.success && (not answers.not_found && not answers.outside)
 
 -- how the command ends where nothing is found. If `complete` is asked for, with the count of the call lines at which
--- something waits; where there are none, with 1 unless no call waits with any number of ranks; and then with the count of
--- the get-now lines that don't succeed
-abbrev pub settled_end : PatternAsked → Bool → List CallLine → List LineAnswers → Ended
-settled_end asked everywhere lines answers =
+-- something waits; where there are none, with 1 unless no call waits with any number of ranks; then with 1 unless every call
+-- of the instances that are judged succeeds; and then with the count of the get-now lines that don't succeed
+abbrev pub settled_end : PatternAsked → Bool → Bool → List CallLine → List LineAnswers → Ended
+settled_end asked everywhere succeeding lines answers =
     if not asked.complete then Clean
     else if not (length lines == 0) then ended_of (length lines)
-    else if not everywhere then ended_of 1
+    else if not (everywhere && succeeding) then ended_of 1
     else ended_of (count_by (λ a. not (succeeds a)) answers)
 
 -- it is said that nothing is found, where something waits in the instances that are judged, which all read as plans, and
--- if that is asked for how each get-now is answered. If nothing waits, each call of these instances has its reply; and if
--- it is said that every call is answered for every number of ranks, it is so
+-- if that is asked for how each get-now is answered. If nothing waits, each call of these instances has its reply; if it is
+-- said that every call is answered for every number of ranks, it is so, and in the plans that the texts of instances read
+-- as; and with `complete` the end tells whether each call of the instances that are judged succeeds
 pub record IsSettledSaid (p : Pattern) (asked : PatternAsked) (text : List ℕ) (ended : Ended) : Type 0 where
   pub lines : List CallLine
   pub waiting : AreWaiting p lines
@@ -91,10 +94,13 @@ pub record IsSettledSaid (p : Pattern) (asked : PatternAsked) (text : List ℕ) 
   pub replied : lines ≡ [] → AllReplied p
   pub everywhere : Bool
   pub answered_for_all : everywhere ≡ true → IsAnsweredForAll p
+  pub texts_answered : everywhere ≡ true → AreTextsAnswered p
+  pub succeeding : Bool
+  pub told : asked.complete && everywhere ≡ true → IsSuccessTold p succeeding
   pub answers : List LineAnswers
   pub answered : asked.answers || asked.complete ≡ true → AreAnswers p answers
   pub is : text ≡ settled_form asked everywhere p lines answers
-  pub ends : ended ≡ settled_end asked everywhere lines answers
+  pub ends : ended ≡ settled_end asked everywhere succeeding lines answers
 
 -- the text of each instance with the least number of each role at least, if it reads as a plan of whatever size, has one
 -- end: every interleaving that can't go on ends in one state

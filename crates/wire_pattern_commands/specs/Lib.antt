@@ -3,6 +3,8 @@ pub mod Ranks
 pub mod Spread
 pub mod Expand
 pub mod Strings
+pub mod AtLeast
 pub mod PatternJson
 pub mod Shown
+pub mod Succeeding
 pub mod CheckPattern

@@ -9,6 +9,7 @@ use Rattle.wire_pattern_waits.specs.declared.lines.CallLine.{CallLine}
 use Rattle.wire_pattern_waits.specs.Lines.{waits_text}
 use Rattle.wire_pattern_answers.specs.declared.answers.LineAnswers.{LineAnswers}
 use Rattle.wire_pattern_answers.specs.Lines.{answers_text}
+use Rattle.wire_pattern_commands.specs.AtLeast.{least_text}
 use Rattle.wire_pattern_commands.specs.Strings.{lines_list, text_string}
 
 -- the member of how each get-now is answered, where that is asked for
@@ -19,11 +20,13 @@ answers_member asked p answers = if asked then codes "\"answers\":" ++ (lines_li
 abbrev pub answered_member : Bool → List ℕ
 answered_member everywhere = if everywhere then codes "\"answered\":\"every number of ranks\"," else []
 
--- that nothing is found, for which instances that is said, and each line that tells where something waits
+-- that nothing is found, for which instances that is said, each line that tells a least number, and each that tells where
+-- something waits
 abbrev pub json_settled : Bool → Bool → Pattern → List CallLine → List LineAnswers → List ℕ
 json_settled asked everywhere p lines answers =
     (codes "{" ++ answered_member everywhere) ++ (answers_member asked p answers
-    ++ (codes "\"findings\":[],\"for\":\"every number of ranks on every placement\",\"waits\":" ++ (lines_list (waits_text p lines) ++ codes "}\n")))
+    ++ (codes "\"findings\":[],\"for\":\"every number of ranks on every placement\",\"least\":" ++ (lines_list (least_text p)
+    ++ (codes ",\"waits\":" ++ (lines_list (waits_text p lines) ++ codes "}\n")))))
 
 -- a finding: its words
 abbrev pub finding_string : Scripts → Finding → List ℕ

@@ -1,6 +1,6 @@
 //! `check --pattern`: one verdict for every number of ranks on every placement.
 
-ghost use Rattle.std.specs.Prelude.{◌≡◌, ◌≢◌, ◌⊎◌, ◌++◌, ◌==◌, ◌||◌, ◌<◌, ◌^◌, [], true, not, Ok, Err, OnOk, IfOk, IfErr};
+ghost use Rattle.std.specs.Prelude.{◌≡◌, ◌≢◌, ◌⊎◌, ◌++◌, ◌==◌, ◌&&◌, ◌||◌, ◌<◌, ◌^◌, [], true, not, Ok, Err, OnOk, IfOk, IfErr};
 ghost use Rattle.std.specs.Prelude.{codes, count_by, if◌then◌else◌};
 ghost use Rattle.std.specs.List.{flat_map};
 ghost use Rattle.wire_types.specs.declared.Fault.TheVariants.{Memory, Read};
@@ -16,11 +16,14 @@ ghost use Rattle.wire_commands.specs.Ending.{ended_of};
 ghost use Rattle.wire_pattern_commands.specs.CheckPattern as spec;
 ghost use Rattle.wire_size_laws.specs.Stages.{Stages};
 ghost use Rattle.wire_reply_laws.specs.Promised.{AllStaged};
+ghost use Rattle.wire_pattern_commands.specs.Succeeding.{IsSuccessTold};
 ghost use Rattle.wire_pattern_commands.specs.CheckPattern.{BreaksOffPatternVerdict, EndsInOneStateForAll};
 ghost use Rattle.wire_pattern_commands.specs.CheckPattern.{IsPatternVerdict, IsSettledSaid, StopsBeforePattern, WritesPatternVerdict};
 
 use crate::asked::PatternAsked;
+use crate::least::write_least;
 use crate::reading::{note_sound, read_coming};
+use crate::succeeding::every_call_succeeds;
 use crate::verdict_json::{counterexample_json, settled_json};
 use std::alloc::{AllocError, Global};
 use std::thread::Threads;
@@ -31,7 +34,7 @@ use wire_pattern::Pattern;
 use wire_pattern_answers::{LineAnswers, find_answers, write_answers};
 use wire_pattern_stages::stages_of;
 use wire_pattern_waits::{CallLine, waiting_lines, write_waits};
-use wire_reply_laws::laws::all_answered;
+use wire_reply_laws::laws::{all_answered, texts_answered};
 use wire_report::{push_count, push_finding};
 use wire_sweep::laws::texts_settled;
 use wire_sweep::{Counterexample, judge_pattern};
@@ -155,16 +158,17 @@ fn count_failing(all: &[LineAnswers]) -> usize
 fn settled_end(
     asked: PatternAsked,
     everywhere: bool,
+    succeeding: bool,
     lines: &[CallLine],
     answers: &[LineAnswers],
 ) -> Ended
-    ensures { result ≡ spec.settled_end asked everywhere lines.now answers.now }
+    ensures { result ≡ spec.settled_end asked everywhere succeeding lines.now answers.now }
 {
     if !asked.complete {
         Ended::Clean
     } else if !lines.is_empty() {
         Ended::of_count(lines.len())
-    } else if !everywhere {
+    } else if !(everywhere && succeeding) {
         Ended::of_count(1)
     } else {
         Ended::of_count(count_failing(answers))
@@ -187,6 +191,25 @@ fn answers_asked(
         return Ok(answers);
     }
     Ok(Vec::new(alloc))
+}
+
+/// Whether every call of the instances that are judged succeeds, if that is asked for and no call waits with any number
+/// of ranks.
+fn success_asked(
+    alloc: Global,
+    pattern: &Pattern,
+    asked: PatternAsked,
+    everywhere: bool,
+) -> Result<bool, Fault>
+    requires { total_of (most_sizes pattern.now.roles) < 2 ^ 31 }
+    ensures ok { IfOk result (λ succeeding. asked.complete && everywhere ≡ true → IsSuccessTold pattern.now succeeding) }
+    ensures err { IfErr result (λ e. IsJudgeFault pattern.now e) }
+{
+    if asked.complete && everywhere {
+        let succeeding = every_call_succeeds(alloc, pattern)?;
+        return Ok(succeeding);
+    }
+    Ok(false)
 }
 
 /// Whether stages are found that all instances that are judged keep.
@@ -227,8 +250,8 @@ fn push_answered(out: &mut Vec<u8>, everywhere: bool) -> Result<(), AllocError>
     }
 }
 
-/// The text about a pattern in which nothing is found: so it says, at which call lines something waits, and if that is
-/// asked for with which statuses each get-now is answered.
+/// The text about a pattern in which nothing is found: so it says, for which numbers of ranks, at which call lines
+/// something waits, and if that is asked for with which statuses each get-now is answered.
 fn settled_text(
     alloc: Global,
     pattern: &Pattern,
@@ -243,6 +266,7 @@ fn settled_text(
         alloc,
         b"findings 0 for every number of ranks on every placement\n",
     )?;
+    write_least(&mut text, pattern)?;
     write_waits(&mut text, pattern, lines)?;
     push_answered(&mut text, everywhere)?;
     if !asked.answers {
@@ -278,9 +302,11 @@ fn answer_settled(alloc: Global, pattern: &Pattern, asked: PatternAsked) -> Resu
     ensures err { IfErr result (λ e. IsJudgeFault pattern.now e) }
 {
     all_answered();
+    texts_answered();
     note_sound(pattern);
     let lines = waiting_lines(alloc, pattern)?;
     let everywhere = is_answered(alloc, pattern, lines.as_slice())?;
+    let succeeding = success_asked(alloc, pattern, asked, everywhere)?;
     let answers = answers_asked(alloc, pattern, asked)?;
     let text = settled_form(
         alloc,
@@ -292,7 +318,13 @@ fn answer_settled(alloc: Global, pattern: &Pattern, asked: PatternAsked) -> Resu
     )?;
     Ok(Answer {
         text,
-        ended: settled_end(asked, everywhere, lines.as_slice(), answers.as_slice()),
+        ended: settled_end(
+            asked,
+            everywhere,
+            succeeding,
+            lines.as_slice(),
+            answers.as_slice(),
+        ),
     })
 }
 
@@ -322,13 +354,14 @@ fn answer_pattern(
 }
 
 /// Checks a pattern for every number of ranks on every placement: reads it to its end, and writes that nothing is
-/// found, at which call lines something waits, and if that is asked for with which statuses each get-now is answered;
+/// found, for which numbers of ranks, at which call lines something waits, and if that is asked for with which statuses each get-now is answered;
 /// or a counterexample: how many ranks it has, the text of its plan, and as comments what `check` finds in that. It is
 /// the first instance that is judged in which something is found. As JSON the text of the plan is one string, without
 /// the comments.
 ///
 /// It answers `Clean` where nothing is found in any instance; but with `complete` the count of the call lines at which
-/// something waits, or where there are none, of the get-now lines that don't succeed. The faults of the pattern's file
+/// something waits; where there are none 1, unless no call waits with any number of ranks and every call of the instances
+/// that are judged succeeds; and then the count of the get-now lines that don't succeed. The faults of the pattern's file
 /// come first, then those of the largest instance that is judged, each on the line of the pattern that it comes from.
 /// After the fault `Write` the front of the text that it counts is written, after any other fault nothing. `Memory` may
 /// come in place of any other answer.

@@ -5,10 +5,12 @@ mod asked;
 mod check;
 mod expand;
 pub mod laws;
+mod least;
 mod ranks;
 mod reading;
 mod spread;
 mod strings;
+mod succeeding;
 mod verdict_json;
 
 pub use asked::PatternAsked;

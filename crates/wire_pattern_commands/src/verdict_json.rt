@@ -4,10 +4,12 @@ ghost use Rattle.std.specs.Prelude.{◌≡◌, ◌++◌, codes, map, IfOk, OnOk}
 ghost use Rattle.wire_types.specs.Texts.{lists_of};
 ghost use Rattle.wire_json.specs.Json.{bracketed};
 ghost use Rattle.wire_pattern_waits.specs.Lines.{waits_text};
+ghost use Rattle.wire_pattern_commands.specs.AtLeast.{least_text};
 ghost use Rattle.wire_pattern_commands.specs.PatternJson as spec;
 ghost use Rattle.wire_pattern_commands.specs.Strings.{lines_list};
 
 use crate::asked::PatternAsked;
+use crate::least::write_least;
 use crate::strings::{push_lines, push_text, string_of};
 use std::alloc::{AllocError, Global};
 use wire_content::Scripts;
@@ -38,6 +40,15 @@ fn push_answers(
     out.extend_from_slice(b"\"answers\":")?;
     push_lines(alloc, out, lines.as_slice())?;
     out.extend_from_slice(b",")
+}
+
+/// Appends a list of the lines that tell the least numbers of ranks.
+fn push_least(alloc: Global, out: &mut Vec<u8>, pattern: &Pattern) -> Result<(), AllocError>
+    ensures { OnOk result (out.new.items ≡ out.old.items ++ lines_list (least_text pattern.now)) }
+{
+    let mut text = Vec::new(alloc);
+    write_least(&mut text, pattern)?;
+    push_lines(alloc, out, text.as_slice())
 }
 
 /// Appends a list of the lines that tell where something waits.
@@ -79,8 +90,10 @@ pub(crate) fn settled_json(
     let mut out = settled_start(alloc, everywhere)?;
     push_answers(alloc, &mut out, pattern, asked, answers)?;
     out.extend_from_slice(
-        b"\"findings\":[],\"for\":\"every number of ranks on every placement\",\"waits\":",
+        b"\"findings\":[],\"for\":\"every number of ranks on every placement\",\"least\":",
     )?;
+    push_least(alloc, &mut out, pattern)?;
+    out.extend_from_slice(b",\"waits\":")?;
     push_waits(alloc, &mut out, pattern, lines)?;
     out.extend_from_slice(b"}\n")?;
     Ok(out)

@@ -11,12 +11,15 @@ from typing import Optional
 from wire_up_tools.failures import Refused, Unusable, explain
 from wire_up_tools.options import Option, Parser, describe
 from wire_up_tools.record.running import BY_SIGNAL, HANDED_ON, NotRun, Stopped
+from wire_up_tools.record.showing.asking import OPTIONS as OF_SHOWING
+from wire_up_tools.record.showing.asking import read_asked, refuse_input
 from wire_up_tools.record.sizes.asking import asks_for_sizes, read_sizes_request
 from wire_up_tools.record.tasks import (
     CommandRequest,
     FilesRequest,
     Output,
     Request,
+    ShowRequest,
     WhereRequest,
     do,
     say,
@@ -48,6 +51,10 @@ USES = (
     (
         "--sizes -o PATTERN --from FILE.. --from FILE.. --against FILE..",
         "does so with recordings that are there, of which those behind --against hold the pattern",
+    ),
+    (
+        "--of PLAN --show COMMAND..",
+        "shows races of a plan that was recorded before, in the program: see --show",
     ),
     (
         "--where PROC N PLAN",
@@ -97,6 +104,7 @@ OPTIONS = (
         "else the one beside this\n"
         "                   command or on the path is taken, if there is one",
     ),
+    *OF_SHOWING,
 )
 
 
@@ -137,10 +145,12 @@ def read_request(words: Sequence[str]) -> Request:
     found = RecorderParser().read(words)
     if found.where is not None:
         return read_where_request([*found.where, *found.rest])
-    if found.o is None:
+    asked = read_asked(found)
+    plan = found.o or (asked.of if asked else None)
+    if plan is None:
         raise Unusable("-o PLAN says where the plan goes")
     output = Output(
-        plan=found.o,
+        plan=plan,
         answers=found.answers,
         kept=found.keep,
         pattern=found.pattern,
@@ -152,7 +162,11 @@ def read_request(words: Sequence[str]) -> Request:
     if found.files is None:
         if not found.rest:
             raise Unusable("which command?")
-        return CommandRequest(output, found.rest)
+        if asked:
+            refuse_input(asked.source)
+        if asked and asked.of:
+            return ShowRequest(output, found.rest, asked)
+        return CommandRequest(output, found.rest, asked)
     # Two hyphens may stand between them.
     files = [*found.files, *found.rest]
     if not files or output.kept:

@@ -45,6 +45,19 @@ class MpiSummary:
 
 
 @dataclass(frozen=True)
+class Tested:
+    """What was found out of a plan by asking the checker: what the library `answered` otherwise
+    than the rules, if it did; which calls it is known to answer by which rank is fast; what more is
+    known of the library; and whether each run of the program makes the calls of the plan, if it
+    goes by them alone."""
+
+    answered: Optional[str] = None
+    timed: Sequence[str] = ()
+    of_library: Optional[str] = None
+    is_of_each_run: bool = False
+
+
+@dataclass(frozen=True)
 class Plan:
     """All that the text of a plan says. One of several runs says where they part."""
 
@@ -56,6 +69,7 @@ class Plan:
     mpi: MpiSummary
     run_count: int = 1
     partings: Sequence[str] = ()
+    tested: Tested = Tested()
 
 
 def refuse_too_many(parts: Sequence[Part], most: Limits) -> None:

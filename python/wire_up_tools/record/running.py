@@ -4,7 +4,7 @@ import re
 import signal
 import subprocess
 from collections.abc import Mapping, Sequence
-from typing import Optional
+from typing import IO, Optional
 
 from wire_up_tools.failures import Refused
 
@@ -104,11 +104,14 @@ def wait_and_hand_on(process: "subprocess.Popen[bytes]") -> int:
 
 
 def run(
-    command: Sequence[str], environment: Mapping[str, str], output: Optional[int] = None
+    command: Sequence[str],
+    environment: Mapping[str, str],
+    source: Optional[IO[bytes]] = None,
+    output: Optional[int] = None,
 ) -> int:
-    """Runs a command, hands signals on to it, and answers its status: below 0 for the signal that
-    ended it. `output` is the file to which its standard output goes, if not to ours. Raises NotRun
-    if it can't be run."""
+    """Runs a command, which reads from a source, else from standard input, hands signals on to it,
+    and answers its status: below 0 for the signal that ended it. `output` is the file to which its
+    standard output goes, if not to ours. Raises NotRun if it can't be run."""
     before = signal.pthread_sigmask(signal.SIG_BLOCK, (*HANDED_ON, signal.SIGCHLD))
 
     def unblock() -> None:
@@ -117,7 +120,12 @@ def run(
     try:
         # The command has the files that were opened for it.
         with subprocess.Popen(
-            command, env=environment, preexec_fn=unblock, close_fds=False, stdout=output
+            command,
+            env=environment,
+            preexec_fn=unblock,
+            close_fds=False,
+            stdin=source,
+            stdout=output,
         ) as process:
             return wait_and_hand_on(process)
     except FileNotFoundError as why:

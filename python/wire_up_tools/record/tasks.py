@@ -4,6 +4,7 @@ import os
 import shutil
 import sys
 import tempfile
+import time
 from collections.abc import Callable, Mapping, Sequence
 from dataclasses import dataclass, replace
 from typing import Optional, Union
@@ -12,26 +13,38 @@ from wire_up_tools.checker import Checker, find_checker
 from wire_up_tools.failures import Refused
 from wire_up_tools.files import STANDARD_OUTPUT, write_whole
 from wire_up_tools.limits import LARGE, VERSION_1
+from wire_up_tools.plan_reading import read_plan
 from wire_up_tools.record.floating import settle_floating
 from wire_up_tools.record.merging import merge_plans
 from wire_up_tools.record.notes import FLOATING
 from wire_up_tools.record.partings import Run
 from wire_up_tools.record.patterning import find_pattern, holds_in_part
 from wire_up_tools.record.patterns.scripts import ANY_VALUE
-from wire_up_tools.record.places import find_call_place, find_places, read_places, write_places
-from wire_up_tools.record.planning import Choices, Plan, make_plan, make_whole_plan
+from wire_up_tools.record.places import (
+    Places,
+    find_call_place,
+    find_places,
+    read_places,
+    write_places,
+)
+from wire_up_tools.record.planning import Choices, Plan, Tested, make_plan, make_whole_plan
 from wire_up_tools.record.recordings import Recording, has_recordings, read_recordings
 from wire_up_tools.record.running import BY_SIGNAL, find_libraries, make_environment, run
+from wire_up_tools.record.showing.asking import Asked
+from wire_up_tools.record.showing.material import First, Material
+from wire_up_tools.record.showing.showing import show
+from wire_up_tools.record.showing.traces import read_traces
 from wire_up_tools.record.sizes.asking import SizesRequest
 from wire_up_tools.record.sizes.doing import answer_sizes
 from wire_up_tools.record.verdicts import (
     compare_verdicts,
     finds_nothing,
-    judge_library,
     judge_placements,
     judge_runs,
+    test_plan,
 )
 from wire_up_tools.record.writing import is_by_mpi_alone, write_answers, write_plan
+from wire_up_tools.words import EACH_RUN
 
 # What is said of verdicts over plans that are known to be more ordered than the program.
 IN_PART = "holds only in part"
@@ -71,13 +84,23 @@ class FilesRequest:
 
 @dataclass(frozen=True)
 class CommandRequest:
-    """Asks for the plan of a command that is run."""
+    """Asks for the plan of a command that is run, and perhaps for its races in more runs."""
 
     output: Output
     command: Sequence[str]
+    asked: Optional[Asked] = None
 
 
-Request = Union[WhereRequest, FilesRequest, CommandRequest, SizesRequest]
+@dataclass(frozen=True)
+class ShowRequest:
+    """Asks for races of a plan that is there, in runs of a command."""
+
+    output: Output
+    command: Sequence[str]
+    asked: Asked
+
+
+Request = Union[WhereRequest, FilesRequest, CommandRequest, ShowRequest, SizesRequest]
 
 
 def say(what: str) -> None:
@@ -126,20 +149,15 @@ def write_pattern(plan: Plan, path: str) -> None:
         say(f"{path}: a verdict over this pattern {IN_PART}, as one over the plan does")
 
 
-def write_output(plan: Plan, recordings: Sequence[Recording], output: Output) -> str:
+def write_output(plan: Plan, places: Places, output: Output) -> str:
     """Writes a plan, and what is asked for besides. Answers the text of the plan. Raises Refused,
     OSError."""
-    folders = dict.fromkeys(os.path.dirname(it.path) for it in recordings)
-    places = find_places(plan.draft, read_places(folders))
-    if output.kept:
-        write_places(places, output.kept)
-    text, answers = write_plan(plan, places), write_answers(plan)
+    text = write_plan(plan, places)
     write_whole(output.plan, text)
     if output.answers:
-        write_whole(output.answers, answers)
+        write_whole(output.answers, write_answers(plan))
     if output.pattern:
         write_pattern(plan, output.pattern)
-    say_part(plan)
     return text
 
 
@@ -149,9 +167,20 @@ def say_besides(checker: Checker, plan: Plan, text: str) -> None:
     found = judge_placements(checker, text)
     if found:
         say(f"{found}: wire_up check --anywhere names them")
-    otherwise = judge_library(checker, plan, text)
-    if otherwise:
-        say(otherwise)
+    if plan.tested.of_library:
+        say(plan.tested.of_library)
+
+
+def say_tested(tested: Tested) -> None:
+    """Says whether each run of the program makes the calls of the plan, or what the library
+    answered otherwise than the rules."""
+    if tested.answered:
+        say(
+            f"answered otherwise than by the rules: {tested.answered}: the verdict doesn't hold of "
+            "this library's run"
+        )
+    if tested.is_of_each_run:
+        say(EACH_RUN)
 
 
 def add_verdicts(plan: Plan, make_other: Callable[[Choices], Plan], checker: Checker) -> Plan:
@@ -196,11 +225,16 @@ def make_choices(output: Output, path: Optional[str]) -> Choices:
     return Choices(output.with_mpi, output.is_strict, LARGE if is_large else VERSION_1)
 
 
+def find_run_places(plan: Plan, recordings: Sequence[Recording]) -> Places:
+    """Where the calls of the plan of recordings come from. Raises Refused, OSError."""
+    folders = dict.fromkeys(os.path.dirname(it.path) for it in recordings)
+    return find_places(plan.draft, read_places(folders))
+
+
 def make_run(recordings: Sequence[Recording], choices: Choices) -> Run:
     """One of several runs, by its recordings. Raises Refused, OSError."""
     plan = make_whole_plan(recordings, choices)
-    folders = dict.fromkeys(os.path.dirname(it.path) for it in recordings)
-    return Run(plan, find_places(plan.draft, read_places(folders)))
+    return Run(plan, find_run_places(plan, recordings))
 
 
 def merge(output: Output, runs: Sequence[Sequence[str]], folder: str) -> None:
@@ -217,15 +251,12 @@ def merge(output: Output, runs: Sequence[Sequence[str]], folder: str) -> None:
         plan = judge_otherwise(
             plan, lambda other: merge_plans([make_run(it, other) for it in recordings]), checker
         )
-    text = write_plan(plan, made[0].places)
-    write_whole(output.plan, text)
-    if output.answers:
-        write_whole(output.answers, write_answers(plan))
-    if output.pattern:
-        write_pattern(plan, output.pattern)
+        plan = replace(plan, tested=test_plan(checker, plan, made))
+    text = write_output(plan, made[0].places, output)
     for parting in plan.partings:
         say(f"the runs part: {parting}")
     say_part(plan)
+    say_tested(plan.tested)
     say_verdicts(plan)
     if path is not None:
         own = [write_plan(it.plan, it.places) for it in made]
@@ -234,22 +265,29 @@ def merge(output: Output, runs: Sequence[Sequence[str]], folder: str) -> None:
         say_besides(checker, plan, text)
 
 
-def make(output: Output, paths: Sequence[str], folder: str) -> None:
-    """Makes and writes the plan of recordings, in files or folders. `folder` is that of the
-    command. Raises Refused, OSError."""
+def make(output: Output, paths: Sequence[str], folder: str) -> str:
+    """Makes and writes the plan of recordings, in files or folders, and answers its text. `folder`
+    is that of the command. Raises Refused, OSError."""
     # There is no garbage worth the looks of the collector over millions of records.
     gc.disable()
     path = output.checker or find_checker(folder)
     choices = make_choices(output, path)
     recordings = read_recordings(paths, choices.most)
     plan = make_plan(recordings, choices)
+    places = find_run_places(plan, recordings)
+    if output.kept:
+        write_places(places, output.kept)
     if path is not None:
         checker = Checker(path, choices.most is LARGE)
         plan = judge_otherwise(plan, lambda other: make_plan(recordings, other), checker)
-    text = write_output(plan, recordings, output)
+        plan = replace(plan, tested=test_plan(checker, plan, [Run(plan, places)]))
+    text = write_output(plan, places, output)
+    say_part(plan)
+    say_tested(plan.tested)
     say_verdicts(plan)
     if path is not None:
         say_besides(checker, plan, text)
+    return text
 
 
 def make_folder(output: Output) -> str:
@@ -264,19 +302,70 @@ def make_folder(output: Output) -> str:
     return os.path.abspath(output.kept)
 
 
+def run_first(asked: CommandRequest, environment: Mapping[str, str]) -> int:
+    """Runs a command, and answers its status. If it is to run again, all runs read the same.
+    Raises NotRun, OSError."""
+    if asked.asked is None:
+        return run(asked.command, environment)
+    with open(asked.asked.source or os.devnull, "rb") as come:
+        return run(asked.command, environment, come)
+
+
+def find_material(
+    asked: Union[CommandRequest, ShowRequest], text: str, room: str, folder: str
+) -> Material:
+    """What there is to show races of a plan with, in runs whose recordings go to a room. `folder`
+    is that of the recorder. Raises Refused, OSError."""
+    output = asked.output
+    path = output.checker or find_checker(folder)
+    return Material(
+        command=asked.command,
+        libraries=find_libraries(folder, output.with_mpi),
+        text=text,
+        path=output.plan,
+        checker=Checker(path, Checker(path).takes_large()) if path is not None else None,
+        room=room,
+    )
+
+
+def show_of_plan(asked: ShowRequest, folder: str) -> int:
+    """Shows races of a plan that is there, and answers 0. Raises Refused, NotRun, OSError."""
+    assert asked.asked.of is not None, "there is a plan"
+    with open(asked.asked.of, "rb") as it:
+        data = it.read()
+    if not read_plan(data).is_recorded:
+        raise Refused(f"{asked.asked.of}: isn't a plan that wire_up-record wrote")
+    room = make_folder(asked.output)
+    try:
+        show(asked.asked, find_material(asked, data.decode("ascii", "replace"), room, folder), say)
+    finally:
+        if not asked.output.kept:
+            shutil.rmtree(room, ignore_errors=True)
+    return 0
+
+
 def record(asked: CommandRequest, folder: str) -> int:
     """Runs a command, makes the plan, and answers the command's status. `folder` is that of the
     recorder. Recordings that make no plan are left. Raises Refused, NotRun, OSError."""
     output = asked.output
     libraries = find_libraries(folder, output.with_mpi)
     recordings, is_made = make_folder(output), False
+    began = time.monotonic()
     try:
-        status = run(asked.command, make_environment(libraries, recordings))
+        status = run_first(asked, make_environment(libraries, recordings))
+        seconds = time.monotonic() - began
         if status:
             how = f"with status {status}" if status > 0 else f"by signal {-status}"
             say(f"the command ended {how}")
-        make(output, [recordings], folder)
+        # What goes to standard output goes there once, with what is shown.
+        is_put_off = asked.asked is not None and output.plan == STANDARD_OUTPUT
+        made = replace(output, plan=os.devnull) if is_put_off else output
+        text = make(made, [recordings], folder)
         is_made = True
+        if asked.asked:
+            material = find_material(asked, text, recordings, folder)
+            first = First(seconds, status, read_traces(recordings))
+            show(asked.asked, replace(material, first=first), say)
         return status if status >= 0 else BY_SIGNAL - status
     finally:
         if not output.kept and (is_made or not has_recordings(recordings)):
@@ -293,6 +382,8 @@ def do(asked: Request, folder: str) -> int:
         return answer_sizes(asked, folder)
     if isinstance(asked, CommandRequest):
         return record(asked, folder)
+    if isinstance(asked, ShowRequest):
+        return show_of_plan(asked, folder)
     if len(asked.runs) > 1:
         merge(asked.output, asked.runs, folder)
     else:

@@ -1,13 +1,17 @@
 """Finds what the checker says with and without the order of ends that another run may have found
 open, where that differs; on other placements of the ranks; and of several runs, of what they share
-and of each by itself. And what the library that was recorded answers otherwise than the rules."""
+and of each by itself. And what the library that was recorded answered otherwise than the rules, or
+is known to answer so."""
 from collections.abc import Iterator, Sequence
 from typing import Optional
 
 from wire_up_tools.checker import Checker
 from wire_up_tools.failures import Refused
 from wire_up_tools.plan_reading import read_plan
-from wire_up_tools.record.planning import Plan
+from wire_up_tools.record.partings import Run
+from wire_up_tools.record.planning import Plan, Tested
+from wire_up_tools.record.premises import test_premises
+from wire_up_tools.record.writing import write_plan
 from wire_up_tools.run.expected import expect
 from wire_up_tools.run.libraries.judging import MOST_CALLS, Judged, judge
 from wire_up_tools.run.libraries.traits import find_recorded
@@ -70,20 +74,18 @@ def judge_runs(
         yield f"what the runs share has {found}; by themselves they have {', '.join(each)}"
 
 
-def judge_library(checker: Checker, plan: Plan, text: str) -> Optional[str]:
-    """How many calls of a plan the library that was recorded answers otherwise, and which of them
-    make the verdict say less; None where it answers none so, where nothing is known of it, or where
-    the plan is too large."""
+def judge_library(checker: Checker, plan: Plan) -> Optional[Judged]:
+    """What the library that was recorded is known to make of a plan; None where nothing is known of
+    it, or where the plan is too large."""
     first = plan.processes.all[0].recording
     library = find_recorded(first.library, first.namespace.decode("ascii", "replace"))
     if library is None or plan.draft.count > MOST_CALLS:
         return None
-    data = text.encode()
+    data = write_plan(plan).encode()
     try:
-        judged = judge(read_plan(data), library, expect(checker, data))
+        return judge(read_plan(data), library, expect(checker, data))
     except (Refused, OSError):
         return None
-    return say_judged(judged) if judged.found else None
 
 
 def say_judged(judged: Judged) -> str:
@@ -96,7 +98,31 @@ def say_judged(judged: Judged) -> str:
     )
     if not judged.timed:
         return said
+    named = ", ".join(list_timed(judged))
+    return f"{said}; the verdict says less of {named}: the reply can depend on which rank is fast"
+
+
+def list_timed(judged: Judged) -> list[str]:
+    """The first calls whose reply can depend on which rank is fast, and how many more there are."""
     places = [f"{it}" for it in judged.timed]
     rest = len(places) - NAMED
-    named = ", ".join(places[:NAMED]) + (f" and {rest} more" if rest > 0 else "")
-    return f"{said}; the verdict says less of {named}: the reply can depend on which rank is fast"
+    if rest <= 0:
+        return places
+    return [*places[: NAMED - 1], f"{places[NAMED - 1]} and {rest} more"]
+
+
+def test_plan(checker: Checker, plan: Plan, runs: Sequence[Run]) -> Tested:
+    """What the checker tells of a plan and of the runs that it is made of: whether what its verdict
+    rests on is so, and what is known of the library that was recorded."""
+    premises = [test_premises(checker, it.plan) for it in runs]
+    said = [
+        f"{f'in run {number}, ' * (len(runs) > 1)}{it.differing.say(run.places)}"
+        for number, (it, run) in enumerate(zip(premises, runs), 1)
+        if it.differing
+    ]
+    judged = judge_library(checker, plan)
+    timed = list_timed(judged) if judged else []
+    do_hold = all(it.hold for it in premises) and not plan.partings and not timed
+    is_clean = len(runs) == 1 or do_hold and find_verdict(checker, write_plan(plan)) == NOTHING
+    of_library = say_judged(judged) if judged and judged.found else None
+    return Tested(said[0] if said else None, timed, of_library, do_hold and is_clean)

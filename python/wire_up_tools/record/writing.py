@@ -1,18 +1,29 @@
 """Writes the text of a plan, with comments at its head about all that it can't say; and how its
 calls ended, in the form of a report."""
 from collections.abc import Iterable, Iterator, Sequence
+from dataclasses import dataclass
 from datetime import datetime, timezone
 from typing import Optional
 
 from wire_up_tools.limits import VERSION_1
-from wire_up_tools.record.calls import Collective, LookupEnd, MessageEnd, Probe, Receive, Send
+from wire_up_tools.record.calls import (
+    Collective,
+    LookupEnd,
+    MessageEnd,
+    Probe,
+    Receive,
+    Send,
+    Value,
+)
 from wire_up_tools.record.draft import Line
 from wire_up_tools.record.places import Places
 from wire_up_tools.record.planning import Plan
 from wire_up_tools.record.processes import Process
 from wire_up_tools.record.recordings import refuse_past
 from wire_up_tools.words import (
+    ANSWERED,
     CUT_OFF,
+    EACH_RUN_SENTENCE,
     LEFT_OUT,
     LEFT_TO_LUCK,
     MORE_ORDERED,
@@ -24,6 +35,7 @@ from wire_up_tools.words import (
     PLACE_COMMENT,
     RECORDED_BY,
     TAKEN,
+    TIMED,
     UNKNOWN_PLACE,
     VERDICTS,
     WITHOUT_MPI,
@@ -148,10 +160,24 @@ def say_notes(plan: Plan) -> Iterator[str]:
             yield from (f"#   {it}" for it in them)
 
 
+def say_tested(plan: Plan) -> Iterator[str]:
+    """What the checker was asked of the plan: whether it holds of each run of the program, or what
+    the library answered otherwise than the rules."""
+    tested = plan.tested
+    if tested.is_of_each_run:
+        yield f"# {EACH_RUN_SENTENCE}"
+    lists = (ANSWERED, [tested.answered] if tested.answered else []), (TIMED, tested.timed)
+    for title, said in lists:
+        if said:
+            yield f"# {title}"
+            yield from (f"#   {it}" for it in said)
+
+
 def say_head(plan: Plan) -> list[str]:
     """The comments at the head of the plan."""
     mpi = [*say_mpi(plan), *say_own_code(plan)]
-    return [*say_recordings(plan), *say_words(plan), *mpi, *say_notes(plan)]
+    of_plan = [*say_recordings(plan), *say_tested(plan), *say_words(plan)]
+    return [*of_plan, *mpi, *say_notes(plan)]
 
 
 # --- the plan ---
@@ -247,15 +273,35 @@ def say_end(line: Line) -> str:
     return SUCCESS
 
 
-def write_answers(plan: Plan) -> str:
-    """How the calls of a plan ended, in the form of a report."""
-    answers, waiting = [], 0
+@dataclass(frozen=True)
+class Answered:
+    """How the call of a line ended: its number in its process, its status, and what it got."""
+
+    line: Line
+    number: int
+    status: str
+    value: Optional[Value]
+
+    def write(self, value: str) -> str:
+        """This as a line of a report, with the word of the value, if that isn't empty."""
+        said = f"{self.line.process.name} {self.number} {self.line.verb} {self.status}"
+        return f"{said} {value}" if value else said
+
+
+def list_answers(plan: Plan) -> Iterator[Answered]:
+    """How the calls of a plan ended, in the order of a report."""
     for process in plan.processes.all:
         is_over = False
         for number, line in enumerate(plan.draft.lines[process], 1):
             said = UNREACHED if is_over else say_end(line)
             is_over = is_over or said == WAITING
-            value = f" {line.value.word}" if said == SUCCESS and line.value else ""
-            answers.append(f"{process.name} {number} {line.verb} {said}{value}")
-        waiting += is_over
+            yield Answered(line, number, said, line.value if said == SUCCESS else None)
+
+
+def write_answers(plan: Plan) -> str:
+    """How the calls of a plan ended, in the form of a report."""
+    answers, waiting = [], 0
+    for it in list_answers(plan):
+        answers.append(it.write(it.value.word if it.value else ""))
+        waiting += it.status == WAITING
     return "".join(f"{it}\n" for it in [*answers, f"waiting {waiting}"])

@@ -24,6 +24,7 @@ from wire_up_tools.report.places import list_places, say_place
 from wire_up_tools.report.plan_page import write_plan
 from wire_up_tools.report.readers import list_told
 from wire_up_tools.report.runs import Outcome, Run, Runs
+from wire_up_tools.report.tried import write_tried
 
 # How many steps of an order are shown.
 STEPS = 2000
@@ -144,6 +145,7 @@ def write_detail(report: Report, number: int, detail: Detail) -> str:
         *write_late(report, one),
         write_fix(report, one),
         f'<div class="both">{figure}{write_runs(report, one, detail.runs)}</div>',
+        *write_tried(report.plan, one),
     ]
     parts += [write_pairs(report.plan, cause.group)] if cause.group.count > 1 else []
     parts += [write_alike(cause)] if len(cause.groups) > 1 else []

@@ -7,6 +7,7 @@ from typing import Optional
 from wire_up_tools import words
 from wire_up_tools.plan import Plan, list_below
 from wire_up_tools.report.phrases import count_of, list_names
+from wire_up_tools.report.tried import say_turned
 
 # What is left out and can hide no race: it changes nothing that others see; or it is a part of
 # MPI's order, and without it the plan is less ordered than the program.
@@ -23,15 +24,24 @@ CUT_OFF = re.compile(r"(\d+) (processes whose recordings end before|last lines o
 
 def find_reasons(plan: Plan) -> list[str]:
     """Why the verdict on a plan holds only in part; none where it holds whole."""
-    return find_in_head(plan.declared.head) if plan.is_recorded else []
+    if not plan.is_recorded:
+        return []
+    head = plan.declared.head
+    reasons = [say_answered(plan), say_parted(head), *say_turned(plan), *find_hidden(head)]
+    reasons.append(say_timed(plan))
+    return [it for it in reasons if it]
 
 
 def find_in_head(head: Sequence[str]) -> list[str]:
-    """Why a verdict holds only in part, by the head that the recorder wrote."""
+    """Why the verdict on a pattern holds only in part, by the head that the recorder wrote."""
+    return [it for it in [say_parted(head), *find_hidden(head)] if it]
+
+
+def find_hidden(head: Sequence[str]) -> list[str]:
+    """What a head says that can hide a race in one run."""
     cut_off, left_out = say_cut_off(head), say_left_out(head)
     ordered = list_below(head, words.MORE_ORDERED)
-    received = say_received(head)
-    reasons = [say_parted(head), cut_off, say_polled(head), *ordered, received, left_out]
+    reasons = [cut_off, say_polled(head), *ordered, say_received(head), left_out]
     return [it for it in reasons if it]
 
 
@@ -45,6 +55,28 @@ def find_both(head: Sequence[str]) -> Optional[str]:
     """The verdicts with and without the order of polls that a head has."""
     said = (it for it in head if it.startswith(words.VERDICTS))
     return next((it.removeprefix(words.VERDICTS) for it in said), None)
+
+
+def is_of_each_run(plan: Plan) -> bool:
+    """Whether the recorder says that each run of the program makes the calls of the plan, if it
+    goes by them alone."""
+    return plan.is_recorded and words.EACH_RUN_SENTENCE in plan.declared.head
+
+
+def say_answered(plan: Plan) -> Optional[str]:
+    """Which calls the library that was recorded answered otherwise than the rules."""
+    said = plan.list_in_head(words.ANSWERED)
+    if not said:
+        return None
+    return f"the verdict doesn't hold of this library's run, which answered otherwise {said[0]}"
+
+
+def say_timed(plan: Plan) -> Optional[str]:
+    """Which calls the library that was recorded is known to answer by which rank is fast."""
+    named = plan.list_in_head(words.TIMED)
+    if not named:
+        return None
+    return f"the reply can depend on which rank is fast: {list_names(named)}"
 
 
 def say_polled(head: Sequence[str]) -> Optional[str]:

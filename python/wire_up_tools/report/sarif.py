@@ -14,9 +14,12 @@ from wire_up_tools.report.causes import Cause
 from wire_up_tools.report.contents import Report
 from wire_up_tools.report.findings import Finding, Kind
 from wire_up_tools.report.language import name_kind
+from wire_up_tools.report.partial import is_of_each_run
 from wire_up_tools.report.patterns import PLAN_NAME
 from wire_up_tools.report.phrases import count_of
 from wire_up_tools.report.places import choose_place, list_frames, say_place
+from wire_up_tools.report.tried import find_tried
+from wire_up_tools.report.verdict import say_found
 
 SCHEMA = "https://json.schemastore.org/sarif-2.1.0.json"
 NOT_WAITING = "A get that doesn't wait"
@@ -65,14 +68,31 @@ def write_sarif(report: Report, folder: Optional[str]) -> str:
     """The whole text. `folder` is that of the files that places name, if it is known."""
     source = Source(folder, find_files(folder) if folder else {})
     results = [make_result(report, it, source) for it in report.causes]
-    return write_results(report.version, results, folder)
+    return write_results(report.version, results, folder, describe_verdict(report))
 
 
-def write_results(version: str, results: Sequence[Any], folder: Optional[str]) -> str:
-    """The whole text, by its results and the version of the checker."""
+def describe_verdict(report: Report) -> dict[str, Any]:
+    """What was found, why that holds only in part, and whether it is said to hold of each run of
+    the program."""
+    return {
+        "verdict": say_found(report),
+        "inPart": list(report.reasons),
+        "eachRun": not report.causes and is_of_each_run(report.plan),
+    }
+
+
+def write_results(
+    version: str,
+    results: Sequence[Any],
+    folder: Optional[str],
+    properties: Optional[Mapping[str, Any]] = None,
+) -> str:
+    """The whole text, by its results, the version of the checker, and what else is told."""
     rules = [{"id": it, "shortDescription": {"text": said}} for it, said in RULES.items()]
     driver = {"name": "wire_up", "version": version, "rules": rules}
     run: dict[str, Any] = {"tool": {"driver": driver}, "results": results}
+    if properties:
+        run["properties"] = properties
     if folder:
         run["originalUriBaseIds"] = {ROOT: {"uri": f"{make_absolute(folder)}/"}}
     said = {"version": "2.1.0", "$schema": SCHEMA, "runs": [run]}
@@ -108,14 +128,17 @@ def make_result(report: Report, cause: Cause, source: Source) -> dict[str, Any]:
         make_location(source, locate(report, it, source), say_call(report.plan, it))
         for it in one.calls
     ]
+    tried = find_tried(report.plan, one)
+    properties = {"tried": tried.word, "outcome": tried.said} if tried else None
     return {
         "ruleId": rule,
         "ruleIndex": list(RULES).index(rule),
-        "level": "warning",
+        "level": "error" if tried and tried.ends_otherwise else "warning",
         "message": make_message(f"{title} {meaning} Fix: {fix}"),
         "locations": in_program,
         "relatedLocations": in_plan,
         "partialFingerprints": {"group/v1": one.mistake},
+        **({"properties": properties} if properties else {}),
     }
 
 

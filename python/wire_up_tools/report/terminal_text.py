@@ -16,6 +16,7 @@ from wire_up_tools.report.places import say_place
 from wire_up_tools.report.readers import list_told
 from wire_up_tools.report.runs import Outcome, Run, Runs
 from wire_up_tools.report.text_drawing import draw_lines
+from wire_up_tools.report.tried import write_tried_text
 
 # How many characters a line has. Lines of calls and diagrams, which stand deeper than this, stay
 # whole.
@@ -70,6 +71,7 @@ def write_detail(report: Report, number: int, detail: Detail) -> list[str]:
         *draw_lines(detail.diagram),
         "",
         *write_runs(detail.runs),
+        *write_tried_text(report.plan, one),
     ]
 
 

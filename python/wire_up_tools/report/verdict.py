@@ -3,11 +3,13 @@ from wire_up_tools.report.causes import Cause
 from wire_up_tools.report.contents import Report
 from wire_up_tools.report.findings import MOST_GROUPS, Kind
 from wire_up_tools.report.library_page import say_otherwise
-from wire_up_tools.report.partial import hides_race, say_own_code
+from wire_up_tools.report.partial import hides_race, is_of_each_run, say_own_code
 from wire_up_tools.report.patterns import find_groups, say_counterexample
 from wire_up_tools.report.phrases import count_of
 from wire_up_tools.report.placements import Placed
 from wire_up_tools.report.runs import SECONDS, Outcome
+from wire_up_tools.report.tried import say_in_vain
+from wire_up_tools.words import EACH_RUN_SENTENCE
 
 # What helps where a counterexample is smaller than a job can be.
 SMALL = "If a group can't be that small in your job, say its least number, as in `many {} min N`."
@@ -93,8 +95,12 @@ def say_besides(report: Report) -> list[str]:
     """What is said below the verdict: of the pattern, of other placements, of a library, and of the
     program's own code."""
     of_library = [say_otherwise(report.judged)] if report.judged else []
+    is_of_runs = not report.causes and is_of_each_run(report.plan)
+    of_runs = [EACH_RUN_SENTENCE] if is_of_runs else []
     own = say_own_code(report.plan)
-    return [*say_pattern(report), *say_placements(report), *of_library, *([own] if own else [])]
+    of_code = [own] if own else []
+    said = [*of_runs, *say_pattern(report), *say_placements(report), *of_library, *of_code]
+    return [*said, *say_in_vain(report.plan)]
 
 
 def say_reasons(report: Report) -> str:

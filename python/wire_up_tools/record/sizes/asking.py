@@ -11,7 +11,8 @@ SIZES, FROM, AGAINST = "--sizes", "--from", "--against"
 NUMBERS = re.compile(r"[1-9]\d{0,6}(,[1-9]\d{0,6})*")
 # What stands in a command for the number of ranks, and the fewest that tell of loops.
 PLACE, FEWEST = "{}", 3
-NOT_WITH_SIZES = ("--answers", "--pattern")
+# The options that go with sizes.
+WITH_SIZES = ("-o", "--keep", "--no-mpi", "--strict", "--checker")
 NEEDS_NUMBERS = "--sizes needs numbers of ranks, such as 3,4,8, or recordings by --from"
 
 
@@ -78,9 +79,10 @@ def read_sizes_request(words: Sequence[str], options: Sequence[Option]) -> Sizes
     if not is_run and FROM not in before:
         raise Unusable(NEEDS_NUMBERS)
     found = SizesParser(options).read(words)
-    for it in NOT_WITH_SIZES:
-        if getattr(found, it[2:]) is not None:
-            raise Unusable(f"{it} doesn't go with {SIZES}")
+    for it in options:
+        is_given = getattr(found, it.name.lstrip("-").replace("-", "_"))
+        if it.name not in WITH_SIZES and is_given not in (None, False):
+            raise Unusable(f"{it.name} doesn't go with {SIZES}")
     if found.o is None:
         raise Unusable("-o PATTERN says where the pattern goes")
     asked = SizesRequest(

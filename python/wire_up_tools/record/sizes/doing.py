@@ -95,7 +95,7 @@ def run_sizes(asked: SizesRequest, choices: Choices, folder: str) -> Iterator[Ma
             recordings = os.path.abspath(os.path.join(room, str(size)))
             os.makedirs(recordings)
             command = [it.replace(PLACE, str(size)) for it in asked.command]
-            status = run(command, make_environment(libraries, recordings), STANDARD_ERROR)
+            status = run(command, make_environment(libraries, recordings), None, STANDARD_ERROR)
             if status:
                 how = f"with status {status}" if status > 0 else f"by signal {-status}"
                 raise Refused(f"the run with {size} ranks ended {how}: no pattern is made")

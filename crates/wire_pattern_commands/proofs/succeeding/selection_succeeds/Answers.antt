@@ -1,0 +1,11 @@
+use Rattle.std.proofs.Common.{subst}
+use Rattle.wire_sweep.specs.Shown.{selection_by}
+use Rattle.wire_pattern_waits.proofs.Told.{cast_is}
+use Rattle.wire_pattern_commands.specs.Succeeding.{IsCastTold}
+use Rattle.wire_pattern_commands.proofs.succeeding.selection_succeeds.Goals as goal
+
+pub returns-clause-ok : goal.returns-clause-ok
+returns-clause-ok c =
+    subst (λ cast. IsCastTold c.args.pattern.now cast c.in_ok-succeeds.succeeds)
+    (cast_is c.args.pattern.now (selection_by c.args.selection.now) c.in_ok-cast.cast c.in_ok-cast.ensures.few c.in_ok-cast.ensures.of c.in_ok-cast.ensures.alone)
+    c.in_ok-succeeds.ensures.ok

@@ -1,0 +1,48 @@
+-- Whether every call of the instances that are judged succeeds: is answered PMIX_SUCCESS, both with each process on a node
+-- of its own and with all on one.
+use Rattle.std.specs.Prelude.{◌≡◌, ◌&&◌, ℕ, Bool, true, false, [], Some, Ok, slice_get}
+use Rattle.std.specs.List.{list_all}
+use Rattle.wire_content.specs.Scripts.{Scripts}
+use Rattle.wire_content.specs.Placed.{placed}
+use Rattle.wire_script.specs.declared.Size.TheVariants.{OfVersion}
+use Rattle.wire_script.specs.Reads.{Reads}
+use Rattle.wire_core.specs.EndsAfter.{plain_ends}
+use Rattle.wire_pattern.specs.Pattern.{Pattern}
+use Rattle.wire_pattern.specs.Instances.{Cast, instance_text}
+use Rattle.wire_pattern_waits.specs.Waits.{alone}
+use Rattle.wire_sweep.specs.Selections.{Selection, selections}
+use Rattle.wire_commands.specs.Complete.{succeeds}
+
+-- every call of these scripts succeeds in their plain run
+abbrev pub all_succeed : Scripts → Bool
+all_succeed scripts = list_all (list_all succeeds) (plain_ends scripts).rows
+
+-- so it is on the nodes where the processes are, and with all processes on one node
+abbrev pub succeed_on_both : Scripts → Bool
+succeed_on_both scripts = all_succeed scripts && all_succeed (placed scripts [])
+
+-- the text of this instance reads as scripts of which this is so, or isn't
+pub record IsCastTold (p : Pattern) (cast : Cast) (succeeding : Bool) : Type 0 where
+  pub scripts : Scripts
+  pub reads : Reads OfVersion (instance_text p cast) (Ok scripts)
+  pub is : succeeding ≡ succeed_on_both scripts
+
+-- the same of a selection that is judged
+abbrev pub IsSelectionTold : Pattern → Selection → Bool → Type 0
+IsSelectionTold p selection succeeding = IsCastTold p (alone p selection) succeeding
+
+-- every call of the instance of each selection that is judged succeeds
+abbrev pub AllSucceed : Pattern → Type 0
+AllSucceed p = (number : ℕ) (selection : Selection) → slice_get (selections p) number ≡ Some selection → IsSelectionTold p selection true
+
+-- a call of one of them doesn't
+pub record SomeFails (p : Pattern) : Type 0 where
+  pub number : ℕ
+  pub selection : Selection
+  pub is : slice_get (selections p) number ≡ Some selection
+  pub fails : IsSelectionTold p selection false
+
+-- which of the two is so
+abbrev pub IsSuccessTold : Pattern → Bool → Type 0
+IsSuccessTold p true = AllSucceed p
+IsSuccessTold p false = SomeFails p

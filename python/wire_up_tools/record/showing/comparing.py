@@ -1,0 +1,108 @@
+"""Compares two runs: replies that differ, and where calls part."""
+from collections.abc import Iterator, Sequence
+from dataclasses import dataclass
+from typing import Optional
+
+from wire_up_tools.record.showing.held_runs import HeldRun
+from wire_up_tools.record.showing.naming import Target, mask
+from wire_up_tools.record.showing.traces import TracedCall
+
+NOTHING_MORE = "nothing more"
+NEVER_CAME = "didn't come"
+# How many calls are named after which two runs part.
+NAMED_NEXT = 3
+
+
+@dataclass(frozen=True)
+class Difference:
+    """What differs of a process between two runs: what it called, and the reply in each; or, of
+    where its calls part, what it called next in each."""
+
+    process: str
+    what: str
+    first: str
+    second: str
+
+
+def list_calls(run: HeldRun, process: str) -> Sequence[TracedCall]:
+    """The calls of a process that are compared."""
+    trace = run.traces.get(process)
+    return trace.compared if trace else ()
+
+
+def list_processes(runs: Sequence[HeldRun]) -> Sequence[str]:
+    """The processes of some runs."""
+    return list(dict.fromkeys(name for run in runs for name in run.traces))
+
+
+def compare_targets(runs: Sequence[HeldRun], targets: Sequence[Target]) -> list[Difference]:
+    """The named calls that were answered otherwise in two runs."""
+    found = []
+    for it in targets:
+        replies = [call.reply if call else NEVER_CAME for call in (run.find(it) for run in runs)]
+        if replies[0] != replies[1]:
+            found.append(Difference(it.process, f"{it.number} {it.verb}", *replies))
+    return found
+
+
+def compare_replies(
+    process: str, first: Sequence[TracedCall], second: Sequence[TracedCall]
+) -> Iterator[Difference]:
+    """The calls that a process made in both runs and that were answered otherwise."""
+    known = {it.keys[0]: it for it in second}
+    for it in first:
+        other = known.get(it.keys[0])
+        if other and other.reply != it.reply:
+            yield Difference(process, it.name, it.reply, other.reply)
+
+
+def find_parting(
+    process: str, first: Sequence[TracedCall], second: Sequence[TracedCall]
+) -> Optional[Difference]:
+    """Where the calls of a process part, if they do."""
+    names = [[it.name for it in calls] for calls in (first, second)]
+    if names[0] == names[1]:
+        return None
+    at = next((n for n, (one, other) in enumerate(zip(*names)) if one != other), None)
+    at = min(map(len, names)) if at is None else at
+    told = [", ".join(it[at:][:NAMED_NEXT]) or NOTHING_MORE for it in names]
+    return Difference(process, f"after {at} calls", *told)
+
+
+@dataclass(frozen=True)
+class Compared:
+    """What differs between two runs: the replies of the named calls, those of others, where calls
+    part, and whether the runs end and write otherwise."""
+
+    targets: Sequence[Difference]
+    others: Sequence[Difference]
+    partings: Sequence[Difference]
+    ends_otherwise: bool
+    writes_otherwise: bool
+
+    @property
+    def is_alike(self) -> bool:
+        """Whether the same calls were made and answered alike, with the same end."""
+        return not (self.targets or self.others or self.partings or self.ends_otherwise)
+
+
+def compare_output(runs: Sequence[HeldRun]) -> bool:
+    """Whether two runs wrote other lines, in whichever order, but for numbers of the run."""
+    texts = [mask(it.output.decode("utf-8", "replace")) for it in runs]
+    return sorted(texts[0].splitlines()) != sorted(texts[1].splitlines())
+
+
+def compare(runs: Sequence[HeldRun], targets: Sequence[Target]) -> Compared:
+    """Compares two runs in which some calls were named."""
+    others: list[Difference] = []
+    partings: list[Difference] = []
+    named = {(it.process, it.name, it.ordinal) for it in targets}
+    for process in list_processes(runs):
+        first, second = (list_calls(run, process) for run in runs)
+        left = [it for it in first if not any((process, *key) in named for key in it.keys)]
+        others += compare_replies(process, left, second)
+        parting = find_parting(process, first, second)
+        partings += [parting] if parting else []
+    ends_otherwise = runs[0].status != runs[1].status
+    found = compare_targets(runs, targets)
+    return Compared(found, others, partings, ends_otherwise, compare_output(runs))

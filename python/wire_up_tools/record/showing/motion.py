@@ -1,0 +1,72 @@
+"""Whether anything moves in a run: its recordings grow, or a process sleeps for a known time."""
+import os
+from dataclasses import dataclass, field
+
+from wire_up_tools.record.recordings import ENDING
+
+BLOCK = 1 << 16
+# Where the kernel says that a process sleeps for a known time.
+SLEEPING = ("hrtimer_nanosleep", "do_nanosleep", "common_nsleep")
+
+
+def count_switches(process: int) -> str:
+    """The line that counts how often a process has gone to sleep. Raises OSError."""
+    with open(f"/proc/{process}/status", encoding="ascii", errors="replace") as it:
+        return next((line for line in it if line.startswith("voluntary_ctxt_switches")), "")
+
+
+def is_in_sleep(process: int) -> bool:
+    """Whether a process stands in a call that sleeps a known time; not where nobody tells."""
+    try:
+        with open(f"/proc/{process}/wchan", encoding="ascii", errors="replace") as it:
+            return it.read().strip() in SLEEPING
+    except OSError:
+        return False
+
+
+@dataclass(eq=False)
+class Grown:
+    """How much of a recording is written, and how often its process had gone to sleep."""
+
+    process: int
+    end: int = 0
+    switches: str = ""
+
+    def has_grown(self, path: str) -> bool:
+        """Whether there is more of it than at the last look. Raises OSError."""
+        before = self.end
+        with open(path, "rb") as it:
+            it.seek(self.end)
+            while read := it.read(BLOCK):
+                zeros = read.find(b"\0")
+                self.end += len(read) if zeros < 0 else zeros
+                if zeros >= 0:
+                    break
+        return self.end > before
+
+    def has_slept(self) -> bool:
+        """Whether the process has stood in one sleep since the last look."""
+        try:
+            before, self.switches = self.switches, count_switches(self.process)
+        except OSError:
+            return False
+        return self.switches == before and is_in_sleep(self.process)
+
+
+@dataclass(eq=False)
+class Motion:
+    """Looks at the recordings of a folder, again and again."""
+
+    folder: str
+    seen: dict[str, Grown] = field(default_factory=dict)
+
+    def has_moved(self) -> bool:
+        """Whether something has moved since the last look. Raises OSError."""
+        moved = False
+        for name in os.listdir(self.folder):
+            if name.endswith(ENDING):
+                number = name.split(".")[-2]
+                of = self.seen.setdefault(name, Grown(int(number) if number.isdecimal() else 0))
+                moved = of.has_grown(os.path.join(self.folder, name)) or moved
+                moved = of.has_slept() or moved
+        return moved

@@ -1,0 +1,185 @@
+"""Makes both orders of two calls in a program, and says what came of it."""
+from collections.abc import Sequence
+from dataclasses import dataclass
+from typing import Optional
+
+from wire_up_tools.checker import Checker
+from wire_up_tools.plan import Call, Plan
+from wire_up_tools.record.showing.comparing import Compared, compare
+from wire_up_tools.record.showing.held_runs import HeldRun, Session, run_held
+from wire_up_tools.record.showing.holds import Holds, Until, Wait
+from wire_up_tools.record.showing.messages import Swap, find_swaps
+from wire_up_tools.record.showing.missing import Missed, find_missed
+from wire_up_tools.record.showing.naming import Naming, Target
+from wire_up_tools.record.showing.traces import Traces
+from wire_up_tools.run.turns import read_steps
+
+SHOWN, SHOWN_LATER, ALIKE, NOT_MADE = "shown", "shown-later", "alike", "not-made"
+FIRST, SECOND = "first", "second"
+# How many other orders of messages are tried for each order of two calls.
+MOST_SWAPS = 8
+# The statuses with which `witness` answers.
+ANSWERED = (0, 1)
+
+
+@dataclass(frozen=True, eq=False)
+class Race:
+    """Two calls of a plan, the line of `check` that says they race, or that they don't, and where
+    this stands among those that are tried, from 1."""
+
+    line: str
+    targets: Sequence[Target]
+    number: int
+
+    @property
+    def words(self) -> list[str]:
+        """Its two calls, as `witness` takes them."""
+        return [word for it in self.targets for word in (it.process, str(it.number))]
+
+
+@dataclass(frozen=True, eq=False)
+class Shown:
+    """What came of a race: a word for it, the two runs, why an order wasn't made, by which means
+    the orders were made besides one held call, and what differs."""
+
+    race: Race
+    word: str
+    runs: Sequence[HeldRun]
+    missed: Sequence[Optional[Missed]]
+    means: Sequence[str]
+    compared: Compared
+
+
+@dataclass(frozen=True)
+class Trial:
+    """What races are tried with: the session, the checker with the plan and its text, the names of
+    its calls, and what the processes did in the first run, if there was one."""
+
+    session: Session
+    checker: Optional[Checker]
+    plan: Plan
+    text: str
+    naming: Naming
+    traces: Traces
+
+
+@dataclass(frozen=True)
+class Made:
+    """A run for an order, why that wasn't made, and by which swap of messages it was."""
+
+    run: HeldRun
+    missed: Optional[Missed]
+    swap: Optional[Swap] = None
+
+
+def choose_end(trial: Trial, first: Target, second: Target) -> Until:
+    """How far the first call must be before the second may go: a fence of which the other's process
+    is a member is never over before."""
+    call = trial.plan.find_call(first.process, first.number)
+    meeting = trial.plan.meeting_of.get(call)
+    is_member = meeting is not None and second.process in meeting.members
+    return Until.HAS_COME if is_member else Until.IS_OVER
+
+
+def hold_order(trial: Trial, order: Sequence[Target], swap: Optional[Swap]) -> Holds:
+    """Holds by which the second of two calls waits for the first, and a send for another."""
+    first, second = order
+    waits = {2: [Wait(1, choose_end(trial, first, second))]}
+    if not swap:
+        return Holds([first, second], waits)
+    waits[3] = [Wait(4, Until.HAS_COME)]
+    return Holds([first, second, swap.held, swap.awaited], waits)
+
+
+def make_order(trial: Trial, order: Sequence[Target], name: str) -> Made:
+    """Runs the program so that the first of two calls is over before the second; if need be with
+    messages of any source in another order."""
+    run = run_held(trial.session, hold_order(trial, order, None), name)
+    missed = find_missed(run, *order)
+    if missed is None:
+        return Made(run, None)
+    swaps = find_swaps(trial.traces or run.traces)[:MOST_SWAPS]
+    for number, swap in enumerate(swaps, 1):
+        other = run_held(trial.session, hold_order(trial, order, swap), f"{name}-swap-{number}")
+        if find_missed(other, *order) is None:
+            return Made(other, None, swap)
+    return Made(run, missed)
+
+
+def find_word(missed: Sequence[Optional[Missed]], compared: Compared) -> str:
+    """The word for what came of a race."""
+    if any(missed):
+        return NOT_MADE
+    if compared.targets:
+        return SHOWN
+    return ALIKE if compared.is_alike else SHOWN_LATER
+
+
+def is_about(call: Call, about: str, owner: Optional[str]) -> bool:
+    """Whether a call is on a name; of a key, which has an owner, the racing calls are enough."""
+    return owner is None and call.about == about and call.verb not in ("put", "get", "get-now")
+
+
+def order_by_witness(trial: Trial, race: Race, which: str) -> Sequence[Target]:
+    """The calls on the name of a race, in the order of a run that shows it; none where `witness`
+    has no such run."""
+    if trial.checker is None:
+        return ()
+    answer = trial.checker.ask("witness", f"--{which}", *race.words, plan=trial.text.encode())
+    if answer.status not in ANSWERED or not answer.stdout:
+        return ()
+    racing = [trial.plan.find_call(it.process, it.number) for it in race.targets]
+    owner = next((it.target for it in racing if it.verb.startswith("get")), None)
+    about = next((it.about for it in racing if it.about), "")
+    found: dict[tuple[str, int], Target] = {}
+    for step in read_steps(trial.plan, answer.stdout.split()):
+        call = trial.plan.find_call(step.rank, step.number)
+        if trial.naming.is_of_program(call) and (call in racing or is_about(call, about, owner)):
+            found.setdefault((step.rank, step.number), trial.naming.find(step.rank, step.number))
+    return list(found.values())
+
+
+def run_by_witness(trial: Trial, order: Sequence[Target], name: str) -> HeldRun:
+    """A run in which each of some calls waits for the one before it."""
+    waits = {
+        n + 1: [Wait(n)]
+        for n in range(1, len(order))
+        if order[n].process != order[n - 1].process
+    }
+    return run_held(trial.session, Holds(order, waits), name)
+
+
+def try_witness(trial: Trial, race: Race) -> Optional[tuple[list[HeldRun], str]]:
+    """Two runs by the orders of the witness, and how they were made; None where there are none."""
+    orders = [order_by_witness(trial, race, it) for it in (FIRST, SECOND)]
+    if not all(orders):
+        return None
+    runs = [
+        run_by_witness(trial, order, f"race-{race.number}-witness-{which}")
+        for order, which in zip(orders, (FIRST, SECOND))
+    ]
+    late = sum(course.late is not None for run in runs for course in run.courses.values())
+    in_vain = f", {late} of them in vain" if late else ""
+    calls = f"{len(orders[0])} calls on the same name were held in the witness's orders{in_vain}"
+    return runs, f"{calls}: other calls may come in another order than by the two alone"
+
+
+def try_race(trial: Trial, race: Race) -> Shown:
+    """Makes both orders of a race, and says what came of it. Raises Refused, NotRun, OSError."""
+    orders = (race.targets, race.targets[::-1])
+    made = [
+        make_order(trial, order, f"race-{race.number}-{which}")
+        for order, which in zip(orders, (FIRST, SECOND))
+    ]
+    runs, missed = [it.run for it in made], [it.missed for it in made]
+    means = [f"with {it.swap}" for it in made if it.swap]
+    compared = compare(runs, race.targets)
+    word = find_word(missed, compared)
+    by_witness = try_witness(trial, race) if word == ALIKE else None
+    if by_witness:
+        others = compare(by_witness[0], race.targets)
+        means.append(by_witness[1])
+        if not others.is_alike:
+            runs, compared = by_witness[0], others
+            word = find_word(missed, compared)
+    return Shown(race, word, runs, missed, means, compared)

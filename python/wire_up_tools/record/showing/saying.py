@@ -1,0 +1,122 @@
+"""What is said of a race that was tried: lines, the head of a plan, and JSON."""
+from collections.abc import Iterator, Sequence
+from typing import Any, Optional
+
+from wire_up_tools.record.showing.comparing import NEVER_CAME, Compared, Difference
+from wire_up_tools.record.showing.held_runs import HeldRun
+from wire_up_tools.record.showing.naming import Target
+from wire_up_tools.record.showing.orders import FIRST, NOT_MADE, SECOND, Shown
+from wire_up_tools.words import TRIED_IN_HEAD
+
+# How many differences are named of each kind.
+NAMED = 4
+# The verbs of calls that ask for something end so.
+ASKING = ("lookup", "lookup-wait", "get-now", "get")
+ENDED_ALIKE = "and they end alike"
+
+
+def say_reply(run: HeldRun, target: Target) -> str:
+    """How a named call ended in a run."""
+    call = run.find(target)
+    return call.reply if call else NEVER_CAME
+
+
+def name_call(target: Target) -> str:
+    """A call with its verb."""
+    return f"{target.place} {target.verb}"
+
+
+def say_differences(word: str, found: Sequence[Difference]) -> Iterator[str]:
+    """Lines for some differences of one kind."""
+    for it in found[:NAMED]:
+        yield f"  {word} {it.process} {it.what}: {it.first} | {it.second}"
+    if len(found) > NAMED:
+        yield f"  {word} {len(found) - NAMED} more"
+
+
+def say_ending(shown: Shown) -> str:
+    """How the runs of a race ended, where something differs."""
+    compared = shown.compared
+    if compared.ends_otherwise:
+        endings = " | ".join(it.ending for it in shown.runs)
+        return f"ended {endings}"
+    if compared.others or compared.partings:
+        return f"ended {shown.runs[0].ending} both times"
+    wrote = ", but write otherwise" if compared.writes_otherwise else ""
+    return f"{ENDED_ALIKE}{wrote}"
+
+
+def say_shown(shown: Shown) -> Iterator[str]:
+    """The lines that say what came of a race."""
+    calls = ", ".join(map(name_call, shown.race.targets))
+    yield f"{shown.word} {shown.race.line}: {calls}"
+    for which, run, missed in zip((FIRST, SECOND), shown.runs, shown.missed):
+        replies = " | ".join(say_reply(run, it) for it in shown.race.targets)
+        yield f"  {which} {replies} ({run.ending}, {run.seconds:.1f} s)"
+        if missed:
+            yield f"    not made: {missed}"
+    yield from (f"  {it}" for it in shown.means)
+    if shown.word == NOT_MADE:
+        return
+    yield from say_differences("replies", shown.compared.others)
+    yield from say_differences("parts", shown.compared.partings)
+    if not shown.compared.is_alike:
+        yield f"  {say_ending(shown)}"
+
+
+def sum_up(shown: Shown) -> str:
+    """What came of a race, in one line."""
+    if shown.word == NOT_MADE:
+        return "; ".join(str(it) for it in dict.fromkeys(shown.missed) if it)
+    compared = shown.compared
+    asking = [it for it in compared.targets if it.what.endswith(ASKING)]
+    told = asking or compared.targets or [*compared.others, *compared.partings]
+    replies = [f"{it.process} {it.what}: {it.first} and {it.second}" for it in told[:1]]
+    if not compared.is_alike:
+        replies.append(say_ending(shown).replace(" | ", " and "))
+    return "; ".join(replies) or "both orders were made, and nothing differs"
+
+
+def say_in_head(shown: Shown, day: str) -> str:
+    """The line at the head of a plan that says what came of a race, on a day."""
+    return f"# {TRIED_IN_HEAD[shown.word]} on {day}: {shown.race.line}: {sum_up(shown)}"
+
+
+def list_differences(compared: Compared) -> dict[str, Any]:
+    """What differs, for JSON."""
+    kinds = {"targets": compared.targets, "replies": compared.others, "parts": compared.partings}
+    return {
+        kind: [
+            {"proc": it.process, "what": it.what, "first": it.first, "second": it.second}
+            for it in found
+        ]
+        for kind, found in kinds.items()
+    }
+
+
+def make_json_of_run(
+    run: HeldRun, order: Sequence[Target], missed: Optional[object], targets: Sequence[Target]
+) -> dict[str, Any]:
+    """A run, for JSON: `order` begins with the call that was to be first."""
+    return {
+        "first": order[0].place,
+        "replies": [say_reply(run, it) for it in targets],
+        "status": run.status,
+        "seconds": round(run.seconds, 1),
+        "missed": str(missed) if missed else None,
+    }
+
+
+def make_json(shown: Shown) -> dict[str, Any]:
+    """What came of a race, for JSON."""
+    targets = shown.race.targets
+    orders = (targets, targets[::-1])
+    runs = zip(shown.runs, orders, shown.missed)
+    return {
+        "finding": shown.race.line,
+        "word": shown.word,
+        "runs": [make_json_of_run(*it, targets) for it in runs],
+        "means": list(shown.means),
+        **list_differences(shown.compared),
+        "is_output_alike": not shown.compared.writes_otherwise,
+    }

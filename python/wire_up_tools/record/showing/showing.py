@@ -1,0 +1,201 @@
+"""Shows the races of a plan in the program, and turns its orders round, as is asked for."""
+import itertools
+from collections.abc import Sequence
+
+from wire_up_tools.failures import Refused
+from wire_up_tools.record.running import Stopped
+from wire_up_tools.record.showing.asking import Asked
+from wire_up_tools.record.showing.material import (
+    Material,
+    Result,
+    Say,
+    find_first,
+    make_trial,
+    tell_day,
+    write_result,
+)
+from wire_up_tools.record.showing.orders import Race, Trial, try_race
+from wire_up_tools.record.showing.pairs import ASK, WAIT, Pair, find_pairs
+from wire_up_tools.record.showing.saying import make_json, say_in_head, say_shown
+from wire_up_tools.record.showing.turning import (
+    GAVE_UP,
+    KEPT,
+    TURNED,
+    TURNED_ALIKE,
+    Turn,
+    group_pairs,
+    make_json_of_turn,
+    say_turn,
+    sum_up_turn,
+    turn_round,
+)
+from wire_up_tools.report.asking import Asker, stream_lines
+from wire_up_tools.report.causes import find_causes
+from wire_up_tools.report.findings import Finding, Kind, find_groups
+from wire_up_tools.words import (
+    ALL_PAIRS,
+    EACH_RUN,
+    EACH_RUN_SENTENCE,
+    TRIED_STOPPED,
+    TURNED_IN_VAIN,
+    TURNED_ROUND,
+)
+
+NO_RACE = "no race"
+# How many runs a race takes, without those for messages of any source or the witness's orders.
+RUNS = 2
+
+
+# --- races ---
+
+
+def find_line(trial: Trial, words: Sequence[str]) -> str:
+    """The line of `check` about two calls, or that they don't race."""
+    pair = " ".join(words)
+    other_way = " ".join([*words[2:], *words[:2]])
+    if trial.checker is None:
+        return f"calls {pair}"
+    for line in stream_lines(Asker(trial.checker, trial.text.encode()), "check"):
+        if line.startswith((f"race {pair} ", f"race {other_way} ")):
+            return line
+    return f"{NO_RACE} {pair}"
+
+
+def find_asked_race(trial: Trial, race: tuple[str, int, str, int]) -> Race:
+    """Two calls that were named. Raises Refused."""
+    targets = [trial.naming.find(race[0], race[1]), trial.naming.find(race[2], race[3])]
+    return Race(find_line(trial, [str(it) for it in race]), targets, 1)
+
+
+def make_race(trial: Trial, finding: Finding, number: int) -> Race:
+    """The race of a finding. Raises Refused."""
+    targets = [trial.naming.find(it.rank.name, it.number) for it in finding.calls]
+    owner = f"{finding.owner} " if finding.kind is Kind.KEY else ""
+    calls = f"{targets[0].place} {targets[1].place}"
+    line = f"race {calls} {finding.kind.value} {owner}{finding.about}"
+    return Race(line, targets, number)
+
+
+def find_races(trial: Trial, most: int, say: Say) -> list[Race]:
+    """The first race of each cause, at most so many. Raises Refused."""
+    if trial.checker is None:
+        raise Refused("--show needs the program `wire_up`, which finds the races: see --checker")
+    groups = find_groups(Asker(trial.checker, trial.text.encode()), trial.plan)
+    found = [it.first for it in find_causes(groups) if it.first.kind is not Kind.REWRITE]
+    if not found:
+        say("there is no race to show")
+    if len(found) > most:
+        say(f"{len(found)} races have causes of their own: {most} are tried (--most)")
+    return [make_race(trial, it, number) for number, it in enumerate(found[:most], 1)]
+
+
+def say_before(what: str, count: int, say: Say) -> None:
+    """Says what is done again, before it is."""
+    if count:
+        say(
+            f"{what}; the command runs {count} times more at least, and what it does to files and "
+            "to others, it does again"
+        )
+
+
+def try_races(trial: Trial, races: Sequence[Race], result: Result, say: Say) -> None:
+    """Tries races, one after another, and says what came of each. Raises Refused, NotRun,
+    OSError."""
+    say_before(f"races that are tried: {len(races)}", RUNS * len(races), say)
+    for race in races:
+        shown = try_race(trial, race)
+        result.head.append(say_in_head(shown, tell_day()))
+        result.races.append(make_json(shown))
+        for line in say_shown(shown):
+            say(line)
+
+
+# --- orders that are turned round ---
+
+
+def take_pairs(trial: Trial, asked: Asked, say: Say) -> tuple[list[Pair], bool]:
+    """The pairs that are turned round, at most so many; and whether these are all. Raises
+    Refused."""
+    pairs = find_pairs(trial, ASK)
+    found = list(itertools.islice(pairs, asked.most))
+    are_all = next(pairs, None) is None
+    if not are_all:
+        say(f"the plan orders more than {asked.most} pairs: {asked.most} are turned round (--most)")
+    if asked.turn_waits:
+        found += itertools.islice(
+            (it for it in find_pairs(trial, WAIT) if it[1].verb in WAIT), asked.turn_waits
+        )
+    return found, are_all
+
+
+def say_kept(trial: Trial, kept: int, count: int, are_all: bool, say: Say) -> str:
+    """Says how many of so many orders were kept, and answers the line for the head. Where these are
+    all, and each run makes the calls of the plan, it says so more strongly."""
+    is_whole = are_all and kept == count
+    of_all = f", {ALL_PAIRS}" if is_whole else ""
+    if is_whole and EACH_RUN_SENTENCE in trial.plan.declared.head:
+        say(f"{EACH_RUN}; and it kept each of the {count} orders that could change them")
+    else:
+        say(f"{kept} of {count} orders were turned round in vain: the program keeps them")
+    return f"# {TURNED_IN_VAIN} {tell_day()}: {kept} of {count} pairs{of_all}"
+
+
+def say_turns(trial: Trial, turns: Sequence[Turn], are_all: bool, say: Say) -> list[str]:
+    """Says what came of all pairs, and answers the lines for the head. `are_all`: the plan orders
+    no other pairs."""
+    kept = sum(it.word == KEPT for it in turns)
+    alarms = [it for it in turns if it.word == TURNED]
+    others = [it for it in turns if it.word in (TURNED_ALIKE, GAVE_UP)]
+    head = [f"# {TURNED_ROUND} {tell_day()}: {sum_up_turn(it)}" for it in alarms]
+    head += [f"# {TURNED_ROUND} {tell_day()}, {it.word}: {sum_up_turn(it)}" for it in others]
+    if kept:
+        head.append(say_kept(trial, kept, len(turns), are_all, say))
+    if alarms:
+        say(
+            f"{len(alarms)} of {len(turns)} orders aren't imposed, and calls are answered "
+            "otherwise: the verdict over this plan doesn't hold for every run"
+        )
+    return head
+
+
+def turn_all(trial: Trial, first: Material, asked: Asked, result: Result, say: Say) -> None:
+    """Turns the orders of a plan round, and says what came of each. Raises Refused, NotRun,
+    OSError."""
+    pairs, are_all = take_pairs(trial, asked, say)
+    groups, turns = list(group_pairs(pairs)), list[Turn]()
+    if not pairs:
+        say("the plan orders no pair of calls that could be answered otherwise")
+        return
+    say_before(f"orders that are turned round: {len(pairs)}", len(groups), say)
+    reference = find_first(first, trial)
+    try:
+        for number, (held, others) in enumerate(groups, 1):
+            for turn in turn_round(trial, reference, held, others, f"turn-{number}"):
+                turns.append(turn)
+                result.turned.append(make_json_of_turn(turn))
+                for line in say_turn(turn):
+                    say(line)
+    finally:
+        result.head += say_turns(trial, turns, are_all and len(turns) == len(pairs), say)
+
+
+# --- all ---
+
+
+def show(asked: Asked, of: Material, say: Say) -> None:
+    """Shows what is asked for, and writes the plan again with what came of it. Where a signal ends
+    it, the plan has what was done until then. Raises Refused, NotRun, Stopped, OSError."""
+    result = Result()
+    try:
+        trial = make_trial(asked, of)
+        if asked.race:
+            try_races(trial, [find_asked_race(trial, asked.race)], result, say)
+        if asked.does_show:
+            try_races(trial, find_races(trial, asked.most, say), result, say)
+        if asked.does_turn:
+            turn_all(trial, of, asked, result, say)
+    except Stopped as why:
+        result.head.append(f"# {TRIED_STOPPED} {tell_day()} by signal {why.number}")
+        raise
+    finally:
+        write_result(asked, of, result)

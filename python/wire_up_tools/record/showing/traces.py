@@ -1,0 +1,144 @@
+"""Recordings as traces: what each process called and how that ended, whatever the namespace, the
+numbers, the times and the places. Traces of several runs can be compared."""
+import os
+import re
+from collections import Counter
+from collections.abc import Mapping, Sequence
+from dataclasses import dataclass, field
+from typing import Optional
+
+from wire_up_tools.record.processes import ONLY_JOB
+from wire_up_tools.record.recordings import ENDING, RECORD
+from wire_up_tools.record.showing.naming import MASK, OF_PMIX, mask, name_call
+from wire_up_tools.record.writing import STATUSES, WAITING
+
+# How many lines a recording has before its records.
+HEAD_LINES = 4
+# The keys by which processes of Open MPI find each other, as messages come, and those that the
+# library of PMIx has of the job, such as its folder: not the program's.
+OF_LIBRARY = re.compile(r"(?:get \S+|put) (?:[a-z]+\.\w+\.\d+\.\d+$|mpi\.|pmix\.|OMPI|PMIX_)")
+# A printable character that a word of a recording can't have.
+ESCAPED = re.compile(r"%([2-7][0-9A-E])")
+# The namespace of a job of PRRTE has the number of a process.
+OF_PRRTE = re.compile(r"prterun-[^\s:]+?-\d+@\d+")
+
+
+@dataclass(eq=False)
+class TracedCall:
+    """A call of a trace: its names, and the how-manieth of each it is; its text, when it began, in
+    seconds since 1970, the number of its place, and how and when it ended."""
+
+    keys: Sequence[tuple[str, int]]
+    text: str
+    began: float
+    place: Optional[str]
+    end: Optional[str] = None
+    ended: Optional[float] = None
+
+    @property
+    def name(self) -> str:
+        """All its names."""
+        return ", ".join(name for name, _ in self.keys)
+
+    @property
+    def is_of_pmix(self) -> bool:
+        """Whether it is a call of PMIx."""
+        return self.name.partition(" ")[0] in OF_PMIX
+
+    @property
+    def is_compared(self) -> bool:
+        """Whether it is a call of PMIx that the program decides on."""
+        return self.is_of_pmix and not OF_LIBRARY.match(self.name)
+
+    @property
+    def reply(self) -> str:
+        """How it ended, in words, without what differs between runs anyhow."""
+        if self.end is None:
+            return WAITING
+        status, _, rest = self.end.partition(" ")
+        name = STATUSES.get(int(status), f"PMIX_STATUS_{status}")
+        value = rest.partition("=")[2] if self.name.startswith("lookup") else rest
+        said = f"{name} {value.removeprefix('text:')}".strip()
+        plain = ESCAPED.sub(lambda it: chr(int(it[1], 16)), said)
+        return mask(OF_PRRTE.sub(MASK, plain))
+
+
+@dataclass(eq=False)
+class Trace:
+    """What one process did: its job and rank, when it began, in seconds since 1970, its calls, and
+    whether it ended them all."""
+
+    namespace: str
+    rank: int
+    began: float
+    calls: list[TracedCall] = field(default_factory=list)
+    has_finalized: bool = False
+
+    @property
+    def compared(self) -> Sequence[TracedCall]:
+        """Its calls that are compared."""
+        return [it for it in self.calls if it.is_compared]
+
+    def find(self, key: tuple[str, int]) -> Optional[TracedCall]:
+        """The call with this name and number; None where it made none."""
+        return next((it for it in self.calls if key in it.keys), None)
+
+
+Traces = Mapping[str, Trace]
+
+
+class Reader:
+    """Reads the records of one trace."""
+
+    def __init__(self, trace: Trace) -> None:
+        self.trace = trace
+        self.counts: Counter[str] = Counter()
+        self.open: dict[str, TracedCall] = {}
+
+    def take(self, line: str) -> None:
+        """Takes a record, with the end of its line."""
+        read = RECORD.fullmatch(line)
+        if not read:
+            return
+        sign, number, _, place, text = read.groups()
+        when = self.trace.began + float(line.split(" ", 4)[3])
+        if sign == "+":
+            names = name_call(text)
+            self.counts.update(names)
+            call = TracedCall([(it, self.counts[it]) for it in names], text, when, place)
+            self.trace.calls.append(call)
+            self.open[number] = call
+        elif sign == "-" and number in self.open:
+            ended = self.open.pop(number)
+            ended.end, ended.ended = text, when
+        elif text == "finalize":
+            self.trace.has_finalized = True
+
+
+def read_trace(path: str) -> Optional[Trace]:
+    """Reads a recording as a trace, up to the zeros and without a cut line; None where it has no
+    head yet. Raises OSError."""
+    with open(path, "rb") as it:
+        data = it.read().rstrip(b"\0").decode("ascii", "replace")
+    lines = data[: data.rfind("\n") + 1].splitlines(keepends=True)
+    if len(lines) < HEAD_LINES:
+        return None
+    _, namespace, rank, *_ = lines[1].split()
+    trace = Trace(namespace, int(rank), float(lines[2].split()[1]))
+    reader = Reader(trace)
+    for line in lines[HEAD_LINES:]:
+        reader.take(line)
+    return trace
+
+
+def read_traces(folder: str) -> Traces:
+    """The traces of a folder, by the names that a plan gives to processes. Raises OSError."""
+    paths = [os.path.join(folder, it) for it in sorted(os.listdir(folder)) if it.endswith(ENDING)]
+    found = [it for it in map(read_trace, paths) if it]
+    begun: dict[str, float] = {}
+    for it in found:
+        begun[it.namespace] = min(it.began, begun.get(it.namespace, it.began))
+    jobs = sorted(begun, key=lambda name: (begun[name], name))
+    names = {it: f"{ONLY_JOB}{n}" if len(jobs) > 1 else ONLY_JOB for n, it in enumerate(jobs)}
+    in_order = sorted(found, key=lambda it: (jobs.index(it.namespace), it.rank))
+    return {f"{names[it.namespace]}:{it.rank}": it for it in in_order}

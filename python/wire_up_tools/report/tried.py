@@ -1,0 +1,104 @@
+"""What the head of a recorded plan says of races and orders that were tried in the program."""
+import re
+from collections.abc import Iterator
+from dataclasses import dataclass
+from typing import Optional
+
+from wire_up_tools import words
+from wire_up_tools.plan import Plan
+from wire_up_tools.report.findings import Finding
+from wire_up_tools.report.markup import escape
+from wire_up_tools.report.phrases import count_of
+
+TITLES = {
+    "shown": "Shown in your program",
+    "shown-later": "Shown in your program, in later calls",
+    "alike": "Not seen in your program",
+    "not-made": "Not made in your program",
+}
+WORDS = {start: word for word, start in words.TRIED_IN_HEAD.items()}
+STARTS = "|".join(map(re.escape, WORDS))
+CALLS = r"race (\S+ \d+) (\S+ \d+) (?:name \S+|key \S+ \S+)"
+TRIED = re.compile(rf"({STARTS}) on (\S+): {CALLS}: (.+)")
+IN_VAIN = re.compile(
+    rf"{words.TURNED_IN_VAIN} (\S+): (\d+) of (\d+) pairs(, {words.ALL_PAIRS})?"
+)
+TURNED = re.compile(rf"{words.TURNED_ROUND} [\d-]+: (.+)")
+# How the end of a race is told that ended otherwise in both orders.
+ENDED_OTHERWISE = re.compile(r"; ended .+ and .+$")
+
+
+@dataclass(frozen=True)
+class Tried:
+    """A race that was tried: the word for what came of it, on which day, and what that was."""
+
+    word: str
+    day: str
+    said: str
+
+    @property
+    def title(self) -> str:
+        """What came of it, in a few words."""
+        return TITLES[self.word]
+
+    @property
+    def ends_otherwise(self) -> bool:
+        """Whether the program ends otherwise in one of the orders."""
+        return self.word == "shown" and ENDED_OTHERWISE.search(self.said) is not None
+
+
+def find_tried(plan: Plan, finding: Finding) -> Optional[Tried]:
+    """What came of a finding that was tried; None where it wasn't."""
+    names = {it.name for it in finding.calls}
+    for it in map(TRIED.fullmatch, plan.declared.head if plan.is_recorded else ()):
+        if it and {it[3], it[4]} == names:
+            return Tried(WORDS[it[1]], it[2], it[5])
+    return None
+
+
+def find_command(plan: Plan) -> Optional[str]:
+    """The command that tries it again."""
+    said = (it for it in plan.declared.head if it.startswith(words.TRIED_BY))
+    return next((it.removeprefix(words.TRIED_BY) for it in said), None)
+
+
+def find_turned(plan: Plan) -> Iterator[str]:
+    """The orders of the plan that aren't imposed, so that its verdict doesn't hold."""
+    found = map(TURNED.fullmatch, plan.declared.head if plan.is_recorded else ())
+    return (it[1] for it in found if it)
+
+
+def say_turned(plan: Plan) -> list[str]:
+    """Why a verdict holds only in part, by orders that were turned round; one line for each."""
+    return [f"an order that the plan has isn't imposed: {it}" for it in find_turned(plan)]
+
+
+def say_in_vain(plan: Plan) -> list[str]:
+    """How many orders were turned round in vain; nothing where none were."""
+    found = map(IN_VAIN.fullmatch, plan.declared.head if plan.is_recorded else ())
+    return [
+        f"{count_of(int(it[2]), 'order')} of {it[3]} that were turned round in the program on "
+        f"{it[1]} held: the later call never came first."
+        + f" These are {words.ALL_PAIRS}." * bool(it[4])
+        for it in found
+        if it
+    ]
+
+
+def write_tried(plan: Plan, finding: Finding) -> list[str]:
+    """What came of a finding in the program, for a page; nothing where it wasn't tried."""
+    tried, command = find_tried(plan, finding), find_command(plan)
+    if tried is None:
+        return []
+    again = f"<p>This does it again: <code>{escape(command)}</code></p>" if command else ""
+    said = f"<p>{escape(tried.day)}: {escape(tried.said)}</p>{again}"
+    return [f'<div class="runs"><h3>{tried.title}</h3>{said}</div>']
+
+
+def write_tried_text(plan: Plan, finding: Finding) -> list[str]:
+    """The same, for a terminal."""
+    tried, command = find_tried(plan, finding), find_command(plan)
+    if tried is None:
+        return []
+    again = [f"   This does it again: {command}"] if command else []
+    return [f"   {tried.title} on {tried.day}: {tried.said}", *again]

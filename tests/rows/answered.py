@@ -1,0 +1,234 @@
+"""Patterns in which nothing is found: whether every call is answered, with any number of ranks.
+
+In most of those that wait a circle has to go down one turn in each of several loops. So it needs as
+many ranks of the group as there are loops, and one more: no size is large enough to try.
+"""
+from typing import NamedTuple, Optional
+
+# That no call waits, whatever the number of ranks.
+ANSWERED = b"every call is answered for every number of ranks"
+
+
+class Told(NamedTuple):
+    """A pattern, its lines with ` / ` between them; what is written behind the first line; the
+    status with `--complete`; and the first size of all groups with which a call waits, if any does
+    up to SIZES. A group that has a `min` has at least that."""
+
+    name: str
+    lines: str
+    told: bytes
+    status: int
+    first: Optional[int] = None
+
+
+SIZES = 6
+
+
+def asks(caller: str, other: str) -> str:
+    """The loop of a single role that publishes a name for each worker, and waits for another."""
+    return f"one {caller} / for w / publish {caller}[each] 1 / lookup-wait {other}[each] / end"
+
+
+# Each single role waits for the next of them, and the last for the workers, each of which publishes
+# its name once it has been served by the first.
+WORKERS = "for w / lookup-wait a[each] / end / publish z[self] 1"
+A_Z, A_B, B_Z, B_C, C_Z = (asks(*it) for it in ("az", "ab", "bz", "bc", "cz"))
+C_D, D_Z, D_E, E_Z = (asks(*it) for it in ("cd", "dz", "de", "ez"))
+# By keys in place of names.
+BY_KEYS = " / ".join(
+    f"one {it} / for w / put global {it}[each] 1 / commit / get {of} {of}[each] / end"
+    for it, of in (("a", "b"), ("b", "c"))
+)
+BY_KEYS += " / one c / for w / put global c[each] 1 / commit / get each z / end"
+# Each publishes for all workers before it waits.
+FIRST_ALL = " / ".join(
+    f"one {it} / for w / publish {it}[each] 1 / end / for w / lookup-wait {of}[each] / end"
+    for it, of in (("a", "b"), ("b", "c"), ("c", "z"))
+)
+SERVERS = "many server / for client / lookup-wait ask[each,self] / publish reply[self,each] 1 / end"
+ASK, REPLY = "publish ask[self,each] 1", "lookup-wait reply[each,self]"
+CARD = "put global card v / commit"
+MEET = "fence self,each"
+HEAD = "pattern 1 / job app"
+EVERY = ANSWERED + b"\n"
+
+
+def waits(*lines: str) -> bytes:
+    """A line for each call at which something waits."""
+    return b"".join(b"waits %s\n" % it.encode() for it in lines)
+
+
+FOUR_WAIT = waits(*(f"{it} 2 lookup-wait" for it in "abc"), "w 1 lookup-wait")
+ROWS = [
+    Told(
+        "two loops: it waits with three ranks",
+        f"{HEAD} / {A_B} / {B_Z} / many w / {WORKERS}",
+        waits("a 2 lookup-wait", "b 2 lookup-wait", "w 1 lookup-wait"),
+        1,
+        3,
+    ),
+    Told("three: with four", f"{HEAD} / {A_B} / {B_C} / {C_Z} / many w / {WORKERS}", b"", 1, 4),
+    Told(
+        "four: with five",
+        f"{HEAD} / {A_B} / {B_C} / {C_D} / {D_Z} / many w / {WORKERS}",
+        b"",
+        1,
+        5,
+    ),
+    Told(
+        "five: with six",
+        f"{HEAD} / {A_B} / {B_C} / {C_D} / {D_E} / {E_Z} / many w / {WORKERS}",
+        b"",
+        1,
+        6,
+    ),
+    Told(
+        "one loop",
+        f"{HEAD} / {A_Z} / many w / {WORKERS}",
+        waits("a 2 lookup-wait", "w 1 lookup-wait"),
+        1,
+        2,
+    ),
+    Told(
+        "three loops, at least four ranks",
+        f"{HEAD} / {A_B} / {B_C} / {C_Z} / many w min 4 / {WORKERS}",
+        b"at least 4 w\n" + FOUR_WAIT,
+        1,
+        4,
+    ),
+    Told(
+        "three loops, the group in another job",
+        f"{HEAD} / {A_B} / {B_C} / {C_Z} / job work / many w / {WORKERS}",
+        b"",
+        1,
+        4,
+    ),
+    Told(
+        "three loops, by keys",
+        f"{HEAD} / {BY_KEYS} / many w / for w / get a a[each] / end / put global z 1 / commit",
+        b"",
+        1,
+        4,
+    ),
+    Told(
+        "three loops, and one of some ranks that only reads",
+        f"{HEAD} / {A_B} / {B_C} / {C_Z} / many w / {CARD} / fence w collect"
+        f" / for some w / get-now each card / end / {WORKERS}",
+        b"",
+        1,
+        4,
+    ),
+    Told(
+        "three loops, each of which publishes all first",
+        f"{HEAD} / {FIRST_ALL} / many w / {WORKERS}",
+        EVERY,
+        0,
+    ),
+    Told(
+        "each waits for all cards, from the rank behind it on",
+        f"{HEAD} / many w / {CARD} / for w cyclic / get each card / end",
+        EVERY,
+        0,
+    ),
+    Told(
+        "clients ask all servers, and then wait for all replies",
+        f"{HEAD} / {SERVERS} / many client / for server / {ASK} / end / for server / {REPLY} / end",
+        EVERY,
+        0,
+    ),
+    Told(
+        "clients ask one server after the other",
+        f"{HEAD} / {SERVERS} / many client / for server / {ASK} / {REPLY} / end",
+        EVERY,
+        0,
+    ),
+    Told(
+        "cyclic over another group is rank order",
+        f"{HEAD} / {SERVERS} / many client / for server cyclic / {ASK} / {REPLY} / end",
+        EVERY,
+        0,
+    ),
+    Told(
+        "a server waits for the question, and a client for the reply before it asks",
+        f"{HEAD} / {SERVERS} / many client / for server / {REPLY} / {ASK} / end",
+        waits("server 1 lookup-wait", "client 1 lookup-wait"),
+        1,
+        1,
+    ),
+    Told(
+        "groups with a min exchange cards",
+        f"{HEAD} / many v min 5 / {CARD} / for w / get each card / end"
+        f" / many w min 2 / {CARD} / for v / get each card / end",
+        b"at least 5 v\nat least 2 w\n" + EVERY,
+        0,
+    ),
+    Told(
+        "nobody publishes",
+        f"{HEAD} / many w / lookup-wait port",
+        waits("w 1 lookup-wait"),
+        1,
+        1,
+    ),
+    Told("fences in pairs, in rank order", f"{HEAD} / many w / for w / {MEET} / end", EVERY, 0),
+    Told(
+        "fences in pairs, from the rank behind on: three wait in a ring",
+        f"{HEAD} / many w / for w cyclic / {MEET} / end",
+        waits("w 1 fence"),
+        1,
+        3,
+    ),
+    Told(
+        "a root meets each worker, and then all",
+        f"{HEAD} / one root / for w / {MEET} / end / fence all / many w / fence root,self"
+        " / fence all",
+        EVERY,
+        0,
+    ),
+    Told(
+        "wait for the cards of some, then meet",
+        f"{HEAD} / many w / {CARD} / for some w / get each card / end / fence all",
+        EVERY,
+        0,
+    ),
+    Told(
+        "the roots of two jobs meet by names",
+        "pattern 1 / job left / one first / publish x 1 / lookup-wait y / fence all / many v"
+        " / fence all / lookup-wait x / job right / one other / publish y 1 / lookup-wait x"
+        " / fence all / many w / fence all / lookup-wait y",
+        EVERY,
+        0,
+    ),
+    Told(
+        "two groups meet pair by pair, with names in between: it isn't known that no call waits",
+        f"{HEAD} / many v / publish n[self] 1 / for w / {MEET} / lookup-wait m[each,self] / {MEET}"
+        f" / lookup-wait o[each] / end / for v / {MEET} / {MEET} / lookup-wait n[each] / end"
+        f" / many w / for v / publish m[self,each] 1 / {MEET} / {MEET} / end / publish o[self] 1",
+        b"",
+        1,
+    ),
+    Told(
+        "a name that is taken away at the end: it isn't known",
+        f"{HEAD} / one root / publish port 1 / fence all / fence all / unpublish port"
+        " / many w / fence all / lookup-wait port / fence all",
+        b"",
+        1,
+    ),
+    Told(
+        "a single role has no min",
+        f"{HEAD} / one root / publish port 1 / many w min 1 / lookup-wait port",
+        b"at least 1 w\n" + EVERY,
+        0,
+    ),
+    Told(
+        "each call is answered, and one fails",
+        f"{HEAD} / many w / publish port[self] 1 / lookup nothing",
+        EVERY,
+        1,
+    ),
+    Told(
+        "a get fails on its owner's node alone",
+        f"{HEAD} / one root / put remote k v / commit / many w / get root k",
+        EVERY,
+        1,
+    ),
+]

@@ -1,0 +1,327 @@
+"""Tests that races are shown in programs that run, where MPI and PMIx are there, and a `wire_up`.
+
+Where they aren't, all of this is skipped, and says what lacks.
+"""
+import contextlib
+import glob
+import json
+import os
+import re
+import shutil
+import signal
+import socket
+import subprocess
+import sys
+import tempfile
+import threading
+import time
+import unittest
+from typing import Optional
+
+from live import ENVIRONMENT, LiveTest, Ran, mpirun
+from live_runs import read_words
+from support import TOP
+from tapes import COMMAND, PATIENCE, read_file, run_recorder
+from wire_up_tools.record.running import find_libraries, make_environment
+
+COMPILED_WITH_LIBRARY = {"hidden": "liblookups.so"}
+# How long a hold lasts where nothing moves, in seconds: longer than on a slow machine a process
+# takes between two calls; and than a program polls.
+HOLD, LONG_HOLD = "4", "30"
+SAID = re.compile(r"^wire_up-record: ", re.MULTILINE)
+# How long a signal may take to end all, in seconds.
+SOON = 20
+
+
+def find_processes(path: str) -> list[int]:
+    """The processes that run a program."""
+    found = []
+    for it in glob.glob("/proc/[0-9]*"):
+        with contextlib.suppress(OSError):
+            number = int(os.path.basename(it))
+            found += [number] if path in read_words(number) else []
+    return found
+
+
+class ShowingCase(LiveTest):
+    """Tests with programs that run again, of which nothing stays."""
+
+    @classmethod
+    def setUpClass(cls) -> None:
+        super().setUpClass()
+        if cls.program is None:
+            raise unittest.SkipTest("no race is shown: there is no wire_up")
+
+    def words(self, processes: int, name: str, *words: str) -> list[str]:
+        """The words that start a program."""
+        if name in COMPILED_WITH_LIBRARY:
+            self.compile(COMPILED_WITH_LIBRARY[name])
+        return mpirun(processes, self.compile(name), *words)
+
+    def options(self, hold: str = HOLD) -> list[str]:
+        """The options that all runs have."""
+        assert self.program is not None
+        return ["--checker", self.program, "--hold", hold]
+
+    def show(self, task: list[str], words: list[str], hold: str = HOLD) -> Ran:
+        """Runs the recorder. Nothing is left beside the plan."""
+        options = self.options(hold)
+        ran = run_recorder("-o", self.plan, *options, *task, *words, environment=ENVIRONMENT)
+        self.assertEqual([], glob.glob(os.path.join(self.room, "wire_up-record-*")))
+        return ran
+
+    def find_words(self, ran: Ran) -> list[str]:
+        """What was said of each race or pair, by its first word."""
+        lines = [it for it in SAID.sub("", ran.stderr).splitlines() if " app:" in it]
+        known = ("shown", "shown-later", "alike", "not-made", "kept", "turned", "turned-alike")
+        return [word for word in (it.split(" ")[0] for it in lines) if word in known]
+
+
+class ShownTest(ShowingCase):
+    """Races that are shown by programs that other tests record too, and by some made for it."""
+
+    def hold(
+        self, expected: list[str], said: str, processes: int, name: str, *words: str
+    ) -> str:
+        """Fails where a program's races don't have these words, or nothing of the form is said.
+        Answers what was said."""
+        ran = self.show(["--show"], self.words(processes, name, *words))
+        self.assertEqual(expected, self.find_words(ran), ran.stderr)
+        self.assertRegex(ran.stderr, said)
+        self.assertEqual(0, ran.returncode)
+        return ran.stderr
+
+    def test_messages_of_any_source(self) -> None:
+        for word in ("wild1", "wild2"):
+            self.hold(["shown"], "PMIX_ERR_NOT_FOUND", 3, "cases", word)
+
+    def test_a_collective_of_nothing(self) -> None:
+        self.hold(["shown"], "and they end alike", 2, "cases", "scattered")
+
+    def test_a_program_that_stops(self) -> None:
+        said = self.hold(["shown"], r"ended status 0 \| status \d+", 2, "early")
+        self.assertIn("it does again", said.splitlines()[0])
+        head = read_file(self.plan)
+        self.assertRegex(
+            head,
+            r"(?m)^# Shown in this program on \d{4}-\d\d-\d\d: race app:0 \d+ app:1 \d+ name "
+            r"solver: app:1 \d+ lookup: PMIX_SUCCESS \S+ and PMIX_ERR_NOT_FOUND; "
+            r"ended status 0 and status \d",
+        )
+        self.assertRegex(head, r"(?m)^# Tried by: wire_up-record --of \S+ --show mpirun ")
+
+    def test_other_ways_to_call(self) -> None:
+        for words in (("unseen", "pmpi"), ("unseen", "barrier"), ("unseen", "looked-up")):
+            self.hold(["shown"], "and they end alike", 2, *words)
+
+    def test_fortran(self) -> None:
+        for word in ("message", "barrier"):
+            self.hold(["shown"], "and they end alike", 2, "mixed", word)
+
+    def test_calls_that_do_not_block(self) -> None:
+        self.hold(["shown"], "and they end alike", 2, "direct", "last")
+
+    def test_a_request_that_is_begun_again(self) -> None:
+        self.hold(["shown"], "and they end alike", 2, "handles", "restarted")
+
+    def test_a_library_that_calls(self) -> None:
+        self.hold(["shown"], "and they end alike", 2, "hidden", "behind")
+
+    def test_another_branch_and_another_end(self) -> None:
+        said = self.hold(["shown"], r"ended status 0 \| status 139", 2, "shown", "branch")
+        self.assertRegex(said, r"parts app:1 after \d+ calls: fence \| publish own")
+        # The launcher of Open MPI 5 can die of an abort itself.
+        ended = r"ended status 0 \| (status 7|signal \d+)"
+        self.hold(["shown"], ended, 2, "shown", "abort")
+
+    def test_mpi_goes_on_while_a_call_is_held(self) -> None:
+        self.hold(["shown"], "and they end alike", 2, "shown", "bigsend")
+
+    def test_an_order_that_is_not_recorded(self) -> None:
+        flag = os.path.join(self.room, "flag")
+        said = r"app:1 had left MPI_Barrier for \d+\.\d s: ordered by what isn't recorded"
+        self.hold(["not-made"], said, 2, "shown", "file", flag)
+
+    def test_the_orders_of_the_witness(self) -> None:
+        self.hold(["shown", "shown-later"], "witness's orders", 3, "shown", "third")
+        three = ["shown", "shown-later", "shown"]
+        self.hold(three, "witness's orders", 3, "shown", "unpublished")
+
+    def test_what_is_seen_later(self) -> None:
+        self.hold(["shown-later"], r"replies app:2 lookup port: ", 3, "shown", "value")
+        said = self.hold(["shown", "shown"], r"replies app:2 lookup second", 3, "shown", "stop")
+        self.assertRegex(said, r"parts app:1 after \d+ calls: publish second, fence \| fence")
+
+
+class TurnedTest(ShowingCase):
+    """Orders that are turned round."""
+
+    def hold(self, expected: str, said: str, processes: int, *words: str) -> None:
+        """Fails where what came of all pairs isn't this, or nothing of the form is said."""
+        hold = LONG_HOLD if expected == "turned" else HOLD
+        ran = self.show(["--turn"], self.words(processes, *words), hold)
+        self.assertEqual({expected}, set(self.find_words(ran)), ran.stderr)
+        self.assertRegex(ran.stderr, said)
+
+    def test_orders_that_programs_keep(self) -> None:
+        self.hold("kept", r"kept .*: app:1 stood in a receive from 0, tag 0 for", 2, "told")
+        said = r"(?m)^# Turned round in vain on \S+: 1 of 1 pairs, all that the plan orders$"
+        self.assertRegex(read_file(self.plan), said)
+        self.hold("kept", "each of the 2 orders|2 of 2 orders were turned", 4, "names")
+
+    def test_orders_by_luck(self) -> None:
+        said = r"app:0 \d+ lookup: PMIX_SUCCESS port \| PMIX_ERR_NOT_FOUND"
+        self.hold("turned", said, 2, "cases", "poll")
+        self.assertRegex(read_file(self.plan), r"(?m)^# Turned round on \S+: app:1 \d+ publish, ")
+        for processes, word in ((2, "cancelled"), (3, "several"), (2, "asked")):
+            self.hold("turned", "doesn't hold for every run", processes, "luck", word)
+
+
+class CommandTest(ShowingCase):
+    """One race, a plan that is there, what goes wrong, and signals."""
+
+    def test_a_race_of_a_plan_that_is_there(self) -> None:
+        words = self.words(2, "shown", "branch")
+        shown = os.path.join(self.room, "shown.json")
+        self.assertEqual(0, self.record(*words).returncode)
+        assert self.program is not None
+        found = re.search(r"race (app:0 \d+ app:1 \d+) ", self.ask_checker())
+        assert found is not None
+        ran = run_recorder(
+            "--of", self.plan, *self.options(), "--shown", shown, "--show-race", found[1], *words,
+            environment=ENVIRONMENT,
+        )
+        self.assertEqual(["shown"], self.find_words(ran), ran.stderr)
+        self.assertEqual(0, ran.returncode)
+        with open(shown, encoding="utf-8") as it:
+            race = json.load(it)["races"][0]
+        self.assertEqual("shown", race["word"])
+        self.assertEqual([0, 139], [it["status"] for it in race["runs"]])
+        self.assertIn("# Shown in this program on ", read_file(self.plan))
+        self.assertIn("race", self.ask_checker())
+
+    def ask_checker(self) -> str:
+        """What the checker says of the plan."""
+        assert self.program is not None
+        words = [self.program, "check", self.plan]
+        return subprocess.run(words, capture_output=True, text=True, check=False).stdout
+
+    def test_calls_that_are_none(self) -> None:
+        words = self.words(2, "told")
+        for race, said in (
+            ("app:0 99 app:1 1", "app:0 99: this plan has no such call"),
+            ("app:0 1 app:7 1", "app:7 1: this plan has no such call"),
+        ):
+            ran = self.show(["--show-race", race], words)
+            self.assertEqual(125, ran.returncode)
+            self.assertIn(said, ran.stderr)
+            self.assertIn("rehearsal 1", read_file(self.plan))
+
+    def test_a_program_that_never_ends(self) -> None:
+        ran = self.show(["--show", "--limit", "8"], self.words(2, "shown", "hang"))
+        self.assertRegex(ran.stderr, r"ended status 0 \| no end")
+
+    def test_input_that_all_runs_read(self) -> None:
+        words, source = self.words(2, "shown", "input"), os.path.join(self.room, "input")
+        with open(source, "w", encoding="ascii") as to:
+            to.write("some words\n")
+        ran = self.show(["--show", "--input", source, "--keep", f"{self.room}/kept"], words)
+        self.assertEqual(["shown"], self.find_words(ran), ran.stderr)
+        for it in ("race-1-first", "race-1-second"):
+            output = os.path.join(self.room, "kept", it, "output")
+            self.assertIn("read some words", read_file(output))
+        with open(source, "rb") as come:
+            refused = self.begin(["--show"], words, come.fileno())
+            self.assertEqual(125, refused.wait(PATIENCE))
+            assert refused.stderr is not None
+            self.assertIn("--input FILE", refused.stderr.readline())
+            refused.stderr.close()
+
+    def begin(
+        self, task: list[str], words: list[str], source: Optional[int] = None
+    ) -> "subprocess.Popen[str]":
+        """Begins the recorder, in a group of its own."""
+        return subprocess.Popen(
+            [sys.executable, COMMAND, "-o", self.plan, *self.options(), *task, *words],
+            env=ENVIRONMENT,
+            stdin=subprocess.DEVNULL if source is None else source,
+            stdout=subprocess.DEVNULL,
+            stderr=subprocess.PIPE,
+            text=True,
+            start_new_session=True,
+        )
+
+    def test_signals_in_the_middle(self) -> None:
+        """The plan is there and says so, and no process or folder is left."""
+        for number in (signal.SIGINT, signal.SIGTERM):
+            words = self.words(2, "shown", "hang")
+            running = self.begin(["--show", "--limit", "60"], words)
+            until = time.monotonic() + PATIENCE
+            pattern = os.path.join(self.room, "wire_up-record-*", "race-1-second", "*.recording")
+            while len(glob.glob(pattern)) < 2 and time.monotonic() < until:
+                time.sleep(0.1)
+            running.send_signal(number)
+            _, said = running.communicate(timeout=SOON)
+            self.assertEqual(128 + number, running.returncode, said)
+            head = read_file(self.plan)
+            self.assertRegex(head, rf"(?m)^# Trying was stopped on \S+ by signal {number}$")
+            self.assertEqual([], glob.glob(os.path.join(self.room, "wire_up-record-*")))
+            self.assertEqual([], find_processes(words[-2]))
+
+    def test_another_launcher(self) -> None:
+        """The launcher of PRRTE itself, whose namespaces have other numbers."""
+        if not shutil.which("prterun"):
+            raise unittest.SkipTest("no race is shown under prterun: there is none")
+        words = ["prterun", "--map-by", ":OVERSUBSCRIBE", "-n", "2", self.compile("shown")]
+        ran = self.show(["--show"], [*words, "branch"])
+        self.assertEqual(["shown"], self.find_words(ran), ran.stderr)
+        self.assertRegex(ran.stderr, r"ended status 0 \| s(tatus|ignal) \d+")
+
+
+class WithoutServerTest(ShowingCase):
+    """Programs whose server is gone go on."""
+
+    def run_with(self, address: str) -> Ran:
+        """Runs a program whose calls are named, with a server at an address."""
+        folder = tempfile.mkdtemp(dir=self.room)
+        with open(os.path.join(folder, "hold"), "x", encoding="ascii") as to:
+            to.write(f"server {address} word\n")
+            to.write("call 0 0 1 publish port\ncall 0 1 1 lookup port\n")
+        environment = {**ENVIRONMENT, **make_environment(find_libraries(TOP, True), folder)}
+        return subprocess.run(
+            self.words(2, "shown", "abort"),
+            env=environment,
+            capture_output=True,
+            text=True,
+            timeout=PATIENCE,
+            check=False,
+        )
+
+    def test_none(self) -> None:
+        for address in (os.path.join(self.room, "talk"), "127.0.0.1:1", "no.such.host:1", "x"):
+            ran = self.run_with(address)
+            self.assertEqual((0, "joined\n"), (ran.returncode, ran.stdout), ran.stderr)
+
+    def test_one_that_closes(self) -> None:
+        path, heard = os.path.join(self.room, "talk"), []
+        with socket.socket(socket.AF_UNIX) as server:
+            server.bind(path)
+            server.listen(9)
+
+            def serve() -> None:
+                for _ in range(4):
+                    connection, _ = server.accept()
+                    heard.append(connection.recv(99).decode())
+                    connection.close()
+
+            thread = threading.Thread(target=serve, daemon=True)
+            thread.start()
+            ran = self.run_with(path)
+            thread.join(PATIENCE)
+        self.assertEqual((0, "joined\n"), (ran.returncode, ran.stdout), ran.stderr)
+        said = ["word came 1\n", "word came 2\n", "word over 1\n", "word over 2\n"]
+        self.assertEqual(said, sorted(heard))
+
+
+if __name__ == "__main__":
+    unittest.main()

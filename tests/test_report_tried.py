@@ -1,0 +1,101 @@
+"""Tests what pages, texts and SARIF say of races and orders that were tried in a program."""
+import json
+import os
+import subprocess
+import sys
+import tempfile
+import unittest
+
+import report_support
+
+RACE = "race app:0 6 app:1 6 name solver"
+TRIED_BY = "# Tried by: wire_up-record --of my.plan --show mpirun -n 2 './a <b>'\n"
+TURNED = (
+    "# Turned round on 2026-11-30: app:0 9 publish, app:1 10 lookup: app:1 10 lookup: "
+    "PMIX_SUCCESS port and PMIX_ERR_NOT_FOUND\n"
+)
+CAUSE = {
+    "shown": (
+        "Shown in this program",
+        "app:1 6 lookup: PMIX_SUCCESS port and PMIX_ERR_NOT_FOUND; ended status 0 and status 139",
+        "Shown in your program",
+    ),
+    "shown-later": (
+        "Shown later in this program",
+        "app:0 fence: PMIX_SUCCESS and waiting; ended status 0 both times",
+        "Shown in your program, in later calls",
+    ),
+    "alike": (
+        "Alike in both orders",
+        "both orders were made, and nothing differs",
+        "Not seen in your program",
+    ),
+    "not-made": (
+        "Not made in this program",
+        "app:1 had left MPI_Barrier for 2.1 s: ordered by what isn't recorded, or not at all",
+        "Not made in your program",
+    ),
+}
+
+
+class TriedTest(unittest.TestCase):
+    """Plans whose heads have what was tried."""
+
+    def setUp(self) -> None:
+        folder = tempfile.TemporaryDirectory()
+        self.addCleanup(folder.cleanup)
+        self.plan, self.page, self.sarif = (
+            os.path.join(folder.name, it) for it in ("my.plan", "page", "sarif")
+        )
+
+    def write(self, recording: str, *head: str) -> None:
+        """Writes the plan of a recording, with these lines at the end of its head."""
+        words = ["-o", self.plan, "--from", os.path.join(report_support.RECORDINGS, recording)]
+        subprocess.run([sys.executable, report_support.RECORDER, *words], check=True)
+        text = report_support.read(self.plan)
+        text = text.replace("rehearsal 1\n", "".join(head) + "rehearsal 1\n", 1)
+        report_support.write(self.plan, text.encode())
+
+    def test_what_came_of_a_race(self) -> None:
+        for word, (start, said, title) in CAUSE.items():
+            with self.subTest(word):
+                self.write("early", f"# {start} on 2026-11-30: {RACE}: {said}\n", TRIED_BY)
+                ran = report_support.run_report("-o", self.page, "--sarif", self.sarif, self.plan)
+                self.assertEqual(1, ran.returncode, ran.stderr)
+                page = report_support.read(self.page)
+                self.assertIn(f"<h3>{title}</h3><p>2026-11-30: ", page)
+                self.assertIn("&#x27;./a &lt;b&gt;&#x27;</code>", page)
+                result = json.loads(report_support.read(self.sarif))["runs"][0]["results"][0]
+                self.assertEqual({"tried": word, "outcome": said}, result["properties"])
+                level = "error" if word == "shown" else "warning"
+                self.assertEqual(level, result["level"])
+                text = report_support.run_report("--text", self.plan).stdout
+                self.assertIn(f"   {title} on 2026-11-30: ", text)
+                self.assertIn("   This does it again: wire_up-record --of my.plan", text)
+
+    def test_a_race_that_was_not_tried(self) -> None:
+        other = RACE.replace("app:1 6", "app:1 5")
+        self.write("early", f"# Shown in this program on 2026-11-30: {other}: x\n")
+        report_support.run_report("-o", self.page, "--sarif", self.sarif, self.plan)
+        self.assertNotIn("<h3>Shown in your program", report_support.read(self.page))
+        result = json.loads(report_support.read(self.sarif))["runs"][0]["results"][0]
+        self.assertEqual(("warning", False), (result["level"], "properties" in result))
+
+    def test_orders(self) -> None:
+        in_vain = "# Turned round in vain on 2026-11-30: 12 of 13 pairs\n"
+        every = "# Turned round in vain on 2026-11-30: 2 of 2 pairs, all that the plan orders\n"
+        said = "12 orders of 13 that were turned round in the program on 2026-11-30 held"
+        for head, badge, found in (
+            ((in_vain,), "no race", said),
+            ((every,), "no race", "the later call never came first. These are all that the plan"),
+            ((in_vain, TURNED), "in part", "an order that the plan has isn"),
+        ):
+            self.write("told", *head)
+            report_support.run_report("-o", self.page, self.plan)
+            page = report_support.read(self.page)
+            self.assertIn(f'<span class="badge">{badge}</span>', page)
+            self.assertIn(found, page)
+
+
+if __name__ == "__main__":
+    unittest.main()
