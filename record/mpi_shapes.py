@@ -102,6 +102,21 @@ note_received(number, result, told, WAITED);
 }
 
 
+def shape_file(is_exclusive: str) -> Shape:
+    """A call on the name of a file, which is counted: apart if it failed, or is one that fails
+    where the file is there."""
+    return Shape(CALL + """\
+static struct counter others = {.what = OTHERS, .function = "$function"};
+""", f"""\
+if (call.is_noted && result != MPI_SUCCESS)
+    note_other("$function that failed");
+else if (call.is_noted && ({is_exclusive}))
+    note_other("$function with MPI_MODE_EXCL");
+else if (call.is_noted)
+    wire_up_count(&others);
+""")
+
+
 def take_poll(
     is_watched: str,
     about: str,
@@ -402,6 +417,9 @@ note_child_of_group(&parent, result, made, tag);
 }
 
 WINDOWS = {
+    # Whether a file is there can be luck.
+    "open-file": shape_file("mode & MPI_MODE_EXCL"),
+    "delete-file": shape_file("false"),
     "make-window": Shape(BEGIN + BEGIN_CHILD, """\
 end_collective(&it, result, "all");
 note_window(&parent, result, comm, made);

@@ -42,6 +42,19 @@ if (result == PMIX_SUCCESS && {is_recorded})
 """, {"process": "me"})
 
 
+# What the caller's own store has isn't only what comes before by the rules.
+OF_OWN_STORE = """\
+static struct counter own_store = {.what = OTHERS, .function = "PMIx_Get_of_own_store"};
+if (is_of_program(caller) && is_of_own_store(process, key, info, infos))
+    wire_up_count(&own_store);
+"""
+
+
+def shape_get(shape: Shape) -> Shape:
+    """A get, which is counted too if it looks into the caller's own store alone."""
+    return Shape(OF_OWN_STORE + shape.before, shape.after, shape.handed)
+
+
 SHAPES = {
     "init": shape_init("!is_inner"),
     "init-tool": shape_init("!is_inner && !is_launcher()"),
@@ -63,10 +76,12 @@ if (is_of_program(caller) && !__atomic_exchange_n(&is_told, true, __ATOMIC_RELAX
         'note_group(&call, "construct", group, processes, count, info, infos)'
     ),
     "group-destruct": shape_blocking('note_group(&call, "destruct", group, NULL, 0, info, infos)'),
-    "get": shape_blocking("note_get(&call, process, key, info, infos)", """\
+    "get": shape_get(shape_blocking("note_get(&call, process, key, info, infos)", """\
 note_value(number, result, result == PMIX_SUCCESS && value ? *value : NULL);
-"""),
-    "get-nb": shape_calling_back("note_get(&call, process, key, info, infos)", "value"),
+""")),
+    "get-nb": shape_get(
+        shape_calling_back("note_get(&call, process, key, info, infos)", "value")
+    ),
     "publish": shape_blocking("note_publish(&call, info, infos)"),
     "publish-nb": shape_calling_back("note_publish(&call, info, infos)", "operation"),
     "lookup": shape_blocking("note_lookup(&call, found, count, info, infos)", """\

@@ -143,6 +143,10 @@ class Browser:
         wanted = [{"name": "prefers-color-scheme", "value": scheme}]
         self.call("Emulation.setEmulatedMedia", features=wanted)
 
+    def show_printed(self, is_printed: bool) -> None:
+        """Shows the page as it is printed, or again as on a screen."""
+        self.call("Emulation.setEmulatedMedia", media="print" if is_printed else "")
+
     def point_at(self, x: float, y: float) -> None:
         """Moves the pointer to a place of the page."""
         self.call("Input.dispatchMouseEvent", type="mouseMoved", x=x, y=y)

@@ -34,27 +34,31 @@ function measureFigure(svg) {
   return [...said, ...findRunOver(svg, all)];
 }
 
-// The labels and the marks of other calls over which the line between two calls that race goes.
+// The labels over which an arrow goes, or the line between two calls that race; and the marks of other
+// calls over which that goes.
 function findRunOver(svg, all) {
-  const line = svg.querySelector(".race"), said = new Set();
-  if (!line) return said;
-  const marks = [...svg.querySelectorAll(".dot:not(.racing), .met")];
+  const said = new Set(), marks = [...svg.querySelectorAll(".dot:not(.racing), .met")];
   const taken = [...all, ...marks.map(it => [it.getBoundingClientRect(), "a call"])];
+  for (const line of svg.querySelectorAll(".race")) addRunOver(line, taken, "the race", said);
+  for (const line of svg.querySelectorAll(".arrow")) addRunOver(line, all, "an arrow", said);
+  return said;
+}
+
+function addRunOver(line, taken, name, said) {
   const onScreen = line.getScreenCTM(), half = parseFloat(getComputedStyle(line).strokeWidth) / 2;
   for (let at = 0; at < line.getTotalLength(); at++) {
     const {x, y} = line.getPointAtLength(at).matrixTransform(onScreen);
     for (const [box, what] of taken)
       if (x > box.left - half && x < box.right + half && y > box.top - half && y < box.bottom + half)
-        said.add(`the race goes over ${what}`);
+        said.add(`${name} goes over ${what}`);
   }
-  return said;
 }
 
 // A label that is cut must have no room for one more character up to what stands beside it.
 function findCut(svg, all, whole) {
   const dots = [...svg.querySelectorAll(".dot, .met")].map(it => it.getBoundingClientRect());
   const said = [];
-  for (const [box, text] of all.filter(([, it]) => it.endsWith("…") && it.length > 12)) {
+  for (const [box, text] of all.filter(([, it]) => it.indexOf("…") > 0 && it.length > 12)) {
     const beside = [...all.map(it => it[0]), ...dots].filter(it =>
       it.left > box.left + 1 && it.top < box.bottom + 8 && it.bottom > box.top - 8);
     const edge = Math.min(whole.right, ...beside.map(it => it.left));
@@ -62,6 +66,15 @@ function findCut(svg, all, whole) {
     if (edge - box.right > 6 * character) said.push(`${text} is cut and has room`);
   }
   return said;
+}
+
+// On a printed sheet of so many pixels nothing that stays whole is higher than two thirds of it: else
+// sheets before it would be empty.
+function measureSheet(height) {
+  const whole = [...document.querySelectorAll("body *")].filter(it =>
+    getComputedStyle(it).breakInside === "avoid");
+  return whole.filter(it => it.getBoundingClientRect().height > height * 2 / 3).map(it =>
+    `${it.tagName} stays whole on a sheet: ${it.getBoundingClientRect().height} of ${height}`);
 }
 
 // Diagrams of one or two lanes stand in the page whole, with letters of at least so many pixels.

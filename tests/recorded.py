@@ -47,6 +47,7 @@ ONCE_OTHERWISE = (
     "hold of this library's run\n"
 )
 FOUND_BY_TEST = "MPI_Test that found a request complete"
+FREED = "not in the plan: 1 calls of MPI_Request_free of a receive\n"
 HANDLER = "1 processes that called in a handler of a signal: another run may call elsewhere\n"
 CALLBACK = (
     "1 processes that called PMIx in a function that MPI calls: another run may call elsewhere\n"
@@ -67,7 +68,9 @@ class Program:
     were the first of several requests; `poll` is the function by which `polls` found nothing before
     another call, and `called` another, whose `calls` have a result that is luck. `is_replayed` says
     that the replay of the plan answers as the program was answered, and `tested` is what the
-    recorder says of that, or of each run of the program, where there is a checker."""
+    recorder says of that, or of each run of the program, where there is a checker. `ends` counts
+    the ends that were left to luck, where that makes no finding more, and `left_out` says what the
+    recording of the repository leaves out that can hide a race, as one made now doesn't."""
 
     processes: int
     findings: int
@@ -84,6 +87,8 @@ class Program:
     calls: int = 1
     is_replayed: bool = True
     tested: str = ""
+    ends: int = 0
+    left_out: str = ""
 
     @property
     def says_both(self) -> str:
@@ -93,17 +98,25 @@ class Program:
         both = f"findings {self.findings}, and findings {self.findings + 1} with --strict"
         return f"wire_up-record: {both}, which takes nothing from {self.luck} ends of requests\n"
 
-    def says_otherwise(self, with_mpi: bool = True) -> str:
+    def says_otherwise(self, with_mpi: bool = True, is_checked: bool = True) -> str:
         """What the recorder says of polls that found nothing and, with MPI's order, of receives
-        that could have got another message or were the first of several requests."""
+        that could have got another message or were the first of several requests, and of ends that
+        were left to luck, unless the verdicts by a checker tell them."""
         told = [f"{self.calls} calls of {self.called}"] if self.called else []
         told += [f"{self.polls} calls of {self.poll} that found nothing"] if self.poll else []
         if self.received and with_mpi:
             told.append(f"{self.received} receives that could have got another message")
         if self.first and with_mpi:
             told.append(f"{self.first} receives that were the first of several requests")
+        ends = 0 if not with_mpi else self.ends if is_checked else self.ends or self.luck
+        told += [f"{ends} {words.LEFT_TO_LUCK}"] if ends else []
         said = f"wire_up-record: {', '.join(told)}: another run may do otherwise after them\n"
         return said if told else ""
+
+    @property
+    def says_left_out(self) -> str:
+        """What the recorder says of what the recording of the repository leaves out."""
+        return f"wire_up-record: {IN_PART}not in the plan: {self.left_out}\n" * bool(self.left_out)
 
     @property
     def says_in_part(self) -> str:
@@ -120,16 +133,16 @@ CASES = {
     "matched": Program(2, 0, 1, tested=EACH_RUN),
     "later": Program(2, 0, 1, tested=EACH_RUN),
     "split": Program(2, 0, 1, tested=EACH_RUN),
-    "window": Program(2, 0, 2),
+    "window": Program(2, 0, 2, called="MPI_Win_allocate_shared", calls=2),
     "duplicate": Program(2, 0, 1),
-    "epoch": Program(2, 0, 1),
+    "epoch": Program(2, 0, 1, ends=1),
     "tags": Program(2, 0, 0),
     "inter": Program(4, 0, 1, tested=EACH_RUN),
     "scattered": Program(2, 1, 1),
     "merged": Program(4, 0, 1, tested=EACH_RUN),
     "jump": Program(2, 0, 1, tested=EACH_RUN),
     "begun": Program(2, 0, 1),
-    "unsent": Program(2, 0, 1),
+    "unsent": Program(2, 0, 1, IN_PART, f"{IN_PART}not in the plan: 2 sends that failed\n"),
     "failed": Program(2, 0, 1, IN_PART, f"{IN_PART}{FAILED}"),
     "limit": Program(
         2, 0, 0, "no room", f"the run was cut off: {IN_PART}{LAST_LINES}{NOT_FINALIZED}"
@@ -142,7 +155,7 @@ OTHERS = {
     "early": Program(2, 1, 1),
     "names": Program(4, 0, 2),
     "ring": Program(4, 0, 0, tested=EACH_RUN),
-    "spawn": Program(2, 0, 0),
+    "spawn": Program(2, 0, 0, left_out="4 calls of PMIx_Connect, 1 calls of PMIx_Spawn"),
     "told": Program(2, 0, 1),
     "mpi4py": Program(3, 0, 3),
     "sleep": Program(2, 0, 0, "", f"the run was cut off: {IN_PART}{NOT_FINALIZED}"),
@@ -166,7 +179,9 @@ OTHER_WAYS = {
     "fortran": Program(2, 0, 4, words=("fortran",)),
     "profiled": Program(2, 0, 1, words=("profiled",)),
     "sessions": Program(2, 0, 2, words=("sessions",)),
-    "large": Program(2, 0, 2, words=("large",)),
+    "large": Program(
+        2, 0, 2, words=("large",), left_out="4 directives pmix.range of some processes"
+    ),
 }
 # Those of `direct`.
 DIRECT = {
@@ -182,12 +197,12 @@ LUCK = {
     "taken": Program(
         2, 0, 1, luck=20, poll="MPI_Test", polls=19, called=FOUND_BY_TEST, calls=20
     ),
-    "elsewhere": Program(3, 0, 1, poll="MPI_Test"),
-    "either": Program(2, 0, 1, poll="MPI_Test"),
-    "nothing": Program(2, 0, 1, poll="MPI_Iprobe"),
-    "helped": Program(2, 0, 1, poll="MPI_Iprobe"),
-    "alike": Program(3, 0, 1, poll="MPI_Iprobe"),
-    "turn": Program(2, 0, 1, poll="MPI_Iprobe"),
+    "elsewhere": Program(3, 0, 1, poll="MPI_Test", ends=1),
+    "either": Program(2, 0, 1, poll="MPI_Test", ends=2),
+    "nothing": Program(2, 0, 1, poll="MPI_Iprobe", ends=1),
+    "helped": Program(2, 0, 1, poll="MPI_Iprobe", ends=1),
+    "alike": Program(3, 0, 1, poll="MPI_Iprobe", ends=1),
+    "turn": Program(2, 0, 1, poll="MPI_Iprobe", ends=1),
     "sent": Program(2, 0, 1, called=FOUND_BY_TEST),
     "patient": Program(2, 0, 1, called=FOUND_BY_TEST),
     "beside": Program(2, 0, 1, called="MPI_Waitany of sends"),
@@ -204,7 +219,7 @@ HANDLES = {
     "ended": Program(2, 0, 1),
     "freed": Program(2, 0, 1),
     "kept": Program(2, 0, 1),
-    "restarted": Program(2, 1, 1),
+    "restarted": Program(2, 1, 1, IN_PART, f"{IN_PART}{FREED}"),
     "refused": Program(2, 0, 1),
 }
 # Those of `hidden`.

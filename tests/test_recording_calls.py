@@ -8,7 +8,7 @@ from tapes import Recorded, Tape, make_world, plan_tapes, read_scripts, write_pl
 from wire_up_tools.record.planning import Choices
 from wire_up_tools.record.writing import write_plan
 from wire_up_tools.words import (
-    LEFT_OUT,
+    LEFT_OUT_HARMLESS,
     MORE_ORDERED,
     OTHERWISE_AFTER,
     OTHERWISE_ALONE,
@@ -266,7 +266,7 @@ class CallsTest(unittest.TestCase):
         plan = write_plan_of([tape])
         said = "".join(f"#   1 calls of MPI_{it}\n" for it in names)
         self.assertIn(f"{OTHERWISE_AFTER}\n{said}", plan)
-        self.assertIn(f"{LEFT_OUT}\n#   1 calls of MPI_Win_flush\n", plan)
+        self.assertIn(f"{LEFT_OUT_HARMLESS}\n#   1 calls of MPI_Win_flush\n", plan)
 
     def test_own_code_that_has_no_call_of_pmix(self) -> None:
         """What luck decides can lead to none then, if that is known of each process; and the order
@@ -300,7 +300,7 @@ class CallsTest(unittest.TestCase):
         tape = Tape(0).say("other MPI_Cancel").say("others MPI_Get 1").say("others MPI_Get 2")
         plan = write_plan_of([tape.say("others MPI_Cancel 4"), Tape(1).say("others MPI_Get 5")])
         self.assertIn(f"{OTHERWISE_AFTER}\n#   5 calls of MPI_Cancel\n", plan)
-        self.assertIn(f"{LEFT_OUT}\n#   7 calls of MPI_Get\n", plan)
+        self.assertIn(f"{LEFT_OUT_HARMLESS}\n#   7 calls of MPI_Get\n", plan)
 
     def test_a_wait_of_another_thread(self) -> None:
         """A thread that only waits makes a process one of several threads."""

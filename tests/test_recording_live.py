@@ -214,7 +214,8 @@ class CasesTest(LiveTest):
         words = ["--checker", self.program or "/dev/null", "--answers", self.answers]
         ran = self.record(*words, *mpirun(of.processes, self.compile(compiled), name))
         self.assertEqual((ran.returncode, ran.stdout), (0, f"{name} done\n"), ran.stderr[:300])
-        said = of.said or of.says_otherwise() + (of.says_both if self.program else "")
+        luck = of.says_otherwise(is_checked=self.program is not None)
+        said = of.said or luck + (of.says_both if self.program else "")
         self.assertIn(said, ran.stderr)
         self.assertTrue(said or not drop_each_run(ran.stderr), ran.stderr[:300])
         if self.program:

@@ -30,13 +30,19 @@ class ShippedTest(unittest.TestCase):
 
     def hold(self, name: str, with_mpi: bool, count: int) -> None:
         """Tests the plan of a recording, with or without MPI's order."""
-        is_without_doubt = name in ("plugin", "closed", "failed", "opened") and not with_mpi
+        is_without_doubt = not with_mpi and name in (
+            "plugin",
+            "closed",
+            "failed",
+            "opened",
+            "unsent",
+        )
         of = SHIPPED[name]
-        said = "" if is_without_doubt else of.says_in_part
+        said = "" if is_without_doubt else of.says_in_part + of.says_left_out
         words = ["-o", self.plan, "--answers", self.answers]
         words += ["--checker", self.program or "/dev/null", *([] if with_mpi else ["--no-mpi"])]
         ran = run_recorder(*words, "--from", os.path.join(tapes.SHIPPED, name))
-        said += of.says_otherwise(with_mpi)
+        said += of.says_otherwise(with_mpi, self.program is not None)
         said += of.tested + of.says_both if with_mpi and self.program else ""
         self.assertEqual((ran.returncode, ran.stderr), (0, said))
         if self.program:

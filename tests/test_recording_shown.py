@@ -9,7 +9,9 @@ import unittest
 from collections.abc import Sequence
 from typing import Optional
 
+from running import ProgramCase
 from tapes import SHIPPED, Recorded, Tape, run_recorder
+from wire_up_tools.checker import Checker
 from wire_up_tools.failures import Refused
 from wire_up_tools.plan_reading import read_plan
 from wire_up_tools.record.planning import Choices, Plan, make_plan
@@ -17,12 +19,14 @@ from wire_up_tools.record.recordings import read_recordings
 from wire_up_tools.limits import LARGE
 from wire_up_tools.record.showing.comparing import compare
 from wire_up_tools.record.showing.heads import insert_in_head
-from wire_up_tools.record.showing.held_runs import HeldRun, refuse_lost
+from wire_up_tools.record.showing.held_runs import HeldRun, Session, refuse_lost
 from wire_up_tools.record.showing.holds import Course, Holds, Until, Wait, write_holds
 from wire_up_tools.record.showing.messages import find_swaps
 from wire_up_tools.record.showing.missing import find_missed
 from wire_up_tools.record.showing.motion import Motion
 from wire_up_tools.record.showing.naming import Naming, Target, name_call, number_job
+from wire_up_tools.record.showing.orders import Trial
+from wire_up_tools.record.showing.pairs import ASK, WAIT, find_pairs
 from wire_up_tools.record.showing.server import Patience, Server, open_hall_for
 from wire_up_tools.record.showing.traces import Traces, read_traces
 from wire_up_tools.record.writing import write_plan
@@ -223,6 +227,33 @@ class LostTest(unittest.TestCase):
         with self.assertRaisesRegex(Refused, "b.recording: no room; what follows isn't recorded$"):
             refuse_lost("/", said)
         refuse_lost("/", b"out\n")
+
+
+class PairsTest(ProgramCase):
+    """Pairs that a plan orders."""
+
+    text = (
+        "rehearsal 1\nnode n0\njob app\n"
+        "rank n0\npublish a v\nput global k v\nput global btl.tcp.5.0 v\ncommit\npublish b v\n"
+        "fence all\n"
+        "rank n0\nlookup b\nlookup-wait a\nfence all\nlookup a\nget-now app:0 k\n"
+        "get-now app:0 btl.tcp.5.0\n"
+    )
+
+    def find(self, verbs: Sequence[str]) -> list[tuple[str, str]]:
+        """The pairs, by their calls."""
+        plan = read_plan(self.text.encode())
+        session = Session((), (), "", None, None, Patience(1, 1))
+        trial = Trial(session, Checker(self.program), plan, self.text, Naming(plan), {})
+        return [(one.place, other.place) for one, other in find_pairs(trial, verbs)]
+
+    def test_those_that_ask_at_once(self) -> None:
+        """A race is none, nor what MPI's own library puts."""
+        pairs = [("app:0 1", "app:1 4"), ("app:0 4", "app:1 5")]
+        self.assertEqual(pairs, self.find(ASK))
+
+    def test_those_that_wait(self) -> None:
+        self.assertEqual([("app:0 1", "app:1 2")], self.find(WAIT))
 
 
 class ServerTest(unittest.TestCase):

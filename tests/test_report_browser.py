@@ -15,6 +15,8 @@ from browser import Browser, find_browser
 # The widths at which each page is looked at, in pixels, with the height of a screen of each.
 SCREENS = {400: 800, 1000: 700, 2000: 1100}
 SCHEMES = ("light", "dark")
+# The part of a printed sheet (A4) that is written on, in pixels.
+SHEET = (718, 1045)
 # The letters of a diagram of two lanes have at least so many pixels on the narrowest screen.
 LEAST_LETTERS = 9
 # What is asked in the page.
@@ -50,7 +52,7 @@ class BrowserCase(unittest.TestCase):
 @report_support.for_each_plan
 class PagesTest(BrowserCase, report_support.PlanCase):
     """A browser shows the page of each plan without a fault: no text is over another or cut for
-    nothing, no race goes over a label, the verdict is seen first, and all can be read, light and
+    nothing, no line goes over a label, the verdict is seen first, and all can be read, light and
     dark."""
 
     def check(self, name: str) -> None:
@@ -66,6 +68,15 @@ class PagesTest(BrowserCase, report_support.PlanCase):
                 self.keep(f"{name}-{width}-{scheme}.png")
         self.assertEqual(said, [])
         self.assertEqual(self.browser.list_faults(), [])
+        self.check_printed()
+
+    def check_printed(self) -> None:
+        """Tests the page on a printed sheet."""
+        self.browser.show_printed(True)
+        self.browser.resize(*SHEET)
+        said = self.ask(f"measureSheet({SHEET[1]})")
+        self.browser.show_printed(False)
+        self.assertEqual(said, [])
 
     def list_faults(self, width: int, height: int) -> list[str]:
         """What is wrong with the page as it is shown now."""
@@ -89,6 +100,13 @@ FAULTS = (
         "document.querySelector('.race').setAttribute('points', '16,72 125,72')",
         "the race goes over 1 put card",
     ),
+    (
+        "measurePage(1000)",
+        "document.querySelector('polyline').setAttribute('class', 'arrow'); "
+        "document.querySelector('polyline').setAttribute('points', '16,72 125,72')",
+        "an arrow goes over 1 put card",
+    ),
+    ("measureSheet(300)", "document.querySelector('section').style.breakInside = 'avoid'", "SEC"),
     ("measureColours()", "document.querySelector('h1').style.color = '#999'", "h1 "),
     ("measureFold(700)", "document.body.style.paddingTop = '700px'", "header h1 ends"),
     ("measureFew(9)", "document.querySelector('svg text').style.fontSize = '8px'", "letters of"),

@@ -144,6 +144,36 @@ class WritingTest(CommandCase):
             self.assertEqual(ran.returncode, 1, ran.stderr)
 
 
+# A checker that notes how it is started.
+NOTING = """#!/bin/sh
+echo "$*" >> "{room}/starts"
+exec "{program}" "$@"
+"""
+
+
+class StartsTest(CommandCase):
+    """How often a report starts the checker."""
+
+    def count(self, plan: str) -> int:
+        """How many times it is started for the page of a file among the examples."""
+        text = NOTING.format(room=self.room, program=support.program())
+        checker = report_support.write(self.find("checker"), text.encode())
+        os.chmod(checker, 0o755)
+        path = os.path.join(report_support.EXAMPLES, plan)
+        report_support.run_report("-o", "/dev/null", path, checker=checker)
+        return len(report_support.read(self.find("starts")).splitlines())
+
+    def test_a_plan_with_a_race(self) -> None:
+        # Its version, what is found as written and anywhere, two runs, and what comes of each.
+        self.assertEqual(self.count("early-get.plan"), 6)
+
+    def test_a_plan_without_findings(self) -> None:
+        self.assertEqual(self.count("ordered-get.plan"), 4)
+
+    def test_a_pattern(self) -> None:
+        self.assertEqual(self.count(os.path.join("patterns", "business-cards.pattern")), 2)
+
+
 class PartsTest(CommandCase):
     """The command finds its parts, and the checker beside it."""
 

@@ -41,10 +41,23 @@ class FixesTest(unittest.TestCase):
         said = fix(read(PUBLISH, LOOKUP), "race a:0 1 a:1 1 name port")
         self.assertEqual(
             said,
-            "Wait for the name with PMIX_WAIT: it is published once and never taken away; or put "
-            "an MPI_Barrier of MPI_COMM_WORLD between the two calls: a:0 calls it after the "
-            "PMIx_Publish of serve (s.c:3), a:1 before the PMIx_Lookup of m.c:8.",
+            "Wait for the name with PMIX_WAIT: it is published once and never taken away "
+            "(MPI_Lookup_name can't: receive a message before it that is sent after the "
+            "MPI_Publish_name); or put an MPI_Barrier of MPI_COMM_WORLD between the two calls: a:0 "
+            "calls it after the PMIx_Publish of serve (s.c:3), a:1 before the PMIx_Lookup of "
+            "m.c:8.",
         )
+
+    def test_a_publish_of_another_job_comes_first(self) -> None:
+        text = f"{RECORDED}{HEAD}rank n\n{PUBLISH}job b\nrank n\n{LOOKUP}"
+        said = fix(read_plan(text.encode()), "race a:0 1 b:0 1 name port")
+        again = "(MPI_Lookup_name can't: call it until it finds the name; the race is still rep"
+        self.assertIn(again, said)
+
+    def test_a_program_without_mpi(self) -> None:
+        text = f"{RECORDED}# {WITHOUT_MPI}: a race\n{HEAD}rank n\n{PUBLISH}rank n\n{LOOKUP}"
+        said = fix(read_plan(text.encode()), "race a:0 1 a:1 1 name port")
+        self.assertIn("with PMIX_WAIT: it is published once and never taken away; or", said)
 
     def test_a_lookup_comes_before_an_unpublish(self) -> None:
         # Rank 2 sends before the barrier, since rank 0 receives that before its unpublish.
@@ -180,7 +193,8 @@ class MessagesTest(unittest.TestCase):
             explaining.fix(finding, order),
             "Move the PMIx_Lookup of m.c:8 after the MPI_Recv of m.c:9 that follows it; or "
             "receive from a:0 in place of MPI_ANY_SOURCE before the PMIx_Lookup of m.c:8; or wait "
-            "for the name with PMIX_WAIT: it is published once and never taken away.",
+            "for the name with PMIX_WAIT: it is published once and never taken away "
+            "(MPI_Lookup_name can't).",
         )
 
     def test_one_that_waits_for_the_lookup_is_none(self) -> None:

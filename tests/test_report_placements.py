@@ -90,5 +90,33 @@ class PlacementsTest(unittest.TestCase):
         self.assertNotIn("placement", page)
 
 
+# Two ranks of two nodes, each of which asks at once for a key of the other.
+CROSSED = """\
+rehearsal 2
+node n0
+node n1
+job app
+rank n0
+put global b v
+commit
+get-now app:1 a
+rank n1
+put global a v
+commit
+get-now app:0 b
+"""
+
+
+class CrossedTest(unittest.TestCase):
+    """Two mistakes that need the same two ranks on one node."""
+
+    def test_the_ranks_are_named_once(self) -> None:
+        with tempfile.TemporaryDirectory(prefix="wire-up-report-") as room:
+            plan = report_support.write(os.path.join(room, "it.plan"), CROSSED.encode())
+            ran = report_support.run_report("--text", plan)
+        said = "nothing; with app:0 and app:1 on one node: 2 races such as these."
+        self.assertIn(f"On the placement written: {said}\n", ran.stdout)
+
+
 if __name__ == "__main__":
     unittest.main()

@@ -50,7 +50,7 @@ SAYS = {
         "Move the PMIx_Lookup of wild (cases.c:43) after the MPI_Recv of wild (cases.c:44) that",
     ),
     "recorded-sleep": ("in part (the run was cut off, 2 recordings end early: what came then",),
-    "recorded-unwaited": ("in part (1 calls of the program that don't block",),
+    "recorded-unwaited": ("in part (1 call of the program that doesn't block",),
     "early-get": ("early-get.plan:7", "Use get in place of get-now", "<race> app:1"),
     "foreign-fence": ("Let the reader meet in the fence itself", "3 fence: comes <race> app:1"),
     "kept-card": (

@@ -85,7 +85,7 @@ class ReasonsTest(unittest.TestCase):
 
     def test_what_was_left_out(self) -> None:
         found = find_reasons_in("Left out:", "  1 calls of PMIx_Spawn", "  3 puts that failed")
-        self.assertEqual(found, ["not in the plan: 1 calls of PMIx_Spawn, 3 puts that failed"])
+        self.assertEqual(found, ["not in the plan: 1 call of PMIx_Spawn, 3 puts that failed"])
 
     def test_threads(self) -> None:
         threads = "2 processes that called from several threads"

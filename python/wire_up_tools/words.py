@@ -26,6 +26,7 @@ PATTERN_BY = "By wire_up-record"
 CUT_OFF = "The run was cut off, so that a verdict holds only in part:"
 PARTED = "The runs part, so that a verdict holds only in part:"
 LEFT_OUT = "Left out:"
+LEFT_OUT_HARMLESS = "Left out, which can hide no race:"
 MORE_ORDERED = "More ordered than the program, so that a race can be missed:"
 OTHERWISE_AFTER = "Another run may do otherwise after these, so that a race can be missed:"
 WRITTEN_OTHERWISE = "Written otherwise:"
@@ -47,6 +48,8 @@ OWN_CODE = (
 LEFT_TO_LUCK = "ends of requests that another run may have found open"
 TAKEN = "their order is taken all the same, and --strict takes nothing from them"
 VERDICTS = "Verdicts: "
+# The title of the races that are found with --strict alone, by their calls in the plan.
+STRICT_ALONE = "Found with --strict alone:"
 # How the lines of the head begin that say what came of a race which was tried in the program, by
 # the word for that; which command tried it; and what came of orders that were turned round.
 TRIED_IN_HEAD = {

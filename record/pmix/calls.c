@@ -2,6 +2,7 @@
 #include "pmix/calls.h"
 #include "core/holds.h"
 #include "core/text.h"
+#include "pmix/session.h"
 #include "pmix/words.h"
 
 #include <string.h>
@@ -89,6 +90,25 @@ unsigned long note_get(const struct call *call, const pmix_proc_t *process, cons
         add_word(&what, key, strlen(key));
     add_directives(&what, info, infos);
     return write_begin(call, &what);
+}
+
+/* As the library takes a directive: without a value it is true, and a number is no truth. */
+static bool is_true(const pmix_value_t *value)
+{
+    return value->type == PMIX_UNDEF || value->type == PMIX_STRING ||
+           (value->type == PMIX_BOOL && value->data.flag);
+}
+
+bool is_of_own_store(const pmix_proc_t *process, const char *key, const pmix_info_t info[],
+                     size_t infos)
+{
+    if (!process || !key || begins_with(key, "pmix") || process->rank > PMIX_RANK_VALID ||
+        is_own_process(process))
+        return false;
+    for (size_t n = 0; info && n < infos; n++)
+        if (strncmp(info[n].key, PMIX_OPTIONAL, PMIX_MAX_KEYLEN) == 0 && is_true(&info[n].value))
+            return true;
+    return false;
 }
 
 unsigned long note_publish(const struct call *call, const pmix_info_t info[], size_t infos)

@@ -44,4 +44,8 @@ void note_value(unsigned long number, pmix_status_t status, const pmix_value_t *
 void note_found(unsigned long number, pmix_status_t status, const pmix_pdata_t found[],
                 size_t count);
 
+/* Whether a get of another process' key looks into the caller's own store alone (PMIX_OPTIONAL). */
+bool is_of_own_store(const pmix_proc_t *process, const char *key, const pmix_info_t info[],
+                     size_t infos);
+
 #endif

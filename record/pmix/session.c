@@ -13,6 +13,12 @@
 
 static pthread_mutex_t counting = PTHREAD_MUTEX_INITIALIZER;
 static int inits;
+static pmix_proc_t own; /* written before the process makes other calls */
+
+bool is_own_process(const pmix_proc_t *it)
+{
+    return it->rank == own.rank && strncmp(it->nspace, own.nspace, PMIX_MAX_NSLEN) == 0;
+}
 
 /* Answers the version of the library that the code at `caller` calls. */
 static const char *find_version(void *caller)
@@ -87,8 +93,10 @@ void enter_session(const pmix_proc_t *me, void *caller)
     pthread_mutex_lock(&counting);
     inits++;
     bool is_first = !has_recording();
-    if (is_first)
+    if (is_first) {
+        own = *me;
         open_recording(&it);
+    }
     pthread_mutex_unlock(&counting);
     if (is_first)
         note_place_in_job(me, caller);

@@ -62,6 +62,26 @@ static void add_unsigned(struct text *to, int size, unsigned long long number)
     wire_up_text_add(to, "number:%d:%llu", size, number);
 }
 
+/* Adds a real number to millionths: of one that isn't zero at least one. What is too large, or is no
+ * number, has its size alone. */
+static void add_real(struct text *to, size_t size, double number)
+{
+    double most = 1e12, millionths = (number < 0 ? -number : number) * 1e6;
+    if (!(number > -most && number < most)) {
+        wire_up_text_add(to, "other:%zu", size);
+        return;
+    }
+    unsigned long long count = (unsigned long long)millionths;
+    count += count == 0 && number != 0;
+    wire_up_text_add(to, "real:%zu:%s%llu.%06llu", size, number < 0 ? "-" : "", count / 1000000,
+                     count % 1000000);
+}
+
+static void add_time(struct text *to, const struct timeval *time)
+{
+    add_real(to, sizeof *time, (double)time->tv_sec + (double)time->tv_usec / 1e6);
+}
+
 /* Adds a value of a type that isn't text or bytes. */
 static void add_plain(struct text *to, const pmix_value_t *value)
 {
@@ -82,8 +102,12 @@ static void add_plain(struct text *to, const pmix_value_t *value)
     case PMIX_SIZE:
     case PMIX_UINT64: add_unsigned(to, 8, value->data.uint64); break;
     case PMIX_INT64: add_signed(to, 8, value->data.int64); break;
-    case PMIX_FLOAT: wire_up_text_add(to, "other:%zu", sizeof value->data.fval); break;
-    case PMIX_DOUBLE: wire_up_text_add(to, "other:%zu", sizeof value->data.dval); break;
+    case PMIX_PID: add_signed(to, sizeof value->data.pid, value->data.pid); break;
+    case PMIX_DATA_RANGE: add_unsigned(to, 1, value->data.range); break;
+    case PMIX_TIME: add_signed(to, sizeof value->data.time, value->data.time); break;
+    case PMIX_FLOAT: add_real(to, sizeof value->data.fval, value->data.fval); break;
+    case PMIX_DOUBLE: add_real(to, sizeof value->data.dval, value->data.dval); break;
+    case PMIX_TIMEVAL: add_time(to, &value->data.tv); break;
     case PMIX_UNDEF: wire_up_text_add(to, "none"); break;
     default: wire_up_text_add(to, "type:%u", (unsigned)value->type);
     }

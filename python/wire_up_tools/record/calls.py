@@ -28,6 +28,7 @@ class ValueKind(enum.Enum):
     LONG_TEXT = "long"
     BYTES = "bytes"
     NUMBER = "number"
+    REAL = "real"
     TYPE = "type"
     OTHER = "other"
     NONE = "none"
@@ -56,6 +57,13 @@ class Value:
         """The number that it is; None of any other kind."""
         is_number = self.kind is ValueKind.NUMBER
         return int(self.detail.partition(":")[2]) if is_number else None
+
+    @property
+    def seconds(self) -> Optional[float]:
+        """The time that it is, in seconds; None where it isn't a number, or is none."""
+        if self.kind not in (ValueKind.NUMBER, ValueKind.REAL):
+            return None
+        return float(self.detail.partition(":")[2])
 
     @property
     def word(self) -> str:

@@ -1,4 +1,5 @@
 """What the directives of calls of PMIx say."""
+import re
 from typing import Optional
 
 from wire_up_tools.record.calls import (
@@ -10,19 +11,26 @@ from wire_up_tools.record.calls import (
     Get,
     Group,
     Lookup,
+    Pair,
     Publish,
     Unpublish,
+    Value,
     ValueKind,
 )
+from wire_up_tools.words import show
 
 COLLECT, WAIT = b"pmix.collect", b"pmix.wait"
-TIMEOUT, PERSISTENCE = b"pmix.timeout", b"pmix.persist"
+TIMEOUT, PERSISTENCE, RANGE = b"pmix.timeout", b"pmix.persist", b"pmix.range"
 # From so many seconds on a time is as good as none: Open MPI gives ten minutes.
 LONG = 60
 # How long a name stays, as the numbers of pmix_common.h: until it is unpublished, until it is read,
 # or until its process ends, its application, or the session, which all that is recorded is in. The
 # standard's default is the application.
 UNTIL_UNPUBLISHED, FIRST_READ, OF_PROCESS, OF_APPLICATION, OF_SESSION = range(5)
+# Whom a name is for, as the numbers of pmix_common.h: the resource manager, the node, the
+# namespace, the session (the standard's default), all, those of a list, or the process alone. In a
+# plan it is for all.
+RANGES, OF_NAMESPACE, USUAL_RANGES = range(1, 8), 3, (4, 5)
 # Directives of a get that doesn't wait.
 AT_ONCE = (b"pmix.immediate", b"pmix.optional")
 KNOWN = (COLLECT, WAIT, *AT_ONCE)
@@ -36,14 +44,26 @@ OF_GROUPS = (
 )
 
 
+def is_true(value: Value) -> bool:
+    """Whether a library takes the value of a directive as true, as OpenPMIx does: a number that
+    isn't of the type `bool` isn't, and a text may say yes or no."""
+    if value.kind in (ValueKind.NUMBER, ValueKind.REAL, ValueKind.OTHER):
+        return value.detail.startswith("1:") and value != NO
+    text = value.text.strip().lower()
+    if value.kind is not ValueKind.TEXT or not text:
+        return True
+    number = re.match(rb"\d+", text)
+    return int(number[0]) != 0 if number else text.startswith((b"yes", b"true"))
+
+
 def has_directive(directives: Directives, *keys: bytes) -> bool:
     """Whether a call has one of the directives, and not as false."""
-    return any(it.key in keys and it.value != NO for it in directives)
+    return any(it.key in keys and is_true(it.value) for it in directives)
 
 
-def find_number(directives: Directives, key: bytes) -> Optional[int]:
-    """The number that a directive gives; None where it isn't there, or gives none."""
-    return next((it.value.number for it in directives if it.key == key), None)
+def is_to_wait(lookup: Lookup) -> bool:
+    """Whether a lookup is to wait: for as many names as a number says, or for all."""
+    return any(it.key == WAIT and it.value != NO for it in lookup.directives)
 
 
 def gives_up(action: Action) -> bool:
@@ -52,9 +72,35 @@ def gives_up(action: Action) -> bool:
         return False
     if isinstance(action, Get) and has_directive(action.directives, *AT_ONCE):
         return False
-    if isinstance(action, Lookup) and not has_directive(action.directives, WAIT):
+    if isinstance(action, Lookup) and not is_to_wait(action):
         return False
-    return 0 < (find_number(action.directives, TIMEOUT) or 0) < LONG
+    times = (it.value.seconds for it in action.directives if it.key == TIMEOUT)
+    return any(it is not None and 0 < it < LONG for it in times)
+
+
+def is_usual_range(action: Action, of: Pair) -> bool:
+    """Whether a range is taken for that of a plan: all processes.
+
+    A lookup may give a number that no range has: MPI_Lookup_name of Open MPI 5.0.7 gives 17, and
+    PMIx finds what is published for the session all the same. Of a publish it isn't known for whom
+    such a name is.
+    """
+    number = of.value.number
+    if number is None or number in RANGES:
+        return number in USUAL_RANGES
+    return not isinstance(action, Publish)
+
+
+def say_directive(action: Action, of: Pair, has_jobs: bool) -> str:
+    """A directive that a plan can't have, and what of it isn't taken for what a plan does, which
+    has several jobs or one."""
+    name = show(of.key)
+    if of.key == TIMEOUT and of.value.seconds is None:
+        return f"{name} of a time that can't be read"
+    if of.key != RANGE or is_usual_range(action, of):
+        return name
+    is_all = of.value.number == OF_NAMESPACE and not has_jobs
+    return name if is_all else f"{name} of some processes"
 
 
 def find_persistence(action: Action) -> Optional[int]:

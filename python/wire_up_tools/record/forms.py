@@ -36,7 +36,8 @@ from wire_up_tools.record.messages import (
 )
 
 WORD = r"[!-~]+"
-VALUE = r"(?:none|text:[!-~]*|long:\d+|bytes:\d+|number:\d+:-?\d+|other:\d+|type:\d+)"
+NUMBER = r"number:\d+:-?\d+|real:\d+:-?\d{1,13}\.\d{6}"
+VALUE = rf"(?:none|text:[!-~]*|long:\d+|bytes:\d+|{NUMBER}|other:\d+|type:\d+)"
 FOUND_BY = r"(wait|poll|some)"
 # Most records of a large recording are like others, but for their numbers and times.
 KEPT_RECORDS = 1 << 13

@@ -1,9 +1,9 @@
 """Notes what a plan can't say of the program: the head of the plan tells it."""
-import re
 from collections import Counter
 from collections.abc import Iterable, Sequence
 from dataclasses import dataclass, field
 
+from wire_up_tools.left_out import can_hide
 from wire_up_tools.record.calls import (
     Call,
     Ending,
@@ -13,22 +13,18 @@ from wire_up_tools.record.calls import (
     Publish,
     Unpublish,
 )
-from wire_up_tools.record.directives import KNOWN, find_ending, gives_up, stands_early
+from wire_up_tools.record.directives import (
+    KNOWN,
+    find_ending,
+    gives_up,
+    say_directive,
+    stands_early,
+)
+from wire_up_tools.record.luck import count_shared_windows, is_of_luck
 from wire_up_tools.record.messages import Messages
 from wire_up_tools.record.processes import Processes
 from wire_up_tools.record.recordings import NO_USE, Recording
-from wire_up_tools.words import show
 
-# Functions whose result depends on which rank was faster, or behind which another rank's memory is
-# read, or that say what is done when an event comes. They order nothing.
-OF_LUCK = re.compile(
-    r"MPI_(Cancel( of a receive)?|Comm_accept|Fetch_and_op|Compare_and_swap"
-    r"|(Get_a|Rget_a|A|Ra)ccumulate(_c)?|File_i?(read|write)_shared(_c)?"
-    r"|File_get_(position_shared|size)|Parrived|Request_get_status_\w+|Win_lock(_all)?"
-    r"|Win_shared_query(_c)?|Wait(any|some) of sends"
-    r"|(\w+ of any source|Im?probe) in a communicator that isn't known)"
-    r"|PMIx_Register_event_handler"
-)
 # Calls whose end the plan takes to be waited for: gets that can stand anywhere, and others.
 WAITED_FOR = (
     "of the program that don't block and ended before others: in the plan it waited for them"
@@ -36,6 +32,12 @@ WAITED_FOR = (
 FLOATING, UNAWAITED = f"gets {WAITED_FOR}", f"calls {WAITED_FOR}"
 # Stands for the functions that own code refers to where the recording doesn't tell them.
 NOT_NOTED = "(not noted)"
+# What counts the gets of the program that look into its own store alone, and what is said of them.
+OF_OWN_STORE = "PMIx_Get_of_own_store"
+OWN_STORE = (
+    "gets of what is in the caller's own store (pmix.optional): in the plan they find all that was "
+    "brought to its node"
+)
 # Functions by which processes are started. A library of MPI calls them too.
 STARTING = ("PMIx_Spawn", "PMIx_Spawn_nb")
 
@@ -68,9 +70,14 @@ class Notes:
         self.otherwise.update(others.otherwise)
         self.uses.update(others.uses)
 
+    def list_left_out(self, can_hide_race: bool) -> dict[str, int]:
+        """What was left out that can hide a race, or else that can't."""
+        return {it: n for it, n in self.left_out.items() if n and can_hide(it) == can_hide_race}
 
-def note_recording(recording: Recording, notes: Notes) -> None:
-    """Notes what a recording lacks, and what of it has no line."""
+
+def note_recording(recording: Recording, are_written: bool, notes: Notes) -> None:
+    """Notes what a recording lacks, and what of it has no line. Files are written by MPI, or
+    aren't."""
     if recording.is_cut:
         notes.cut_off["last lines of recordings, which were cut"] += 1
     if not recording.has_finalized:
@@ -80,9 +87,7 @@ def note_recording(recording: Recording, notes: Notes) -> None:
     notes.more_ordered.update(recording.unseen_pmix)
     uses = recording.uses.decode() if recording.uses else NOT_NOTED
     notes.uses[uses] += recording.uses != NO_USE
-    for name, count in recording.others.items():
-        noted = notes.of_luck if OF_LUCK.fullmatch(name) else notes.left_out
-        noted[f"calls of {name}"] += count
+    note_counted(recording, are_written, notes)
     for name, count in recording.polls.items():
         notes.of_luck[f"calls of {name} that found nothing"] += count
     for name, count in recording.found.items():
@@ -92,6 +97,18 @@ def note_recording(recording: Recording, notes: Notes) -> None:
             "processes that called from several threads: "
             "their calls stand in the order in which they began"
         ] += 1
+
+
+def note_counted(recording: Recording, are_written: bool, notes: Notes) -> None:
+    """Notes the calls that are only counted."""
+    for name, count in recording.others.items():
+        if name == OF_OWN_STORE:
+            notes.more_ordered[OWN_STORE] += count
+        elif is_of_luck(name, are_written):
+            notes.of_luck[f"calls of {name}"] += count
+        else:
+            notes.left_out[f"calls of {name}"] += count
+    notes.of_luck["calls of MPI_Win_allocate_shared"] += count_shared_windows(recording)
 
 
 def count_starts(recordings: Iterable[Recording]) -> int:
@@ -118,8 +135,8 @@ def note_missing(processes: Processes, notes: Notes) -> None:
         ] += jobs
 
 
-def note_directives(call: Call, notes: Notes) -> None:
-    """Notes the directives of a call that a plan can't have."""
+def note_directives(call: Call, has_jobs: bool, notes: Notes) -> None:
+    """Notes the directives of a call that a plan can't have, which has several jobs or one."""
     action = call.action
     notes.more_ordered[
         "waits for less than a minute at most (pmix.timeout): in the plan they wait for an answer"
@@ -127,7 +144,7 @@ def note_directives(call: Call, notes: Notes) -> None:
     if isinstance(action, (Fence, Get, Publish, Lookup, Unpublish)):
         for it in action.directives:
             if it.key not in KNOWN:
-                notes.left_out[f"directives {show(it.key)}"] += 1
+                notes.left_out[f"directives {say_directive(action, it, has_jobs)}"] += 1
 
 
 def is_floating(call: Call) -> bool:

@@ -10,7 +10,7 @@ from wire_up_tools.record.patterns.scripts import Script
 from wire_up_tools.record.patterns.writing import Pattern, make_pattern, say_broken
 from wire_up_tools.record.planning import Plan
 from wire_up_tools.record.writing import list_notes, say_luck, say_own_code
-from wire_up_tools.words import WRITTEN_OTHERWISE
+from wire_up_tools.words import LEFT_OUT_HARMLESS, WRITTEN_OTHERWISE
 
 # A job of so many ranks tells nothing of loops: any plan of it fits a pattern.
 TOO_FEW = 2
@@ -55,7 +55,7 @@ def add_notes(text: str, plan: Plan) -> str:
     first, _, rest = text.partition("\n")
     lines = [first, *say_luck(plan), *say_own_code(plan)]
     for title, them in list_notes(plan):
-        if them and title != WRITTEN_OTHERWISE:
+        if them and title not in (WRITTEN_OTHERWISE, LEFT_OUT_HARMLESS):
             lines += [f"# {title}", *(f"#   {it}" for it in them)]
     return "\n".join([*lines, rest])
 

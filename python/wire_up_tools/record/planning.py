@@ -36,12 +36,14 @@ class Choices:
 @dataclass(frozen=True)
 class MpiSummary:
     """How many messages and collectives MPI orders, and how many ends of requests another run may
-    have found open. `verdicts` are those with and without --strict, if they differ."""
+    have found open. `verdicts` are those with and without --strict, if they differ, and
+    `strict_races` the first races that are found with it alone."""
 
     message_count: int = 0
     collective_count: int = 0
     left_to_luck: int = 0
     verdicts: Optional[str] = None
+    strict_races: Sequence[str] = ()
 
 
 @dataclass(frozen=True)

@@ -31,6 +31,7 @@ from wire_up_tools.record.directives import (
     has_directive,
 )
 from wire_up_tools.record.draft import Line, Part
+from wire_up_tools.record.luck import do_write
 from wire_up_tools.record.messages import Messages
 from wire_up_tools.record.names import Spelling, is_reserved_by_pmix
 from wire_up_tools.record.notes import (
@@ -44,6 +45,11 @@ from wire_up_tools.record.processes import Process, Processes
 from wire_up_tools.record.puts import OTHER_SCOPE, PutsByProcess
 
 NOT_FOUND, DUPLICATE_KEY = -46, -53
+HOST_NAME = b"pmix.hname"
+UNREACHED = (
+    "gets from another node that were answered with an error in place of waiting: another run may "
+    "answer them otherwise"
+)
 # Where a line stands whose call hasn't ended.
 AT_THE_END = sys.maxsize
 
@@ -58,7 +64,8 @@ def find_owner(processes: Processes, caller: Process, get: Get) -> Optional[Proc
 @dataclass
 class ProcessLines:
     """The lines of the calls of one process, as far as they are made, and the names that it has
-    published so far. `part` and `notes` are those of all processes."""
+    published so far. `part` and `notes` are those of all processes, and `reserved` the reserved
+    keys that a process puts."""
 
     process: Process
     processes: Processes
@@ -66,6 +73,7 @@ class ProcessLines:
     puts: PutsByProcess
     part: Part
     notes: Notes
+    reserved: frozenset[bytes] = frozenset()
     published: list[bytes] = field(default_factory=list)
 
     def add(
@@ -143,13 +151,17 @@ class ProcessLines:
             return "gets that name no process"
         if get.keys is None:
             return "gets of every key"
+        if get.owner.rank is AnyRank.ALL and not is_reserved_by_pmix(get.keys[0]):
+            return "gets of a wildcard rank that aren't of its job"
         if get.owner.rank is AnyRank.ALL:
             return "gets of a wildcard rank"
         if get.owner.rank is AnyRank.UNDEFINED:
             return "gets of an undefined rank"
-        if is_reserved_by_pmix(get.keys[0]):
-            return "gets of reserved keys"
-        return None
+        if not is_reserved_by_pmix(get.keys[0]):
+            return None
+        if get.keys[0] in self.reserved:
+            return "gets of reserved keys that a process puts"
+        return "gets of reserved keys"
 
     def take_get(self, call: Call, get: Get) -> None:
         """Makes the line of a get. One that waits stands where it ended."""
@@ -165,6 +177,7 @@ class ProcessLines:
                 "gets that were answered with an error in place of waiting: they are written "
                 "get-now"
             )
+            self.note_unreached(owner, key)
             is_at_once = True
         if call.status == 0 and not self.puts.can_see(self.process, call, owner, key):
             self.leave_out("gets of keys whose put isn't recorded")
@@ -173,6 +186,12 @@ class ProcessLines:
         at = call.begins if is_at_once else call.ends or AT_THE_END
         value = call.end.value if isinstance(call.end, GetEnd) and call.status == 0 else None
         self.add(call, words, value, at)
+
+    def note_unreached(self, owner: Process, key: bytes) -> None:
+        """Notes a get that was answered with an error in place of waiting, if its owner commits
+        the key on another node: no commit there can race with the get-now that is written."""
+        is_elsewhere = owner.recording.host != self.process.recording.host
+        self.notes.more_ordered[UNREACHED] += is_elsewhere and self.puts.commits(owner, key)
 
     def take_publish(self, call: Call, publish: Publish) -> None:
         """Makes the lines of a publish: one for each name."""
@@ -314,19 +333,29 @@ class PmixLines:
     puts: PutsByProcess
 
 
+def find_reserved(processes: Processes) -> frozenset[bytes]:
+    """The reserved keys that processes put, but for the name of the host, which Open MPI puts: the
+    library tells the same."""
+    actions = (call.action for it in processes.all for call in it.recording.calls_of_pmix)
+    keys = {it.key for it in actions if isinstance(it, Put) and is_reserved_by_pmix(it.key)}
+    return frozenset(keys - {HOST_NAME})
+
+
 def make_lines(processes: Processes, spelling: Spelling, with_mpi: bool) -> PmixLines:
     """The lines of all calls of PMIx but fences, each process by itself."""
     part, notes, puts = Part(), Notes(), PutsByProcess()
     calls: dict[Process, Sequence[Call]] = {}
+    reserved = find_reserved(processes)
+    are_written = do_write(it.recording for it in processes.all)
     for process in processes.all:
         recording = process.recording
-        note_recording(recording, notes)
+        note_recording(recording, are_written, notes)
         of_pmix = recording.calls_of_pmix
         first = len(part.lines)
-        lines = ProcessLines(process, processes, spelling, puts, part, notes)
+        lines = ProcessLines(process, processes, spelling, puts, part, notes, reserved)
         for call in of_pmix:
             lines.take(call)
-            note_directives(call, notes)
+            note_directives(call, len(processes.jobs) > 1, notes)
         with_lines = {it.call for it in part.lines[first:]}
         noted = recording.calls if with_mpi else of_pmix
         calls[process] = in_plan = [

@@ -34,7 +34,7 @@ from wire_up_tools.record.writing import Answered, list_answers
 from wire_up_tools.report.asking import Asker, stream_lines
 
 # The kinds of values that a recording has whole.
-WHOLE = (ValueKind.TEXT, ValueKind.NUMBER)
+WHOLE = (ValueKind.TEXT, ValueKind.NUMBER, ValueKind.REAL)
 # What is left out, or written otherwise, and neither tells the program anything that another run
 # could tell otherwise, nor changes what a call answers.
 TELLS_NOTHING = re.compile(

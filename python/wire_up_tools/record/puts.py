@@ -64,6 +64,10 @@ class PutsByProcess:
             key in puts.committed
         )
 
+    def commits(self, owner: Process, key: bytes) -> bool:
+        """Whether a process commits a key."""
+        return key in self.find(owner).committed
+
     def is_out_of_scope(self, reader: Process, owner: Process, key: bytes) -> bool:
         """Whether the owner puts the key, always in a scope that the reader's node isn't in."""
         is_here = reader.recording.host == owner.recording.host

@@ -36,6 +36,7 @@ from wire_up_tools.record.showing.showing import show
 from wire_up_tools.record.showing.traces import read_traces
 from wire_up_tools.record.sizes.asking import SizesRequest
 from wire_up_tools.record.sizes.doing import answer_sizes
+from wire_up_tools.record.strict_races import list_strict_races
 from wire_up_tools.record.verdicts import (
     compare_verdicts,
     finds_nothing,
@@ -44,7 +45,7 @@ from wire_up_tools.record.verdicts import (
     test_plan,
 )
 from wire_up_tools.record.writing import is_by_mpi_alone, write_answers, write_plan
-from wire_up_tools.words import EACH_RUN
+from wire_up_tools.words import EACH_RUN, LEFT_TO_LUCK
 
 # What is said of verdicts over plans that are known to be more ordered than the program.
 IN_PART = "holds only in part"
@@ -130,9 +131,20 @@ def say_part(plan: Plan) -> None:
     for before, noted in (("the run was cut off: ", notes.cut_off), ("", notes.more_ordered)):
         if any(noted.values()):
             say(f"{before}{in_part}: {count_notes(noted)}")
-    if any(notes.of_luck.values()) and not is_by_mpi_alone(plan):
-        received = count_notes(notes.of_luck)
-        say(f"{received}: another run may do otherwise after them")
+    left_out = count_notes(notes.list_left_out(True))
+    if left_out:
+        say(f"{in_part}: not in the plan: {left_out}")
+    of_luck = list_luck(plan)
+    if of_luck and not is_by_mpi_alone(plan):
+        say(f"{', '.join(of_luck)}: another run may do otherwise after them")
+
+
+def list_luck(plan: Plan) -> list[str]:
+    """What luck decided. Of ends of requests the verdicts with and without --strict tell, where
+    these differ."""
+    counted = count_notes(plan.notes.of_luck)
+    ends = plan.mpi.left_to_luck if not plan.mpi.verdicts else 0
+    return [*([counted] if counted else []), *([f"{ends} {LEFT_TO_LUCK}"] if ends else [])]
 
 
 def write_pattern(plan: Plan, path: str) -> None:
@@ -192,7 +204,9 @@ def add_verdicts(plan: Plan, make_other: Callable[[Choices], Plan], checker: Che
     other = make_other(replace(choices, is_strict=not choices.is_strict))
     plain, strict = (other, plan) if choices.is_strict else (plan, other)
     verdicts = compare_verdicts(checker, write_plan(plain), write_plan(strict))
-    return replace(plan, mpi=replace(plan.mpi, verdicts=verdicts))
+    is_named = verdicts and not choices.is_strict
+    races = list_strict_races(checker, plain, strict) if is_named else []
+    return replace(plan, mpi=replace(plan.mpi, verdicts=verdicts, strict_races=races))
 
 
 def settle_gets(plan: Plan, make_other: Callable[[Choices], Plan], checker: Checker) -> Plan:

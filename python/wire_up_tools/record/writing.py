@@ -25,6 +25,7 @@ from wire_up_tools.words import (
     CUT_OFF,
     EACH_RUN_SENTENCE,
     LEFT_OUT,
+    LEFT_OUT_HARMLESS,
     LEFT_TO_LUCK,
     MORE_ORDERED,
     MPI_COMMENT,
@@ -34,6 +35,7 @@ from wire_up_tools.words import (
     PARTED,
     PLACE_COMMENT,
     RECORDED_BY,
+    STRICT_ALONE,
     TAKEN,
     TIMED,
     UNKNOWN_PLACE,
@@ -120,6 +122,9 @@ def say_mpi(plan: Plan) -> Iterator[str]:
         )
         yield f"# `{plan.spelling.mpi_mark}`, and the fences below a line `# MPI: ..`."
     yield from say_luck(plan)
+    if mpi.strict_races:
+        yield f"# {STRICT_ALONE}"
+        yield from (f"#   {it}" for it in mpi.strict_races)
     if not choices.with_mpi or not any(it.recording.world for it in plan.processes.all):
         yield (
             f"# {WITHOUT_MPI}: if MPI orders the calls of a race, it is reported all the same."
@@ -144,10 +149,11 @@ def list_notes(plan: Plan) -> Iterator[tuple[str, Sequence[str]]]:
     yield PARTED, list(plan.partings)
     for title, counted in (
         (CUT_OFF, notes.cut_off),
-        (LEFT_OUT, notes.left_out),
+        (LEFT_OUT, notes.list_left_out(True)),
         (MORE_ORDERED, notes.more_ordered),
         (OTHERWISE_ALONE if is_by_mpi_alone(plan) else OTHERWISE_AFTER, notes.of_luck),
         (WRITTEN_OTHERWISE, notes.otherwise),
+        (LEFT_OUT_HARMLESS, notes.list_left_out(False)),
     ):
         yield title, [f"{count} {what}" for what, count in sorted(counted.items()) if count]
 

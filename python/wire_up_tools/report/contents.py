@@ -11,7 +11,7 @@ from wire_up_tools.plan_reading import read_plan
 from wire_up_tools.report.asking import CLEAN, FOUND, Asker
 from wire_up_tools.report.causes import Cause, find_causes
 from wire_up_tools.report.diagram import Diagram
-from wire_up_tools.report.findings import find_groups
+from wire_up_tools.report.findings import Finding, find_groups
 from wire_up_tools.report.orders import Order, find_order
 from wire_up_tools.report.partial import find_reasons, find_verdicts
 from wire_up_tools.report.pattern_lines import Lines
@@ -20,6 +20,7 @@ from wire_up_tools.report.placements import Elsewhere, find_elsewhere
 from wire_up_tools.report.race_diagram import make_race_diagram
 from wire_up_tools.report.replies import Failure, find_replies
 from wire_up_tools.report.runs import Runs, Search, begin_search, find_runs
+from wire_up_tools.report.strict import find_strict
 from wire_up_tools.report.waits import Wait, find_circle, find_waits
 from wire_up_tools.report.wire_up_diagram import make_wire_up_diagram
 from wire_up_tools.run.libraries.judging import Judged
@@ -123,9 +124,15 @@ class Report:
         return find_verdicts(self.plan)
 
     @property
+    def strict(self) -> Sequence[Finding]:
+        """The races that are found with --strict alone, as the head of the plan names them."""
+        return find_strict(self.plan)
+
+    @property
     def left_out(self) -> Sequence[str]:
-        """What a recorded plan leaves out."""
-        return self.plan.list_in_head(words.LEFT_OUT)
+        """What a recorded plan leaves out: first what can hide a race."""
+        titles = (words.LEFT_OUT, words.LEFT_OUT_HARMLESS)
+        return [it for title in titles for it in self.plan.list_in_head(title)]
 
 
 def make_report(path: str, asker: Asker) -> Report:

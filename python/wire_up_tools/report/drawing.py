@@ -1,4 +1,7 @@
 """Draws a diagram as SVG, with a legend of the marks that it has."""
+from collections.abc import Iterable
+
+from wire_up_tools.report.arrow_line import find_arrow_lines
 from wire_up_tools.report.diagram import Bar, Diagram, Item, Link, Style
 from wire_up_tools.report.hovering import name_arrow, name_part, write_rules
 from wire_up_tools.report.layout import (
@@ -13,8 +16,7 @@ from wire_up_tools.report.layout import (
     lay_out,
 )
 from wire_up_tools.report.markup import escape, link_to_line
-from wire_up_tools.report.phrases import cut
-from wire_up_tools.report.race_line import find_race_line
+from wire_up_tools.report.race_line import Way, find_race_line
 
 # A diagram of at most so many pixels, as two lanes are, is made to fit a narrow page, and a wider
 # one can be moved there. Past the other width the page is broad.
@@ -46,8 +48,8 @@ def draw_svg(layout: Layout, about: str) -> str:
     items = len(diagram.items)
     bars = ((number, it) for number, it in enumerate(diagram.bars, items) if it.marks)
     parts += [group(f"at {name_part(number)}", draw_bar(layout, it)) for number, it in bars]
-    arrows = enumerate(diagram.arrows)
-    parts += [group(f"way {name_arrow(number)}", draw_arrow(layout, it)) for number, it in arrows]
+    arrows = enumerate(zip(diagram.arrows, find_arrow_lines(layout)))
+    parts += [group(f"way {name_arrow(number)}", draw_arrow(*it)) for number, it in arrows]
     parts += [draw_race(layout, diagram.race)] if diagram.race else []
     calls = enumerate(diagram.items)
     parts += [group(f"at {name_part(number)}", draw_item(layout, it)) for number, it in calls]
@@ -96,29 +98,32 @@ def split_bar(layout: Layout, bar: Bar) -> list[tuple[float, float]]:
     return list(zip(left, right))
 
 
-def draw_arrow(layout: Layout, link: Link) -> str:
-    """An arrow, which ends a little before its target."""
-    start, target = layout.find_point(link.source), layout.find_point(link.target)
-    width, height = target.x - start.x, target.y - start.y
+def draw_arrow(link: Link, line: Way) -> str:
+    """An arrow along a line, which ends a little before its target."""
+    *way, last, target = line
+    width, height = target.x - last.x, target.y - last.y
     length = (width**2 + height**2) ** 0.5 or 1
     end = Point(target.x - width / length * 8, target.y - height / length * 8)
-    back = Point((start.x - end.x) / length * 8, (start.y - end.y) / length * 8)
-    aside = Point((end.y - start.y) / length * 4, (start.x - end.x) / length * 4)
+    back = Point(-width / length * 8, -height / length * 8)
+    aside = Point(height / length * 4, -width / length * 4)
     corners = (
         end,
         Point(end.x + back.x + aside.x, end.y + back.y + aside.y),
         Point(end.x + back.x - aside.x, end.y + back.y - aside.y),
     )
-    tip = " ".join(f"{it.x:.1f},{it.y:.1f}" for it in corners)
     kind = "arrow never" if link.source.style is Style.UNREACHED else "arrow"
-    ends = f'x1="{start.x:.1f}" y1="{start.y:.1f}" x2="{end.x:.1f}" y2="{end.y:.1f}"'
-    return f'<line class="{kind}" {ends}/><polygon class="tip" points="{tip}"/>'
+    drawn = f'<polyline class="{kind}" points="{write_points([*way, last, end])}"/>'
+    return f'{drawn}<polygon class="tip" points="{write_points(corners)}"/>'
+
+
+def write_points(points: Iterable[Point]) -> str:
+    """Points as SVG takes them."""
+    return " ".join(f"{it.x:.1f},{it.y:.1f}" for it in points)
 
 
 def draw_race(layout: Layout, link: Link) -> str:
     """The line between two calls that race."""
-    points = " ".join(f"{it.x:.1f},{it.y:.1f}" for it in find_race_line(layout, link))
-    return f'<polyline class="race" points="{points}"/>'
+    return f'<polyline class="race" points="{write_points(find_race_line(layout, link))}"/>'
 
 
 def draw_item(layout: Layout, item: Item) -> str:
@@ -136,10 +141,9 @@ def draw_item(layout: Layout, item: Item) -> str:
 
 def draw_label(label: Label) -> str:
     """A text of one line. Where there is no room for it it is cut, and has its whole as a title."""
-    at, is_cut = label.at, len(label.text) > label.room
-    shown = escape(cut(label.text, label.room))
-    markup = f'<text class="{label.kind}" x="{at.x:.1f}" y="{at.y:.1f}">{shown}</text>'
-    return link_to_line(markup, label.line, label.text if is_cut else None)
+    at, shown = label.at, label.shown
+    markup = f'<text class="{label.kind}" x="{at.x:.1f}" y="{at.y:.1f}">{escape(shown)}</text>'
+    return link_to_line(markup, label.line, label.text if shown != label.text else None)
 
 
 # --- the legend ---

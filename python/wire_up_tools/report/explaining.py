@@ -3,7 +3,13 @@ from collections.abc import Sequence
 from typing import Optional
 
 from wire_up_tools.plan import Call
-from wire_up_tools.report.barriers import find_move, list_changes, name_barrier, say_turns
+from wire_up_tools.report.barriers import (
+    find_move,
+    is_of_mpi,
+    list_changes,
+    name_barrier,
+    say_turns,
+)
 from wire_up_tools.report.findings import LOOKUPS, Finding, Kind
 from wire_up_tools.report.language import name_bare, name_verb, say_value
 from wire_up_tools.report.messages import find_late, mend_early, mend_late
@@ -81,6 +87,10 @@ FIX_OF_FENCE = (
 )
 FIX_BY_WAITING = "{use_wait}: it is published once and never taken away"
 NO_WAIT = ". To {wait} isn't enough: it is {why}"
+# MPI's lookup doesn't wait. What a program can do: in one job, and between two.
+BY_MPI = " (MPI_Lookup_name can't{})"
+BY_MESSAGE = ": receive a message before it that is sent after the MPI_Publish_name"
+BY_ASKING_AGAIN = ": call it until it finds the name; the race is still reported then"
 WAIT_AND_REPORTED = (
     "{use_wait}: it is published once, and taken away only after the {lookup}. "
     "The race is still reported then"
@@ -189,7 +199,7 @@ def list_fixes(finding: Finding, order: Order) -> list[str]:
         return [FIX_OF_FENCE]
     late, wait = find_late(order, finding), choose_wait(finding, order)
     ways = mend_late(order.plan, late) if late else mend_early(order.plan, finding)
-    ways += [say(wait, finding)] if wait else []
+    ways += [say(wait, finding) + say_by_mpi(finding, order, bool(ways))] if wait else []
     # A barrier may keep a message from its receive, so it isn't named beside one.
     ways += [] if late else [say_barrier(finding, order)]
     if finding.verbs != ("lookup", "publish") or wait:
@@ -197,6 +207,16 @@ def list_fixes(finding: Finding, order: Order) -> list[str]:
     if is_taken_later(finding, order):
         return [*ways, say(WAIT_AND_REPORTED, finding)]
     return [*ways[:-1], ways[-1] + say_no_wait(finding, order)]
+
+
+def say_by_mpi(finding: Finding, order: Order, is_named: bool) -> str:
+    """What a program with MPI can do in the place of a lookup that waits, unless a message is named
+    that orders the two if it is moved; nothing for others."""
+    if finding.kind is not Kind.NAME or not is_of_mpi(order.plan):
+        return ""
+    is_one_job = finding.first.rank.job == finding.second.rank.job
+    way = BY_MESSAGE if is_one_job else BY_ASKING_AGAIN
+    return BY_MPI.format("" if is_named else way)
 
 
 def choose_wait(finding: Finding, order: Order) -> Optional[str]:

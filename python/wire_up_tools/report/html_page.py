@@ -7,7 +7,7 @@ import itertools
 from collections.abc import Sequence
 
 from wire_up_tools.plan import Call, Plan
-from wire_up_tools.report import explaining, verdict
+from wire_up_tools.report import explaining, strict, verdict
 from wire_up_tools.report.causes import Cause
 from wire_up_tools.report.contents import ENDINGS, MORE_CAUSES, Detail, Report, WireUp
 from wire_up_tools.report.drawing import draw_figure
@@ -51,6 +51,7 @@ def write_page(report: Report) -> str:
     title = escape(f"{report.name}: {verdict.say_found(report)}")
     elsewhere = report.elsewhere
     parts = [write_header(report)]
+    parts += [write_strict(report)] if strict.has_more(report.plan) else []
     parts += [write_detail(report, number, it) for number, it in enumerate(report.details, 1)]
     parts += [write_others(report)] if report.others else []
     parts += [write_wire_up(report.plan, report.wire_up)] if report.wire_up else []
@@ -168,6 +169,21 @@ def write_placed(report: Report, number: int, placed: Placed) -> str:
         f'<div class="both">{figure}{write_runs(report, one, placed.runs)}</div>',
         f"<p>This placement as a plan: <code>{command}</code></p></section>",
     ]
+    return "\n".join(parts)
+
+
+def write_strict(report: Report) -> str:
+    """The races that are found with --strict alone, and how one sees them whole."""
+    parts = [f'<section class="found"><h2>{strict.TITLE}</h2>']
+    for one in report.strict:
+        parts += [
+            f"<h3>{escape(explaining.title(one, (), report.order))}</h3>",
+            write_calls(report, one, one.calls),
+            write_fix(report, one),
+        ]
+    parts += [f"<p>{strict.MEANING}</p>"] if report.strict else []
+    commands = escape_lines(strict.COMMANDS)
+    parts.append(f"<p>{strict.KEEP} {strict.SHOWS}</p><pre>{commands}</pre></section>")
     return "\n".join(parts)
 
 

@@ -5,7 +5,7 @@ from dataclasses import dataclass
 from typing import Optional
 
 from wire_up_tools.report.diagram import LABEL_WIDTH, Bar, Diagram, Item, Row
-from wire_up_tools.report.phrases import count_of, cut
+from wire_up_tools.report.phrases import count_of, cut, cut_middle
 
 # The width of a character of a label, what stands at the left of the first lane, and what stands
 # between the labels of a lane and the next.
@@ -19,6 +19,8 @@ NAME_DOWN, NODE_DOWN = 18, 34
 # How far below the middle of a row a label stands: of a call, above and below a line that leads
 # from it to the right, of a fence, and of what isn't drawn below the row.
 BESIDE, ABOVE, BELOW, ON_BAR, IN_GAP = 4, -6, 14, -8, 33
+# The kinds of the labels above a lane: its name, and what stands below that.
+OF_LANE = ("lane-name", "lane-node")
 # Between a label and what stands next in its row.
 MARGIN = 16
 # How far a label reaches above and below where it stands.
@@ -67,9 +69,15 @@ class Label:
     line: Optional[int] = None
 
     @property
+    def shown(self) -> str:
+        """As much of the text as there is room for: of a name of a lane both ends."""
+        shorten = cut_middle if self.kind in OF_LANE else cut
+        return shorten(self.text, self.room)
+
+    @property
     def box(self) -> Box:
         """The part of the picture that it takes."""
-        right = self.at.x + len(cut(self.text, self.room)) * CHARACTER
+        right = self.at.x + len(self.shown) * CHARACTER
         return Box(Point(self.at.x, self.at.y - ASCENT), Point(right, self.at.y + DESCENT))
 
 
@@ -150,8 +158,8 @@ def label_lane(layout: Layout, lane: int) -> list[Label]:
     names, x = layout.diagram.lanes[lane], layout.lanes[lane] - NAME_LEFT
     room = find_room(layout, x, lane)
     return [
-        Label(names.name, "lane-name", Point(x, NAME_DOWN), room),
-        Label(names.below, "lane-node", Point(x, NODE_DOWN), room),
+        Label(names.name, OF_LANE[0], Point(x, NAME_DOWN), room),
+        Label(names.below, OF_LANE[1], Point(x, NODE_DOWN), room),
     ]
 
 

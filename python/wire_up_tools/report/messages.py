@@ -10,7 +10,7 @@ from wire_up_tools.report.findings import Finding, Kind
 from wire_up_tools.report.language import find_message, is_from_any, name_bare, name_kind
 from wire_up_tools.report.orders import Order
 from wire_up_tools.report.places import list_later, name_spot, tell_call
-from wire_up_tools.words import LEFT_OUT, LEFT_TO_LUCK
+from wire_up_tools.words import LEFT_OUT, LEFT_OUT_HARMLESS, LEFT_TO_LUCK
 
 
 @dataclass(frozen=True)
@@ -104,7 +104,8 @@ def may_receive(plan: Plan, call: Call) -> bool:
     """Whether the rank of a call may wait for a message before it where the plan doesn't say so:
     one that is left out or polled for, or one of any source, which may stand later than it was
     received."""
-    is_left_out = any(MAY_RECEIVE.fullmatch(it) for it in plan.list_in_head(LEFT_OUT))
+    left_out = [*plan.list_in_head(LEFT_OUT), *plan.list_in_head(LEFT_OUT_HARMLESS)]
+    is_left_out = any(map(MAY_RECEIVE.fullmatch, left_out))
     is_polled = any(LEFT_TO_LUCK in it for it in plan.declared.head)
     return is_left_out or is_polled or any(is_from_any(it) for it in list_later(plan, call))
 

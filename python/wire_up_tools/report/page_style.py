@@ -69,11 +69,12 @@ svg .racing{font-weight:700}
 .dot{fill:var(--ink)}circle.unreached{fill:var(--card);stroke:var(--soft);stroke-width:1.5}\
 svg text.unreached{fill:var(--soft)}.never{stroke-dasharray:3 3}
 circle.racing{fill:var(--loud)}rect.waiting{fill:var(--wait);stroke:var(--ink)}
-.arrow{stroke:var(--ink);stroke-width:1.2}.tip{fill:var(--ink)}\
+.arrow{fill:none;stroke:var(--ink);stroke-width:1.2}.tip{fill:var(--ink)}\
 figure:has(style):has(.at:is(:hover,:focus-within)) :is(.at,.way){opacity:.25}\
 .race{fill:none;stroke-linejoin:round;stroke:var(--loud);stroke-width:3.5;stroke-dasharray:7 5}
 @media print{:root{--paper:#fff;--card:#fff;--ink:#000;--soft:#333;--line:#999;--loud:#000;\
 --loud-ink:#000;--quiet:#000;--wait:#fff;--good:#000}
-.wide{overflow:visible;background:none}svg{max-width:100%;height:auto}.zoom{display:none}\
-section,header{break-inside:avoid}section.long{break-inside:auto}}
+body{padding:0}.wide{overflow:visible;background:none}.zoom{display:none}\
+svg:not(.swatch){max-width:100%;height:auto;max-height:16cm}\
+:is(h1,h2,h3,dt){break-after:avoid}:is(figure,tr,.fix,header){break-inside:avoid}}
 """

@@ -5,19 +5,13 @@ from collections.abc import Sequence
 from typing import Optional
 
 from wire_up_tools import words
+from wire_up_tools.left_out import can_hide
 from wire_up_tools.plan import Plan, list_below
 from wire_up_tools.report.phrases import count_of, list_names
+from wire_up_tools.report.singular import say_counted
 from wire_up_tools.report.tried import say_turned
 
-# What is left out and can hide no race: it changes nothing that others see; or it is a part of
-# MPI's order, and without it the plan is less ordered than the program.
-HARMLESS = re.compile(
-    r"gets of a wildcard rank|.* of reserved keys|.*, since they can't change a finding"
-    r"|calls of (MPI_\w+|PMIx_(Store_internal|Job_control|Query_info|Log)(_nb)?)"
-    r"|directives pmix\.timeout"
-    r"|(collectives|messages|receives) .*"
-)
-POLLED = re.compile(rf"(\d+) {words.LEFT_TO_LUCK} .*: {words.TAKEN}\.")
+POLLED = re.compile(rf"(\d+) {words.LEFT_TO_LUCK} .*: (?:({words.TAKEN})|.*)\.")
 # How a recording that was cut off shows among the lists of the head.
 CUT_OFF = re.compile(r"(\d+) (processes whose recordings end before|last lines of recordings)\b.*")
 
@@ -40,7 +34,7 @@ def find_in_head(head: Sequence[str]) -> list[str]:
 def find_hidden(head: Sequence[str]) -> list[str]:
     """What a head says that can hide a race in one run."""
     cut_off, left_out = say_cut_off(head), say_left_out(head)
-    ordered = list_below(head, words.MORE_ORDERED)
+    ordered = [say_counted(it) for it in list_below(head, words.MORE_ORDERED)]
     reasons = [cut_off, say_polled(head), *ordered, say_received(head), left_out]
     return [it for it in reasons if it]
 
@@ -81,18 +75,20 @@ def say_timed(plan: Plan) -> Optional[str]:
 
 def say_polled(head: Sequence[str]) -> Optional[str]:
     """Of how many polls the order of one run is taken, and what the verdict is without."""
-    found = (POLLED.fullmatch(it) for it in head)
-    count = next((int(it[1]) for it in found if it), 0)
-    if not count or is_by_mpi_alone(head):
+    found = next(filter(None, map(POLLED.fullmatch, head)), None)
+    if not found or is_by_mpi_alone(head):
         return None
     verdicts = find_both(head)
     both = f": {verdicts}" if verdicts else ""
-    return f"the order of {count_of(count, 'polled request')} is that of this run{both}"
+    polled = count_of(int(found[1]), "polled request")
+    if not found[2]:
+        return f"another run may find {polled} open, and do otherwise{both}"
+    return f"the order of {polled} is that of this run{both}"
 
 
 def say_received(head: Sequence[str]) -> Optional[str]:
     """What could have come otherwise, so that another run may do something else."""
-    listed = list_below(head, words.OTHERWISE_AFTER)
+    listed = [say_counted(it) for it in list_below(head, words.OTHERWISE_AFTER)]
     return f"another run may do otherwise after {list_names(listed)}" if listed else None
 
 
@@ -106,7 +102,7 @@ def say_own_code(plan: Plan) -> Optional[str]:
     decides nothing, or can lead to one."""
     if not is_by_mpi_alone(plan.declared.head):
         return None
-    listed = plan.list_in_head(words.OTHERWISE_ALONE)
+    listed = [say_counted(it) for it in plan.list_in_head(words.OTHERWISE_ALONE)]
     of_luck = list_names(listed) if listed else "requests that it may find open"
     return (
         f"Another run may do otherwise after {of_luck}, but makes no call of PMIx by that. "
@@ -141,6 +137,6 @@ def hides_race(plan: Plan) -> bool:
 def say_left_out(head: Sequence[str]) -> Optional[str]:
     """What was left out that can hide a race."""
     counted = (it.partition(" ") for it in list_below(head, words.LEFT_OUT))
-    found = [f"{count} {what}" for count, _, what in counted if not HARMLESS.fullmatch(what)]
-    found = [it for it in found if not CUT_OFF.fullmatch(it)]
+    found = [f"{count} {what}" for count, _, what in counted if can_hide(what)]
+    found = [say_counted(it) for it in found if not CUT_OFF.fullmatch(it)]
     return f"not in the plan: {list_names(found)}" if found else None

@@ -23,6 +23,14 @@ def cut(text: str, most: int) -> str:
     return text if len(text) <= most else f"{text[: most - 1]}…"
 
 
+def cut_middle(text: str, most: int) -> str:
+    """A text of at most so many characters, of which the first and the last are kept."""
+    if len(text) <= most:
+        return text
+    end = (most - 1) // 2
+    return f"{text[: most - 1 - end]}…{text[len(text) - end:]}"
+
+
 def list_names(names: Sequence[str]) -> str:
     """Names in a row, cut where there are many."""
     shown = ", ".join(names[:NAMES])

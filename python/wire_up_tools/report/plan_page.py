@@ -43,6 +43,7 @@ def find_named(report: Report) -> set[int]:
     for placed in report.elsewhere.placed if report.elsewhere else ():
         calls += placed.cause.first.calls
         found |= placed.diagram.lines
+    calls += (call for it in report.strict for call in it.calls)
     calls += (call for it in report.others[:MORE_CAUSES] for call in it.first.calls)
     calls += (it for it, _ in list_shown(report.judged, report.plan)) if report.judged else ()
     return found.union(it.line for it in calls)

@@ -3,7 +3,7 @@ import textwrap
 from collections.abc import Iterable
 
 from wire_up_tools.plan import Call
-from wire_up_tools.report import explaining, verdict
+from wire_up_tools.report import explaining, strict, verdict
 from wire_up_tools.report.contents import ENDINGS, Detail, Report, WireUp
 from wire_up_tools.report.findings import PAIRS, Finding
 from wire_up_tools.report.language import name_kind
@@ -15,6 +15,7 @@ from wire_up_tools.report.placements import Placed
 from wire_up_tools.report.places import say_place
 from wire_up_tools.report.readers import list_told
 from wire_up_tools.report.runs import Outcome, Run, Runs
+from wire_up_tools.report.singular import say_counted
 from wire_up_tools.report.text_drawing import draw_lines
 from wire_up_tools.report.tried import write_tried_text
 
@@ -34,7 +35,9 @@ def write_text(report: Report) -> str:
         lines.append(f"The recorder's verdicts: {report.verdicts}.")
     lines += verdict.say_besides(report)
     if report.plan.is_recorded:
-        lines.append(f"{verdict.say_recording(report)}: {'; '.join(report.left_out)}".rstrip(": "))
+        left_out = "; ".join(map(say_counted, report.left_out))
+        lines.append(f"{verdict.say_recording(report)}: {left_out}".rstrip(": "))
+    lines += ["", *write_strict(report)] if strict.has_more(report.plan) else []
     for number, detail in enumerate(report.details, 1):
         lines += ["", *write_detail(report, number, detail)]
     if report.others:
@@ -73,6 +76,19 @@ def write_detail(report: Report, number: int, detail: Detail) -> list[str]:
         *write_runs(detail.runs),
         *write_tried_text(report.plan, one),
     ]
+
+
+def write_strict(report: Report) -> list[str]:
+    """The races that are found with --strict alone, and how one sees them whole."""
+    lines = [f"{strict.TITLE}:"]
+    for one in report.strict:
+        lines += [
+            f"   {explaining.title(one, (), report.order)}",
+            *(f"   {describe_call(report, it)}" for it in one.calls),
+            f"   Fix: {explaining.fix(one, report.order)}",
+        ]
+    lines += [f"   {strict.MEANING}"] if report.strict else []
+    return [*lines, f"   {strict.KEEP} {strict.SHOWS}", *(f"      {it}" for it in strict.COMMANDS)]
 
 
 def write_placed(report: Report, placed: Placed) -> list[str]:

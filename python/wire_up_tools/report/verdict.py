@@ -1,4 +1,6 @@
 """The verdict of a report in words: what was found, what it means, and how large the plan is."""
+from collections.abc import Sequence
+
 from wire_up_tools.report.causes import Cause
 from wire_up_tools.report.contents import Report
 from wire_up_tools.report.findings import MOST_GROUPS, Kind
@@ -75,10 +77,17 @@ def say_placements(report: Report) -> list[str]:
     if not elsewhere or not elsewhere.causes:
         return []
     said = [f"On the placement written: {say_races(report) or 'nothing'}"]
+    placed: dict[str, list[int]] = {say_ranks(it): [] for it in elsewhere.placed}
     for it in elsewhere.placed:
-        what = count_of(it.cause.count, "this race", "races such as this")
-        said.append(f"{say_ranks(it)[0].lower()}{say_ranks(it)[1:]}: {what.removeprefix('1 ')}")
+        placed[say_ranks(it)].append(it.cause.count)
+    said += [f"{ranks[0].lower()}{ranks[1:]}: {say_such(it)}" for ranks, it in placed.items()]
     return [f"{'; '.join(said)}."]
+
+
+def say_such(counts: Sequence[int]) -> str:
+    """How many races such as those told of a placement there are, by the counts of its causes."""
+    such = "races such as these" if len(counts) > 1 else "races such as this"
+    return count_of(sum(counts), "this race", such).removeprefix("1 ")
 
 
 def say_pattern(report: Report) -> list[str]:

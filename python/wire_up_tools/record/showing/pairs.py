@@ -18,6 +18,8 @@ CHANGE, ASK, WAIT = ("publish", "unpublish"), ("lookup", "get-now"), ("lookup-wa
 MOST_FINDINGS = 20_000
 
 Pair = tuple[Target, Target]
+# A name, or a key with its owner.
+Use = tuple[str, ...]
 
 
 @dataclass
@@ -28,28 +30,32 @@ class Uses:
     asks: list[Call] = field(default_factory=list)
 
 
-def list_uses(trial: Trial, verbs: Sequence[str]) -> Mapping[tuple[str, ...], Uses]:
+def walk_uses(trial: Trial, rank: str) -> Iterator[tuple[Call, Use]]:
+    """What the calls of a rank use, in their order."""
+    stored: list[str] = []
+    for call in trial.plan.calls_of[rank]:
+        if not trial.naming.is_of_program(call):
+            continue
+        if call.verb == "put":
+            stored.append(call.about)
+        yield from ((call, it) for it in name_uses(call, stored))
+        stored = [] if call.verb == "commit" else stored
+
+
+def list_uses(trial: Trial, verbs: Sequence[str]) -> Mapping[Use, Uses]:
     """The uses of each name and each key of a plan: of a key the commit that stores it counts.
     Those that ask have one of some verbs."""
-    found: dict[tuple[str, ...], Uses] = {}
-    for rank in trial.plan.ranks:
-        stored: list[str] = []
-        for call in trial.plan.calls_of[rank.name]:
-            if not trial.naming.is_of_program(call):
-                continue
-            if call.verb == "put":
-                stored.append(call.about)
-            for use in name_uses(call, stored):
-                uses = found.setdefault(use, Uses())
-                if call.verb in verbs:
-                    uses.asks.append(call)
-                elif call.verb not in (*ASK, *WAIT):
-                    uses.changes.append(call)
-            stored = [] if call.verb == "commit" else stored
+    found: dict[Use, Uses] = {}
+    for call, use in (it for rank in trial.plan.ranks for it in walk_uses(trial, rank.name)):
+        uses = found.setdefault(use, Uses())
+        if call.verb in verbs:
+            uses.asks.append(call)
+        elif call.verb not in (*ASK, *WAIT):
+            uses.changes.append(call)
     return found
 
 
-def name_uses(call: Call, stored: Iterable[str]) -> Iterator[tuple[str, ...]]:
+def name_uses(call: Call, stored: Iterable[str]) -> Iterator[Use]:
     """What a call uses: a name, or keys of a process, of which a commit stores some. Keys of MPI's
     own library are left out."""
     if call.verb in CHANGE or call.verb in ("lookup", "lookup-wait"):
@@ -93,13 +99,13 @@ def find_pairs(trial: Trial, verbs: Sequence[str]) -> Iterator[Pair]:
     if checker is None:
         raise Refused("--turn needs the program `wire_up`, which knows the order: see --checker")
     known, done = read_findings(trial, checker), set()
-    for uses in list_uses(trial, verbs).values():
-        for one, other in list_candidates(uses):
-            names = frozenset((one.name, other.name))
-            if names in known or names in done:
-                continue
-            done.add(names)
-            pair = [trial.naming.find(it.rank.name, it.number) for it in (one, other)]
-            ordered = sort_pair(trial, checker, pair)
-            if ordered:
-                yield ordered[0], ordered[1]
+    uses = list_uses(trial, verbs).values()
+    for one, other in (it for them in uses for it in list_candidates(them)):
+        names = frozenset((one.name, other.name))
+        if names in known or names in done:
+            continue
+        done.add(names)
+        pair = [trial.naming.find(it.rank.name, it.number) for it in (one, other)]
+        ordered = sort_pair(trial, checker, pair)
+        if ordered:
+            yield ordered[0], ordered[1]

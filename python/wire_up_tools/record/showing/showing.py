@@ -134,9 +134,9 @@ def say_kept(trial: Trial, kept: int, count: int, are_all: bool, say: Say) -> st
     is_whole = are_all and kept == count
     of_all = f", {ALL_PAIRS}" if is_whole else ""
     if is_whole and EACH_RUN_SENTENCE in trial.plan.declared.head:
-        say(f"{EACH_RUN}; and it kept each of the {count} orders that could change them")
+        say(f"{EACH_RUN}; orders that could change them, and that it kept: {count} of {count}")
     else:
-        say(f"{kept} of {count} orders were turned round in vain: the program keeps them")
+        say(f"orders that were turned round in vain: {kept} of {count}")
     return f"# {TURNED_IN_VAIN} {tell_day()}: {kept} of {count} pairs{of_all}"
 
 
@@ -152,13 +152,13 @@ def say_turns(trial: Trial, turns: Sequence[Turn], are_all: bool, say: Say) -> l
         head.append(say_kept(trial, kept, len(turns), are_all, say))
     if alarms:
         say(
-            f"{len(alarms)} of {len(turns)} orders aren't imposed, and calls are answered "
-            "otherwise: the verdict over this plan doesn't hold for every run"
+            f"orders that aren't imposed, so that calls are answered otherwise: {len(alarms)} of "
+            f"{len(turns)}; the verdict over this plan doesn't hold for every run"
         )
     return head
 
 
-def turn_all(trial: Trial, first: Material, asked: Asked, result: Result, say: Say) -> None:
+def turn_all(trial: Trial, of: Material, asked: Asked, result: Result, say: Say) -> None:
     """Turns the orders of a plan round, and says what came of each. Raises Refused, NotRun,
     OSError."""
     pairs, are_all = take_pairs(trial, asked, say)
@@ -167,7 +167,7 @@ def turn_all(trial: Trial, first: Material, asked: Asked, result: Result, say: S
         say("the plan orders no pair of calls that could be answered otherwise")
         return
     say_before(f"orders that are turned round: {len(pairs)}", len(groups), say)
-    reference = find_first(first, trial)
+    reference = find_first(of, trial)
     try:
         for number, (held, others) in enumerate(groups, 1):
             for turn in turn_round(trial, reference, held, others, f"turn-{number}"):

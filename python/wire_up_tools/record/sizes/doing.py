@@ -41,6 +41,7 @@ from wire_up_tools.record.writing import list_notes as list_plan_notes
 from wire_up_tools.record.writing import is_by_mpi_alone, say_luck, say_own_code, write_plan
 from wire_up_tools.words import (
     CUT_OFF,
+    LEFT_OUT_HARMLESS,
     MORE_ORDERED,
     OTHERWISE_AFTER,
     PATTERN_BY,
@@ -169,7 +170,7 @@ def join_notes(runs: Sequence[Made]) -> Iterator[tuple[str, Sequence[str]]]:
     found: dict[str, Counter[str]] = {}
     for run_of in runs:
         for title, them in list_plan_notes(run_of.plan):
-            if title != WRITTEN_OTHERWISE:
+            if title not in (WRITTEN_OTHERWISE, LEFT_OUT_HARMLESS):
                 counted = (it.partition(" ") for it in them)
                 found.setdefault(title, Counter())
                 found[title] |= Counter({what: int(count) for count, _, what in counted})

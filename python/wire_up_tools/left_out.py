@@ -1,0 +1,18 @@
+"""Which of what a recorded plan leaves out can hide a race: one rule for what the recorder says,
+for the head of the plan, and for pages."""
+import re
+
+# What can hide no race: it changes nothing that others see, or what it does is judged otherwise; or
+# it is a part of MPI's order, and without it the plan is less ordered than the program.
+HARMLESS = re.compile(
+    r"gets of a wildcard rank|(gets|puts) of reserved keys|.*, since they can't change a finding"
+    r"|calls of (MPI_\w+|PMIx_(Store_internal|Job_control|Query_info|Log)(_nb)?)"
+    r"|directives pmix\.(timeout|persist|range)"
+    r"|(collectives|messages|receives) .*"
+)
+
+
+def can_hide(what: str) -> bool:
+    """Whether something that is left out, in the words of the head of a plan without its count, can
+    hide a race."""
+    return not HARMLESS.fullmatch(what)

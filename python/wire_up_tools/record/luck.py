@@ -1,0 +1,46 @@
+"""Which calls luck decides: their result depends on which rank was faster, or behind them another
+rank's memory or file is read, or they say what is done when an event comes. They order nothing."""
+import re
+from collections.abc import Iterable
+
+from wire_up_tools.record.calls import Collective
+from wire_up_tools.record.recordings import Recording
+
+OF_LUCK = re.compile(
+    r"MPI_(Cancel( of a receive)?|Comm_accept|Fetch_and_op|Compare_and_swap"
+    r"|(Get_a|Rget_a|A|Ra)ccumulate(_c)?|File_i?(read|write)_shared(_c)?"
+    r"|File_get_(position_shared|size)|Parrived|Request_get_status_\w+|Win_lock(_all)?"
+    r"|File_open with MPI_MODE_EXCL|File_(open|delete) that failed"
+    r"|Win_shared_query(_c)?|Wait(any|some) of sends"
+    r"|(\w+ of any source|Im?probe) in a communicator that isn't known)"
+    r"|PMIx_Register_event_handler"
+)
+# What reads a file, and what writes one. What nobody writes is told at the start.
+READING = re.compile(r"MPI_File_i?read(_at|_all|_ordered)*(_begin|_end)?(_c)?")
+WRITING = re.compile(r"MPI_File_i?write\w*")
+SHARED_WINDOW = "win_allocate_shared"
+
+
+def do_write(recordings: Iterable[Recording]) -> bool:
+    """Whether a process writes files by MPI."""
+    return any(WRITING.fullmatch(name) for it in recordings for name in it.others)
+
+
+def is_of_luck(name: str, are_written: bool) -> bool:
+    """Whether luck decides a call of this name, where files are written by MPI or aren't."""
+    return bool(OF_LUCK.fullmatch(name) or are_written and READING.fullmatch(name))
+
+
+def count_shared_windows(recording: Recording) -> int:
+    """How many windows a process allocates that others share: they may read it as memory."""
+    shared = (it.action for it in recording.calls if isinstance(it.action, Collective))
+    return sum(
+        it.name == SHARED_WINDOW and count_members(recording, it.communicator) > 1
+        for it in shared
+    )
+
+
+def count_members(recording: Recording, communicator: int) -> int:
+    """How many processes a communicator has; two where that isn't known."""
+    known = recording.communicators.get(communicator)
+    return len(known.ranks) if known else 2

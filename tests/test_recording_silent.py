@@ -1,0 +1,229 @@
+"""Tests programs with a race that a plan of one run doesn't have, or with a premise that fails:
+each is found, or a line says what the verdict rests on: on standard error, in the head and on the
+page."""
+import unittest
+from collections.abc import Sequence
+
+from tapes import Tape, in_world, make_world, read_file, read_scripts
+from test_recording_premises import COLLECTING, PremisesCase, exchange_cards
+from wire_up_tools.words import LEFT_OUT, LEFT_OUT_HARMLESS, MORE_ORDERED, OTHERWISE_AFTER
+
+IN_PART = "a verdict over this plan holds only in part: "
+AT_ONCE = "pmix.immediate=number:1:1"
+
+
+def look_up_behind(tapes: Sequence[Tape], name: str = "n") -> None:
+    """One rank publishes a name, and the other, which found that it had come so far, waits for it:
+    else it would have looked it up at once."""
+    tapes[0].call(f"publish blocks {name}=text:v -")
+    tapes[1].call(f"lookup blocks :{name} pmix.wait=number:4:1", f"0 {name}=text:v")
+
+
+class SilentCase(PremisesCase):
+    """What is said of recordings."""
+
+    def hold(self, tapes: Sequence[Tape], title: str, what: str, *words: str) -> str:
+        """Tests that it is said everywhere, and answers what is said on standard error."""
+        said = self.record(tapes, *words)
+        self.assertIn(what, said)
+        self.assertNotIn("each run", said)
+        head = read_file(self.plan).partition("\nrehearsal 1\n")[0]
+        self.assertIn(f"\n# {title}\n", head)
+        self.assertIn(f"\n#   {what}", head.partition(f"\n# {title}")[2])
+        self.assertTrue(any(what in it for it in self.report().reasons), self.report().reasons)
+        return said
+
+    def hold_harmless(self, tapes: Sequence[Tape], what: str) -> None:
+        """Tests that what is left out stands in the head, and nothing is in part."""
+        self.assertNotIn("in part", self.record(tapes))
+        self.assertIn(f"\n# {LEFT_OUT_HARMLESS}\n#   {what}\n", read_file(self.plan))
+        self.assertEqual(self.report().reasons, [])
+
+
+class LuckTest(SilentCase):
+    """What decided by luck which arm of the program was taken."""
+
+    def test_what_a_file_held(self) -> None:
+        """One reads what another may have written. What nobody writes is told at the start."""
+        tapes = make_world(2)
+        look_up_behind(tapes)
+        tapes[1].say("others MPI_File_read_at 1")
+        self.hold_harmless(tapes, "1 calls of MPI_File_read_at")
+        tapes[0].say("others MPI_File_write_at 1")
+        self.hold(tapes, OTHERWISE_AFTER, "1 calls of MPI_File_read_at")
+
+    def test_ways_to_read_a_file(self) -> None:
+        for way in ("read", "iread_at", "read_at_all_begin", "read_all_c", "read_ordered_end"):
+            tapes = make_world(2)
+            tapes[0].say("others MPI_File_write 1").say(f"others MPI_File_{way} 2")
+            with self.subTest(way):
+                self.hold(tapes, OTHERWISE_AFTER, f"2 calls of MPI_File_{way}")
+
+    def test_whether_a_file_was_there(self) -> None:
+        for what in ("open with MPI_MODE_EXCL", "open that failed", "delete that failed"):
+            tapes = make_world(2)
+            tapes[0].say(f"other MPI_File_{what}")
+            with self.subTest(what):
+                self.hold(tapes, OTHERWISE_AFTER, f"1 calls of MPI_File_{what}")
+
+    def test_a_shared_window(self) -> None:
+        """Its memory may be read without MPI_Win_shared_query; but not that of one process."""
+        tapes = make_world(2)
+        for tape in tapes:
+            tape.call("collective win_allocate_shared 1", "0 all")
+        look_up_behind(tapes)
+        self.hold(tapes, OTHERWISE_AFTER, "2 calls of MPI_Win_allocate_shared")
+        alone = [in_world(0, 1).call("collective win_allocate_shared 1", "0 all")]
+        self.assertNotIn("shared", self.record(alone))
+
+    def test_a_poll_that_gives_up(self) -> None:
+        """The verdicts with and without --strict are the same; the branch isn't."""
+        for words in ((), ("--strict",)):
+            tapes = make_world(2)
+            tapes[0].begin("send 1 1 3 4")
+            tapes[1].call("receive 1 0 3", "0 0 3 4 poll")
+            look_up_behind(tapes)
+            said = self.record(tapes, *words)
+            ends = "1 ends of requests that another run may have found open"
+            self.assertIn(f"{ends}: another run may do otherwise after them\n", said)
+            self.assertIn(f"\n# {ends}", read_file(self.plan))
+            self.assertIn("1 polled request", self.report().reasons[0])
+
+
+class GetsTest(SilentCase):
+    """Gets that a rule can't have."""
+
+    def test_the_own_store(self) -> None:
+        """PMIX_OPTIONAL asks what the caller's own store has, whatever was brought to its node."""
+        tapes = make_world(2)
+        exchange_cards(tapes)
+        tapes[1].call("get blocks job:0 :card pmix.optional=number:1:1", "0 text:card")
+        tapes[1].say("others PMIx_Get_of_own_store 1")
+        self.hold(tapes, MORE_ORDERED, "1 gets of what is in the caller's own store")
+
+    def test_an_error_from_another_node(self) -> None:
+        """The get-now that is written for it can't race with a commit there."""
+        what = "1 gets from another node that were answered with an error in place of waiting"
+        tapes = [Tape(0, host="n0"), Tape(1, host="n1")]
+        tapes[0].call("put remote a text:1").call("commit")
+        tapes[1].call("get blocks job:0 :a -", "-46")
+        self.hold(tapes, MORE_ORDERED, what)
+        self.assertEqual(read_scripts(read_file(self.plan))[1], ["get-now app:0 a"])
+
+    def test_an_error_from_the_own_node(self) -> None:
+        """The race is found. Of a key that is never put there is none."""
+        tapes = make_world(2)
+        tapes[0].call("put global a text:1").call("commit")
+        tapes[1].call("get blocks job:0 :a -", "-46")
+        self.record(tapes)
+        self.assertEqual(self.report().status, 1)
+        tapes = [Tape(0, host="n0"), Tape(1, host="n1")]
+        tapes[1].call("get blocks job:0 :none -", "-46")
+        self.assertNotIn("in part", self.record(tapes))
+
+    def test_all_keys(self) -> None:
+        tapes = make_world(2)
+        tapes[0].call("put global a text:1").call("commit")
+        tapes[1].call(f"get blocks job:0 every {AT_ONCE}", "0")
+        said = self.hold(tapes, LEFT_OUT, "1 gets of every key")
+        self.assertIn(f"{IN_PART}not in the plan: 1 gets of every key\n", said)
+
+    def test_names_and_keys_that_begin_like_those_of_pmix(self) -> None:
+        tapes = make_world(2)
+        tapes[0].call("publish blocks - pmixer-port=text:v")
+        tapes[1].call("lookup blocks :pmixer-port -", "0 pmixer-port=text:v")
+        self.hold(tapes, LEFT_OUT, "1 directives pmixer-port")
+        self.hold(tapes, LEFT_OUT, "1 lookups of reserved keys")
+        tapes = make_world(2)
+        tapes[0].call("put global pmix.own text:v").call("commit")
+        tapes[1].call(f"get blocks job:0 :pmix.own {AT_ONCE}", "0 text:v")
+        self.hold(tapes, LEFT_OUT, "1 gets of reserved keys that a process puts")
+        tapes = make_world(2)
+        tapes[0].call("put global pmix.hname text:v").call("commit")
+        tapes[1].call(f"get blocks job:0 :pmix.hname {AT_ONCE}", "0 text:v")
+        self.hold_harmless(tapes, "1 gets of reserved keys")
+
+
+class DirectivesTest(SilentCase):
+    """Directives, as a library takes them."""
+
+    def ask(self, directive: str) -> list[Tape]:
+        """Two ranks of which one asks for what the other has, with a directive."""
+        tapes = make_world(2)
+        tapes[0].call("put global a text:1").call("commit")
+        tapes[1].call(f"get blocks job:0 :a {directive}", "0 text:1")
+        return tapes
+
+    def test_short_times(self) -> None:
+        """Of every type of a number: `real` is that of a float or a double."""
+        what = "1 waits for less than a minute at most (pmix.timeout)"
+        for time in ("number:4:1", "number:8:59", "real:8:1.000000", "real:4:0.500000"):
+            with self.subTest(time):
+                self.hold(self.ask(f"pmix.timeout={time}"), MORE_ORDERED, what)
+
+    def test_long_times(self) -> None:
+        for time in ("number:4:60", "number:4:0", "real:8:600.000000", "real:8:0.000000"):
+            with self.subTest(time):
+                self.hold_harmless(self.ask(f"pmix.timeout={time}"), "1 directives pmix.timeout")
+
+    def test_times_that_cannot_be_read(self) -> None:
+        for time in ("other:8", "type:18", "text:1", "none"):
+            with self.subTest(time):
+                what = "1 directives pmix.timeout of a time that can't be read"
+                self.hold(self.ask(f"pmix.timeout={time}"), LEFT_OUT, what)
+
+    def find_verb(self, directive: str) -> str:
+        """The verb with which a get is written."""
+        self.record(self.ask(directive))
+        return read_scripts(read_file(self.plan))[1][0].split(" ")[0]
+
+    def test_numbers_and_texts_for_truths(self) -> None:
+        """OpenPMIx takes a number that is no `bool` for no truth, and texts for yes or no."""
+        for value in ("number:1:1", "text:1", "text:true", "text:Yes", "none"):
+            self.assertEqual(self.find_verb(f"pmix.immediate={value}"), "get-now", value)
+        for value in ("number:1:0", "number:4:1", "number:8:1", "real:8:1.000000", "text:0"):
+            self.assertEqual(self.find_verb(f"pmix.immediate={value}"), "get", value)
+
+    def test_a_fence_that_is_to_collect_by_a_number(self) -> None:
+        tapes = make_world(2)
+        for tape in tapes:
+            tape.call("fence blocks all pmix.collect=number:4:1").call(COLLECTING)
+        self.record(tapes)
+        found = read_scripts(read_file(self.plan))[0]
+        self.assertEqual(found, ["fence all", "fence all collect"])
+
+    def publish(self, own: str, other: str) -> list[Tape]:
+        """Two ranks of which one publishes a name in a range, and one looks it up in another."""
+        tapes = make_world(2)
+        tapes[0].call(f"publish blocks n=text:v pmix.range={own}")
+        tapes[1].call(f"lookup blocks :n pmix.wait=number:4:1,pmix.range={other}", "0 n=text:v")
+        return tapes
+
+    def test_usual_ranges(self) -> None:
+        """Those of the session and of all; and of the namespace, where there is one."""
+        for own, other in ((4, 4), (5, 5), (4, 5), (3, 3)):
+            tapes = self.publish(f"number:1:{own}", f"number:1:{other}")
+            with self.subTest((own, other)):
+                self.hold_harmless(tapes, "2 directives pmix.range")
+
+    def test_a_number_that_no_range_has(self) -> None:
+        """Open MPI 5.0.7 looks names up with one; of a publish it says nothing."""
+        self.hold_harmless(self.publish("number:1:4", "number:1:17"), "2 directives pmix.range")
+        tapes = self.publish("number:1:17", "number:1:4")
+        self.hold(tapes, LEFT_OUT, "1 directives pmix.range of some processes")
+
+    def test_other_ranges(self) -> None:
+        for value in ("number:1:1", "number:1:2", "number:1:6", "number:1:7", "type:33", "text:4"):
+            with self.subTest(value):
+                what = "1 directives pmix.range of some processes"
+                self.hold(self.publish("number:1:4", value), LEFT_OUT, what)
+                self.hold(self.publish(value, "number:1:4"), LEFT_OUT, what)
+
+    def test_the_range_of_one_of_several_jobs(self) -> None:
+        tapes = [Tape(0, "first"), Tape(0, "second")]
+        tapes[0].call("publish blocks n=text:v pmix.range=number:1:3").say("others PMIx_Spawn 1")
+        self.hold(tapes, LEFT_OUT, "1 directives pmix.range of some processes")
+
+
+if __name__ == "__main__":
+    unittest.main()
