@@ -1,15 +1,28 @@
 """Tests patterns that are made of plans: they expand to the plan that they come from."""
 import os
+import re
 import tempfile
 import unittest
 from collections.abc import Mapping, Sequence
 from typing import Optional
 
-from tapes import SHIPPED, read_file, run_recorder
+from tapes import (
+    SHIPPED,
+    Tape,
+    make_world,
+    plan_tapes,
+    read_file,
+    run_recorder,
+    write_file,
+)
+from wire_up_tools.failures import Refused
+from wire_up_tools.record.patterning import find_pattern, holds_in_part
 from wire_up_tools.record.patterns.expanding import expand, read_pattern
 from wire_up_tools.record.patterns.finding import Broken
+from wire_up_tools.record.patterns.indexing import index_numbers, index_order
 from wire_up_tools.record.patterns.scripts import Script
 from wire_up_tools.record.patterns.writing import Pattern, make_pattern, say_broken
+from wire_up_tools.words import CUT_OFF
 
 CARDS = """\
 pattern 1
@@ -171,31 +184,144 @@ class PatternTest(unittest.TestCase):
         self.assertNotIn("for ranks\n", found.text)
 
 
+class IndexTest(unittest.TestCase):
+    """Numbers of ranks in keys and names."""
+
+    def index(self, *scripts: str) -> list[str]:
+        """The scripts of a job, with the numbers of ranks in their keys as indices."""
+        found = index_numbers(make_scripts(*scripts))
+        return ["; ".join(" ".join(words) for words in it.calls) for it in found]
+
+    def test_a_number_that_is_the_rank(self) -> None:
+        self.assertEqual(
+            self.index("publish port0 v", "publish port1 v", "lookup port1; unpublish *"),
+            ["publish port#[app:0] v", "publish port#[app:1] v",
+             "lookup port#[app:1]; unpublish *"],
+        )
+        self.assertEqual(
+            self.index("put global q-0-7 v", "get-now app:0 q-0-7; get app:2 q-2-7", "commit"),
+            ["put global q-#-7[app:0] v", "get-now app:0 q-#-7[app:0]; get app:2 q-#-7[app:2]",
+             "commit"],
+        )
+
+    def test_numbers_that_stay(self) -> None:
+        """One that is no rank, always the same, with a 0 in front, or in another index."""
+        for names in (("a0", "a3"), ("a1", "a1"), ("a00", "a01"), ("a0[x]", "a1[x]"), ("#0", "#1")):
+            scripts = [f"lookup {it}" for it in names]
+            self.assertEqual(self.index(*scripts), scripts)
+
+    def test_no_two_names_become_one(self) -> None:
+        scripts = [f"lookup a{n}; lookup a{n}b; lookup {n}a; lookup {n}a{n}" for n in range(3)]
+        found = [words for it in self.index(*scripts) for words in it.split("; ")]
+        self.assertEqual(len(set(found)), len(found))
+
+    def test_names_of_order(self) -> None:
+        """A message, one that is for all, one that has begun, and one of several jobs."""
+        one = {str(n): f"app:{n}" for n in range(3)}
+        two = {f"app{n}.{m}": f"app{n}:{m}" for n in range(2) for m in range(2)}
+        for name, ranks, indexed in (
+            ("mpi.1.0.2", one, "mpi.2[app:1,app:0]"),
+            ("mpi.1.all.2", one, "mpi.all.2[app:1]"),
+            ("mpi.0.1.1.begun", one, "mpi.1.begun[app:0,app:1]"),
+            ("fence_.2.1", one, "fence_.1[app:2]"),
+            ("mpi.app0.1.app1.0.3", two, "mpi.3[app0:1,app1:0]"),
+        ):
+            self.assertEqual(index_order(name, ranks), indexed)
+
+
+def gather(size: int) -> list[Tape]:
+    """The tapes of a job whose ranks each send a message to rank 0."""
+    tapes = make_world(size)
+    for rank in range(1, size):
+        tapes[rank].begin("send 1 0 0 4")
+        tapes[0].call(f"receive 1 {rank} 0", f"0 {rank} 0 4")
+    return tapes
+
+
+GATHERED = """\
+pattern 1
+job app
+one root
+for workers
+lookup-wait mpi.1[each,self]
+end
+many workers
+publish mpi.1[self,root] sent
+"""
+
+
+class RecordedTest(unittest.TestCase):
+    """The patterns of recordings."""
+
+    def test_messages(self) -> None:
+        """Their names have the ranks as indices, so that no two senders publish one."""
+        found = find_pattern(plan_tapes(gather(4)))
+        self.assertEqual(found.text.partition("\n")[2], GATHERED)
+
+    def test_two_ranks(self) -> None:
+        """They would fit any pattern."""
+        with self.assertRaisesRegex(Refused, "^there is no pattern: the job app has 2 ranks, and"):
+            find_pattern(plan_tapes(gather(2)))
+
+    def test_numbers_that_are_no_ranks(self) -> None:
+        """Below the number of ranks are others too: then the names stay as they are."""
+        tapes = [Tape(n).call("publish blocks a0=text:x -") for n in range(3)]
+        for it in tapes:
+            it.call("lookup blocks :a1 -", "-46 -")
+        self.assertIn("publish a0 x\nlookup a1\n", find_pattern(plan_tapes(tapes)).text)
+
+    def test_what_holds_in_part(self) -> None:
+        """The head of the pattern has why."""
+        tapes = [it.text(n > 0) for n, it in enumerate(gather(3))]
+        plan = plan_tapes(tapes)
+        self.assertTrue(holds_in_part(plan))
+        why = "1 processes whose recordings end before PMIx_Finalize: how they went on isn't known"
+        head = find_pattern(plan).text.partition("pattern 1\n")[0].splitlines()
+        self.assertEqual(head[1:3], [f"# {CUT_OFF}", f"#   {why}"])
+        self.assertFalse(holds_in_part(plan_tapes(gather(3))))
+
+
 class CommandTest(unittest.TestCase):
     """The command with `--pattern`."""
 
     def setUp(self) -> None:
         room = tempfile.TemporaryDirectory(prefix="wire-up-")
         self.addCleanup(room.cleanup)
+        self.room = room.name
         self.plan, self.pattern = (os.path.join(room.name, it) for it in ("plan", "pattern"))
 
-    def run_on(self, name: str) -> str:
+    def run_on(self, *files: str) -> str:
         """Makes the pattern of a recording, and answers what is said."""
         words = ("--checker", "/bin/false", "--pattern", self.pattern)
-        folder = os.path.join(SHIPPED, name)
-        ran = run_recorder("-o", self.plan, *words, "--from", folder)
+        ran = run_recorder("-o", self.plan, *words, "--from", *files)
         self.assertEqual((ran.returncode, ran.stdout), (0, ""))
         return ran.stderr
 
+    def write_tapes(self, texts: Sequence[bytes]) -> list[str]:
+        """Writes recordings, and answers their paths."""
+        return [
+            write_file(os.path.join(self.room, f"{n}.recording"), text)
+            for n, text in enumerate(texts)
+        ]
+
     def test_a_recording_with_a_pattern(self) -> None:
-        self.assertEqual(self.run_on("told"), "")
-        expanded = expand(read_pattern(read_file(self.pattern)), {"workers": 1}, {})
+        files = self.write_tapes([it.text() for it in gather(3)])
+        self.assertEqual(self.run_on(*files), "")
+        expanded = expand(read_pattern(read_file(self.pattern)), {"workers": 2}, {})
         body = read_file(self.plan).partition("\nrehearsal 1\n")[2]
         lines = [it for it in body.splitlines() if not it.startswith(("#", "node", "job", "rank"))]
-        self.assertEqual([" ".join(it) for them in expanded.values() for it in them], lines)
+        names = {it: re.sub(r"(mpi)\.(\d)\.(\d)\.", r"\1.", it) for it in lines}
+        indexed = [" ".join(it) for them in expanded.values() for it in them]
+        self.assertEqual([re.sub(r"\[.*?\]", "", it) for it in indexed], list(names.values()))
+
+    def test_a_recording_in_part(self) -> None:
+        files = self.write_tapes([it.text(False) for it in gather(3)])
+        said = self.run_on(*files)
+        in_part = f"{self.pattern}: a verdict over this pattern holds only in part, as one over the"
+        self.assertIn(in_part, said)
 
     def test_a_recording_without(self) -> None:
-        said = self.run_on("collectives")
+        said = self.run_on(os.path.join(SHIPPED, "collectives"))
         self.assertRegex(said, r"^wire_up-record: there is no pattern: app:\d+ \d+: `fence .*\n$")
         self.assertFalse(os.path.exists(self.pattern))
 

@@ -6,6 +6,7 @@ from collections.abc import Sequence
 
 from tapes import Tape, in_world, make_world, read_file, read_scripts
 from test_recording_premises import COLLECTING, PremisesCase, exchange_cards
+from wire_up_tools.report.singular import say_counted
 from wire_up_tools.words import LEFT_OUT, LEFT_OUT_HARMLESS, MORE_ORDERED, OTHERWISE_AFTER
 
 IN_PART = "a verdict over this plan holds only in part: "
@@ -30,7 +31,8 @@ class SilentCase(PremisesCase):
         head = read_file(self.plan).partition("\nrehearsal 1\n")[0]
         self.assertIn(f"\n# {title}\n", head)
         self.assertIn(f"\n#   {what}", head.partition(f"\n# {title}")[2])
-        self.assertTrue(any(what in it for it in self.report().reasons), self.report().reasons)
+        reasons = self.report().reasons
+        self.assertTrue(any(say_counted(what) in it for it in reasons), reasons)
         return said
 
     def hold_harmless(self, tapes: Sequence[Tape], what: str) -> None:

@@ -8,6 +8,7 @@ import unittest
 import report_support
 import support
 from wire_up_tools.report.patterns import is_pattern
+from wire_up_tools.words import CUT_OFF, PATTERN_BY
 
 EVERYWHERE = "for every number of ranks on every placement"
 CLEAN = f"findings 0 {EVERYWHERE}"
@@ -117,6 +118,22 @@ class CleanTest(PatternCase):
         self.assertIn('<header class="waits">', page)
         self.assertIn('root 1 fence, <a href="#line-5">cards.pattern:5</a>', page)
         self.assertIn('<div id="line-5" class="named">', page)
+
+    def test_a_pattern_of_a_plan_that_holds_in_part(self) -> None:
+        """Its head has why. That of a pattern by hand says nothing."""
+        checker = self.write_checker(f"{CLEAN}\n", 0)
+        why = "2 processes whose recordings end before PMIx_Finalize: how they went on isn't known"
+        for by, is_in_part in ((f"{PATTERN_BY}, from one run", True), ("By hand", False)):
+            head = f"# {by}\n# {CUT_OFF}\n#   {why}\n"
+            text, page = self.report(checker, self.write("my.pattern", head + CARDS), 0)
+            said = "(the run was cut off, 2 recordings end early: what came then isn"
+            for it in (text, page):
+                self.assertEqual(said in it, is_in_part, it)
+                self.assertEqual("it holds only in part." in it, is_in_part, it)
+                self.assertEqual(f"{PATTERN_BY}, from one run" in it.partition("pattern 1")[0],
+                                 is_in_part)
+            badge = '<span class="badge">in part</span>'
+            self.assertEqual(badge in page, is_in_part)
 
     def test_calls_that_may_wait(self) -> None:
         checker = self.write_checker(f"{CLEAN}\n", 1)

@@ -249,12 +249,16 @@ class Plan:
 
     def list_in_head(self, title: str) -> list[str]:
         """The lines that stand indented below a title in the head, such as `Left out:`."""
-        head = self.declared.head
-        found: list[str] = []
-        if title in head:
-            below = itertools.islice(head, head.index(title) + 1, None)
-            found = list(itertools.takewhile(lambda line: line.startswith("  "), below))
-        return [line.strip() for line in found]
+        return list_below(self.declared.head, title)
+
+
+def list_below(head: Sequence[str], title: str) -> list[str]:
+    """The lines that stand indented below a title in a head."""
+    found: list[str] = []
+    if title in head:
+        below = itertools.islice(head, head.index(title) + 1, None)
+        found = list(itertools.takewhile(lambda line: line.startswith("  "), below))
+    return [line.strip() for line in found]
 
 
 def is_recorded(head: Sequence[str]) -> bool:

@@ -21,6 +21,8 @@ MAIN = ("main", "MAIN__", "<module>")
 MPI_COMMENT = "# MPI: "
 # How the head of a recorded plan begins, and the titles of the lists in it.
 RECORDED_BY = "Recorded by wire_up-record"
+# How the head of a pattern begins that the recorder made.
+PATTERN_BY = "By wire_up-record"
 CUT_OFF = "The run was cut off, so that a verdict holds only in part:"
 PARTED = "The runs part, so that a verdict holds only in part:"
 LEFT_OUT = "Left out:"

@@ -10,7 +10,8 @@ pub data IsAwaited (plan : Plan) (s : State) (p : ℕ) (x : Event) : Type 0 wher
   Source : Edge plan x (next_event s p) → IsAwaited plan s p x
   Publishes : (name : ℕ) → next_kind plan s p ≡ Some (LookupWait name) → kind plan x ≡ Some (Publish name) → IsAwaited plan s p x
 
--- p waits for q: for an event of q that hasn't happened
+-- p waits for q: for an event of q that hasn't happened. Of several publishes of its name it waits for each, though one
+-- would do, and for a key only where that is put once
 pub record RankWaits (plan : Plan) (s : State) (p q : ℕ) : Type 0 where
   pub event : Event
   pub rank : event.proc ≡ q

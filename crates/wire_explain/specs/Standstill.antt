@@ -1,4 +1,4 @@
--- What is told where no rank can take a step: which ranks wait in a circle, and which for what never comes.
+-- What is told where no rank can take a step: which ranks wait in a circle, and which for no rank.
 use Rattle.std.specs.Prelude.{◌≡◌, ◌↔◌, ◌-◌, ℕ, zero, suc, Bool, true, false, ◌&&◌, ◌==◌, nat_lt, List, [], ◌∷◌, ◌++◌, take, length, map}
 use Rattle.std.specs.Prelude.{Option, Some, None, is_some, option_map, codes, decimal, MatchOption, Vec, if◌then◌else◌}
 use Rattle.std.specs.List.{Contains}
@@ -34,7 +34,7 @@ AreWaitedBy plan s p ranks = (q : ℕ) → Contains ranks q ↔ RankWaits plan s
 abbrev pub AreWaits : Plan → State → List (Vec ℕ Global) → Type 0
 AreWaits plan s waits = (p : ℕ) → AreWaitedBy plan s p (waited_by waits p)
 
--- whether p has a call left and waits for no rank: it waits for what never comes
+-- whether p has a call left and waits for no rank
 abbrev pub is_root : Plan → State → List (Vec ℕ Global) → ℕ → Bool
 is_root plan s waits p = nat_lt (s.done p) (event_count plan p) && (length (waited_by waits p) == 0)
 
@@ -77,7 +77,7 @@ abbrev pub circle_in : Option (Vec ℕ Global) → List ℕ
 circle_in None = []
 circle_in (Some circle) = circle.items
 
--- a deadlock, where there is one, and the ranks that wait for what never comes
+-- a deadlock, where there is one, and the ranks that wait for no rank: for what never comes, where nothing is found
 abbrev pub told_of : Scripts → State → List (Vec ℕ Global) → List ℕ → List ℕ
 told_of scripts s waits circle =
     part (codes "  deadlock, each for the next and the last for the first:\n") scripts s circle

@@ -45,7 +45,7 @@ pub record RefusesOrder (size : Size) (bytes order_bytes : List ℕ) (fault : Fa
 abbrev pub TellsNothing : Size → List ℕ → List ℕ → Fault → Type 0
 TellsNothing size bytes order_bytes fault = (fault ≡ Memory) ⊎ (Reads size bytes (Err fault) ⊎ RefusesOrder size bytes order_bytes fault)
 
--- the text tells of a deadlock in this state, where there is one, and of the ranks that wait for what never comes
+-- the text tells of a deadlock in this state, where there is one, and of the ranks that wait for no rank
 pub record TellsWhere (scripts : Scripts) (state : State) (text : List ℕ) : Type 0 where
   pub waits : List (Vec ℕ Global)
   pub are : AreWaits (plan_of scripts) state waits

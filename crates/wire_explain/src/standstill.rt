@@ -262,10 +262,10 @@ fn text_of(alloc: Global, scripts: Scripts) -> Result<Vec<u8>, Fault>
     text
 }
 
-/// Where the plain run of a plan stands at last with calls that wait: the ranks of a deadlock, where there is one, each
-/// with its call and what it waits for, and those that wait for what never comes. Nothing where each rank is at its
-/// end. The bytes are those of the plan, and the faults its own and `Memory`. Only printable ASCII and line feeds are in
-/// the text.
+/// Where the plain run of a plan stands at last with calls that wait: the first sixteen ranks of a deadlock, where there
+/// is one, each with its call and what it waits for, and those of the ranks that wait for no rank. In a plan without
+/// findings these wait for what never comes. Nothing where each rank is at its end. The bytes are those of the plan, and
+/// the faults its own and `Memory`. Only printable ASCII and line feeds are in the text.
 pub fn explain_standstill(alloc: Global, size: Size, bytes: &[u8]) -> Result<Vec<u8>, Fault>
     ensures tells { IfOk result (λ text. TellsStandstillOf size bytes.now text.items) }
     ensures printable { IfOk result (λ text. is_printable_text text.items ≡ true) }

@@ -1,5 +1,5 @@
--- Portable plans: those on which every library of a family does what the rules say. The conditions speak of the rules'
--- own order alone, and each is a question that marks answer.
+-- Portable plans: the conditions suffice for each library of a family to do what the rules say. They speak of the rules
+-- alone, most of them of what is before what.
 use Rattle.std.specs.Prelude.{◌≡◌, ◌≢◌, ◌⊎◌, ℕ, suc, List, Bool, true, false, Some, None, is_some}
 use Rattle.wire_runs.specs.Plan.{Plan, Event, Commit, Get, GetNow, Publish, Unpublish, UnpublishAll, Leave, Fixed}
 use Rattle.wire_runs.specs.Plan.{kind, node_of, same_node, admits}

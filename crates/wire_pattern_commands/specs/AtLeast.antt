@@ -4,7 +4,7 @@ use Rattle.std.specs.Prelude.{◌==◌, ◌||◌, ℕ, List, [], ◌++◌, codes
 use Rattle.std.specs.List.{flat_map}
 use Rattle.wire_pattern.specs.Pattern.{Role, Pattern}
 
--- of a group whose least number is above none: `at least N ROLE`
+-- of a group whose least number is above zero: `at least N ROLE`
 abbrev pub least_line : Role → List ℕ
 least_line role =
     if role.single || role.least == 0 then [] else codes "at least " ++ (decimal role.least ++ (codes " " ++ (role.name ++ codes "\n")))

@@ -74,8 +74,9 @@ abbrev pub succeeds : LineAnswers → Bool
 succeeds answers = answers.success && (not answers.not_found && not answers.outside)
 
 -- how the command ends where nothing is found. If `complete` is asked for, with the count of the call lines at which
--- something waits; where there are none, with 1 unless no call waits with any number of ranks; then with 1 unless every call
--- of the instances that are judged succeeds; and then with the count of the get-now lines that don't succeed
+-- something waits; where there are none, with 1 unless it is known that none waits with any number of ranks; then with 1
+-- unless every call of the instances that are judged succeeds; and then with the count of the get-now lines that don't
+-- succeed
 abbrev pub settled_end : PatternAsked → Bool → Bool → List CallLine → List LineAnswers → Ended
 settled_end asked everywhere succeeding lines answers =
     if not asked.complete then Clean

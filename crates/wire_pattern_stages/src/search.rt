@@ -13,7 +13,7 @@ use wire_pattern::{Pattern, Step};
 use wire_plan::Plan;
 use wire_types::{Event, Proc};
 
-/// How many lines of a pattern are searched for stages by turns.
+/// How many nodes, two of each line of a pattern, are searched for stages by turns.
 const MOST_NODES: usize = 256;
 
 /// Where an event stands: the number of its line among all, twice, and one more for the end of a fence; its caller,

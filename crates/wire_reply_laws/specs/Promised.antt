@@ -43,7 +43,7 @@ abbrev pub IsAlwaysAnswered : Plan → Type 0
 IsAlwaysAnswered plan = (w : List ℕ) → IsInterleaving plan start w → IsEnd plan (run plan w) → (y : Event) (k : Kind)
     → kind plan y ≡ Some k → IsDone (run plan w) y
 
--- with any number of processes of each role, any turns of `for some`, on any nodes
+-- with any number of processes of each role, its least at least, any turns of `for some`, on any nodes
 abbrev pub IsAnsweredForAll : Pattern → Type 0
 IsAnsweredForAll p = (coding : Coding) (cast : plan.Cast) → IsAnyCast p cast → IsAlwaysAnswered (instance_of (pattern_of p) coding cast)
 

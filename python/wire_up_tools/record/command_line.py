@@ -19,6 +19,7 @@ from wire_up_tools.options import (
 from wire_up_tools.record.running import BY_SIGNAL, HANDED_ON, NotRun, Stopped
 from wire_up_tools.record.showing.asking import OPTIONS as OF_SHOWING
 from wire_up_tools.record.showing.asking import read_asked, refuse_input
+from wire_up_tools.record.sizes.asking import asks_for_sizes, read_sizes_request
 from wire_up_tools.record.tasks import (
     CommandRequest,
     FilesRequest,
@@ -48,6 +49,16 @@ USES = (
     (
         "-o PLAN [OPTION..] --from FILE.. --from FILE..",
         "writes one plan of what several runs of a program share, and says where they part",
+    ),
+    (
+        "--sizes 3,4,8 -o PATTERN COMMAND..",
+        "runs the command with 3, 4 and 8 ranks, which stand where it has {}, writes one pattern "
+        "for every number,\n"
+        f"    {' ' * 47} and says what is found in it",
+    ),
+    (
+        "--sizes -o PATTERN --from FILE.. --from FILE.. --against FILE..",
+        "does so with recordings that are there, of which those behind --against hold the pattern",
     ),
     (
         "--of PLAN --show COMMAND..",
@@ -145,7 +156,9 @@ def refuse_alike(output: Output) -> None:
 
 
 def read_request(words: Sequence[str]) -> Request:
-    """What a command line asks for. Raises Unusable."""
+    """What a command line asks for. Raises Unusable, Refused."""
+    if asks_for_sizes(words, OPTIONS):
+        return read_sizes_request(words, OPTIONS)
     found = RecorderParser().read(words)
     if found.where is not None:
         return read_where_request([*found.where, *found.rest])

@@ -110,11 +110,14 @@ def wait_and_hand_on(process: "subprocess.Popen[bytes]") -> int:
 
 
 def run(
-    command: Sequence[str], environment: Mapping[str, str], source: Optional[IO[bytes]] = None
+    command: Sequence[str],
+    environment: Mapping[str, str],
+    source: Optional[IO[bytes]] = None,
+    output: Optional[int] = None,
 ) -> int:
     """Runs a command, which reads from a source, else from standard input, hands signals on to it,
-    and answers its status: below 0 for the signal that ended it. Raises NotRun if it can't be
-    run."""
+    and answers its status: below 0 for the signal that ended it. `output` is the file to which its
+    standard output goes, if not to ours. Raises NotRun if it can't be run."""
     before = signal.pthread_sigmask(signal.SIG_BLOCK, (*HANDED_ON, signal.SIGCHLD))
 
     def unblock() -> None:
@@ -123,7 +126,12 @@ def run(
     try:
         # The command has the files that were opened for it.
         with subprocess.Popen(
-            command, env=environment, preexec_fn=unblock, close_fds=False, stdin=source
+            command,
+            env=environment,
+            preexec_fn=unblock,
+            close_fds=False,
+            stdin=source,
+            stdout=output,
         ) as process:
             return wait_and_hand_on(process)
     except FileNotFoundError as why:

@@ -18,9 +18,8 @@ from wire_up_tools.record.floating import settle_floating
 from wire_up_tools.record.merging import merge_plans
 from wire_up_tools.record.notes import FLOATING
 from wire_up_tools.record.partings import Run
-from wire_up_tools.record.patterns.finding import Broken
-from wire_up_tools.record.patterns.scripts import ANY_VALUE, Script
-from wire_up_tools.record.patterns.writing import make_pattern, say_broken
+from wire_up_tools.record.patterning import find_pattern, holds_in_part
+from wire_up_tools.record.patterns.scripts import ANY_VALUE
 from wire_up_tools.record.places import (
     Places,
     find_call_place,
@@ -35,6 +34,8 @@ from wire_up_tools.record.showing.asking import Asked
 from wire_up_tools.record.showing.material import First, Material
 from wire_up_tools.record.showing.showing import show
 from wire_up_tools.record.showing.traces import read_traces
+from wire_up_tools.record.sizes.asking import SizesRequest
+from wire_up_tools.record.sizes.doing import answer_sizes
 from wire_up_tools.record.strict_races import list_strict_races
 from wire_up_tools.record.verdicts import (
     compare_verdicts,
@@ -45,6 +46,9 @@ from wire_up_tools.record.verdicts import (
 )
 from wire_up_tools.record.writing import is_by_mpi_alone, write_answers, write_plan
 from wire_up_tools.words import EACH_RUN, LEFT_TO_LUCK
+
+# What is said of verdicts over plans that are known to be more ordered than the program.
+IN_PART = "holds only in part"
 
 
 @dataclass(frozen=True)
@@ -97,7 +101,7 @@ class ShowRequest:
     asked: Asked
 
 
-Request = Union[WhereRequest, FilesRequest, CommandRequest, ShowRequest]
+Request = Union[WhereRequest, FilesRequest, CommandRequest, ShowRequest, SizesRequest]
 
 
 def say(what: str) -> None:
@@ -123,7 +127,7 @@ def count_notes(notes: Mapping[str, int]) -> str:
 def say_part(plan: Plan) -> None:
     """Says why a verdict over a plan holds only in part, if it does."""
     notes = plan.notes
-    in_part = "a verdict over this plan holds only in part"
+    in_part = f"a verdict over this plan {IN_PART}"
     for before, noted in (("the run was cut off: ", notes.cut_off), ("", notes.more_ordered)):
         if any(noted.values()):
             say(f"{before}{in_part}: {count_notes(noted)}")
@@ -144,18 +148,17 @@ def list_luck(plan: Plan) -> list[str]:
 
 
 def write_pattern(plan: Plan, path: str) -> None:
-    """Writes the pattern of a plan, or says which call breaks it. Raises OSError."""
-    scripts = [
-        Script(process.name, process.name.rpartition(":")[0], [it.words.split(" ") for it in lines])
-        for process, lines in plan.draft.lines.items()
-    ]
-    found = make_pattern(scripts)
-    if isinstance(found, Broken):
-        say(f"there is no pattern: {say_broken(found, scripts)}")
+    """Writes the pattern of a plan, or says why there is none. Raises OSError."""
+    try:
+        found = find_pattern(plan)
+    except Refused as why:
+        say(str(why))
         return
     write_whole(path, found.text)
     if found.has_other_values:
         say(f"{path}: values that differ between ranks are left out: `{ANY_VALUE}` stands for them")
+    if holds_in_part(plan):
+        say(f"{path}: a verdict over this pattern {IN_PART}, as one over the plan does")
 
 
 def write_output(plan: Plan, places: Places, output: Output) -> str:
@@ -399,6 +402,8 @@ def do(asked: Request, folder: str) -> int:
     """Does what is asked for, and answers the status. `folder` is that of the command."""
     if isinstance(asked, WhereRequest):
         return say_where(asked)
+    if isinstance(asked, SizesRequest):
+        return answer_sizes(asked, folder)
     if isinstance(asked, CommandRequest):
         return record(asked, folder)
     if isinstance(asked, ShowRequest):

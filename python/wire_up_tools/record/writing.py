@@ -96,6 +96,17 @@ def say_words(plan: Plan) -> Iterator[str]:
             yield f"# The {what} {words[text]} is {show(text)}."
 
 
+def say_luck(plan: Plan) -> Iterator[str]:
+    """How many ends another run may have found open, and the verdicts with and without them."""
+    mpi = plan.mpi
+    if mpi.left_to_luck:
+        what = "nothing is taken from them" if plan.choices.is_strict else TAKEN
+        why = "a poll that succeeded, one of several, a peer that a message named"
+        yield f"# {mpi.left_to_luck} {LEFT_TO_LUCK} ({why}): {what}."
+    if mpi.verdicts:
+        yield f"# {VERDICTS}{mpi.verdicts}"
+
+
 def say_mpi(plan: Plan) -> Iterator[str]:
     """What of MPI's order the plan has."""
     mpi, choices = plan.mpi, plan.choices
@@ -110,12 +121,7 @@ def say_mpi(plan: Plan) -> Iterator[str]:
             "No call of PMIx made the lines of names that begin with"
         )
         yield f"# `{plan.spelling.mpi_mark}`, and the fences below a line `# MPI: ..`."
-    if mpi.left_to_luck:
-        what = "nothing is taken from them" if choices.is_strict else TAKEN
-        why = "a poll that succeeded, one of several, a peer that a message named"
-        yield f"# {mpi.left_to_luck} {LEFT_TO_LUCK} ({why}): {what}."
-    if mpi.verdicts:
-        yield f"# {VERDICTS}{mpi.verdicts}"
+    yield from say_luck(plan)
     if mpi.strict_races:
         yield f"# {STRICT_ALONE}"
         yield from (f"#   {it}" for it in mpi.strict_races)
@@ -137,24 +143,27 @@ def say_own_code(plan: Plan) -> Iterator[str]:
         yield f"# {OWN_CODE}"
 
 
-def say_notes(plan: Plan) -> Iterator[str]:
-    """What the plan can't say, in lists."""
+def list_notes(plan: Plan) -> Iterator[tuple[str, Sequence[str]]]:
+    """What the plan can't say: titles, each with the lines below it."""
     notes = plan.notes
-    if plan.partings:
-        yield f"# {PARTED}"
-        yield from (f"#   {it}" for it in plan.partings)
-    lists = (
+    yield PARTED, list(plan.partings)
+    for title, counted in (
         (CUT_OFF, notes.cut_off),
         (LEFT_OUT, notes.list_left_out(True)),
         (MORE_ORDERED, notes.more_ordered),
         (OTHERWISE_ALONE if is_by_mpi_alone(plan) else OTHERWISE_AFTER, notes.of_luck),
         (WRITTEN_OTHERWISE, notes.otherwise),
         (LEFT_OUT_HARMLESS, notes.list_left_out(False)),
-    )
-    for title, counted in lists:
-        if any(counted.values()):
+    ):
+        yield title, [f"{count} {what}" for what, count in sorted(counted.items()) if count]
+
+
+def say_notes(plan: Plan) -> Iterator[str]:
+    """What the plan can't say, in lists."""
+    for title, them in list_notes(plan):
+        if them:
             yield f"# {title}"
-            yield from (f"#   {count} {what}" for what, count in sorted(counted.items()) if count)
+            yield from (f"#   {it}" for it in them)
 
 
 def say_tested(plan: Plan) -> Iterator[str]:

@@ -1,10 +1,12 @@
-"""Why a verdict holds only in part: what the head of a recorded plan says that can hide a race."""
+"""Why a verdict holds only in part: what the head of a recorded plan, or of its pattern, says that
+can hide a race."""
 import re
+from collections.abc import Sequence
 from typing import Optional
 
 from wire_up_tools import words
 from wire_up_tools.left_out import can_hide
-from wire_up_tools.plan import Plan
+from wire_up_tools.plan import Plan, list_below
 from wire_up_tools.report.phrases import count_of, list_names
 from wire_up_tools.report.singular import say_counted
 from wire_up_tools.report.tried import say_turned
@@ -18,18 +20,34 @@ def find_reasons(plan: Plan) -> list[str]:
     """Why the verdict on a plan holds only in part; none where it holds whole."""
     if not plan.is_recorded:
         return []
-    cut_off, left_out = say_cut_off(plan), say_left_out(plan)
-    ordered = [say_counted(it) for it in plan.list_in_head(words.MORE_ORDERED)]
-    received = say_received(plan)
-    reasons = [say_answered(plan), say_parted(plan), *say_turned(plan), cut_off]
-    reasons += [say_polled(plan), *ordered, received, left_out, say_timed(plan)]
+    head = plan.declared.head
+    reasons = [say_answered(plan), say_parted(head), *say_turned(plan), *find_hidden(head)]
+    reasons.append(say_timed(plan))
+    return [it for it in reasons if it]
+
+
+def find_in_head(head: Sequence[str]) -> list[str]:
+    """Why the verdict on a pattern holds only in part, by the head that the recorder wrote."""
+    return [it for it in [say_parted(head), *find_hidden(head)] if it]
+
+
+def find_hidden(head: Sequence[str]) -> list[str]:
+    """What a head says that can hide a race in one run."""
+    cut_off, left_out = say_cut_off(head), say_left_out(head)
+    ordered = [say_counted(it) for it in list_below(head, words.MORE_ORDERED)]
+    reasons = [cut_off, say_polled(head), *ordered, say_received(head), left_out]
     return [it for it in reasons if it]
 
 
 def find_verdicts(plan: Plan) -> Optional[str]:
     """The verdicts with and without the order of polls, where the recorder says that they
     differ."""
-    said = (it for it in plan.declared.head if it.startswith(words.VERDICTS))
+    return find_both(plan.declared.head)
+
+
+def find_both(head: Sequence[str]) -> Optional[str]:
+    """The verdicts with and without the order of polls that a head has."""
+    said = (it for it in head if it.startswith(words.VERDICTS))
     return next((it.removeprefix(words.VERDICTS) for it in said), None)
 
 
@@ -55,12 +73,12 @@ def say_timed(plan: Plan) -> Optional[str]:
     return f"the reply can depend on which rank is fast: {list_names(named)}"
 
 
-def say_polled(plan: Plan) -> Optional[str]:
+def say_polled(head: Sequence[str]) -> Optional[str]:
     """Of how many polls the order of one run is taken, and what the verdict is without."""
-    found = next(filter(None, map(POLLED.fullmatch, plan.declared.head)), None)
-    if not found or is_by_mpi_alone(plan):
+    found = next(filter(None, map(POLLED.fullmatch, head)), None)
+    if not found or is_by_mpi_alone(head):
         return None
-    verdicts = find_verdicts(plan)
+    verdicts = find_both(head)
     both = f": {verdicts}" if verdicts else ""
     polled = count_of(int(found[1]), "polled request")
     if not found[2]:
@@ -68,21 +86,21 @@ def say_polled(plan: Plan) -> Optional[str]:
     return f"the order of {polled} is that of this run{both}"
 
 
-def say_received(plan: Plan) -> Optional[str]:
+def say_received(head: Sequence[str]) -> Optional[str]:
     """What could have come otherwise, so that another run may do something else."""
-    listed = [say_counted(it) for it in plan.list_in_head(words.OTHERWISE_AFTER)]
+    listed = [say_counted(it) for it in list_below(head, words.OTHERWISE_AFTER)]
     return f"another run may do otherwise after {list_names(listed)}" if listed else None
 
 
-def is_by_mpi_alone(plan: Plan) -> bool:
+def is_by_mpi_alone(head: Sequence[str]) -> bool:
     """Whether the head says that what luck decides leads to no call of PMIx but MPI's own."""
-    return words.OWN_CODE in plan.declared.head
+    return words.OWN_CODE in head
 
 
 def say_own_code(plan: Plan) -> Optional[str]:
     """What luck decides that leads to no call of PMIx, and on what that rests; None where it
     decides nothing, or can lead to one."""
-    if not is_by_mpi_alone(plan):
+    if not is_by_mpi_alone(plan.declared.head):
         return None
     listed = [say_counted(it) for it in plan.list_in_head(words.OTHERWISE_ALONE)]
     of_luck = list_names(listed) if listed else "requests that it may find open"
@@ -92,16 +110,16 @@ def say_own_code(plan: Plan) -> Optional[str]:
     )
 
 
-def say_parted(plan: Plan) -> Optional[str]:
+def say_parted(head: Sequence[str]) -> Optional[str]:
     """Where several runs parted."""
-    partings = plan.list_in_head(words.PARTED)
+    partings = list_below(head, words.PARTED)
     return f"the runs part: {'; '.join(partings)}" if partings else None
 
 
-def say_cut_off(plan: Plan) -> Optional[str]:
+def say_cut_off(head: Sequence[str]) -> Optional[str]:
     """How many recordings were cut off."""
     titles = (words.CUT_OFF, words.LEFT_OUT, words.WRITTEN_OTHERWISE)
-    listed = [it for title in titles for it in plan.list_in_head(title)]
+    listed = [it for title in titles for it in list_below(head, title)]
     found = (CUT_OFF.fullmatch(it) for it in listed)
     count = max((int(it[1]) for it in found if it), default=0)
     if not count:
@@ -112,12 +130,13 @@ def say_cut_off(plan: Plan) -> Optional[str]:
 
 def hides_race(plan: Plan) -> bool:
     """Whether something was left out that can hide a race."""
-    return bool(say_left_out(plan) or say_cut_off(plan))
+    head = plan.declared.head
+    return bool(say_left_out(head) or say_cut_off(head))
 
 
-def say_left_out(plan: Plan) -> Optional[str]:
+def say_left_out(head: Sequence[str]) -> Optional[str]:
     """What was left out that can hide a race."""
-    counted = (it.partition(" ") for it in plan.list_in_head(words.LEFT_OUT))
+    counted = (it.partition(" ") for it in list_below(head, words.LEFT_OUT))
     found = [f"{count} {what}" for count, _, what in counted if can_hide(what)]
     found = [say_counted(it) for it in found if not CUT_OFF.fullmatch(it)]
     return f"not in the plan: {list_names(found)}" if found else None

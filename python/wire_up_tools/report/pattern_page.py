@@ -11,7 +11,7 @@ from wire_up_tools.report.pattern_answers import (
     say_settled,
 )
 from wire_up_tools.report.pattern_text import write_pattern
-from wire_up_tools.report.patterns import CleanPattern
+from wire_up_tools.report.patterns import IN_PART, CleanPattern
 from wire_up_tools.report.phrases import count_of, cut
 from wire_up_tools.report.plan_page import LINE_WIDTH
 from wire_up_tools.report.terminal_text import write_lines
@@ -19,7 +19,14 @@ from wire_up_tools.report.terminal_text import write_lines
 
 def say_title(found: CleanPattern) -> str:
     """The verdict with the name of the pattern."""
-    return f"{found.pattern.name}: {say_settled(found.said)}"
+    part = f" ({'; '.join(found.reasons)})" if found.reasons else ""
+    return f"{found.pattern.name}: {say_settled(found.said)}{part}"
+
+
+def explain(found: CleanPattern) -> str:
+    """What the verdict means, and from which runs the pattern comes."""
+    part = [IN_PART] if found.reasons else []
+    return " ".join(filter(None, [explain_settled(found.said), *part, found.origin]))
 
 
 def say_line(found: CleanPattern, call: CallLine) -> str:
@@ -30,12 +37,12 @@ def say_line(found: CleanPattern, call: CallLine) -> str:
 
 def write_pattern_page(found: CleanPattern) -> str:
     """The whole page."""
-    kind, badge = choose_badge(found.said)
+    kind, badge = ("partly", "in part") if found.reasons else choose_badge(found.said)
     title, today = escape(say_title(found)), datetime.date.today()
     meta = f"a pattern · checked by wire_up {found.version} · {today:%d %b %Y}"
     parts = [
         f'<header class="{kind}"><div class="top"><h1>{title}</h1>',
-        f'<span class="badge">{badge}</span></div><p>{escape(explain_settled(found.said))}</p>'
+        f'<span class="badge">{badge}</span></div><p>{escape(explain(found))}</p>'
         f'<p class="meta">{escape(meta)}</p></header>',
         *write_ends(found),
         write_pattern(found.pattern, find_named(found), "line"),
@@ -77,7 +84,7 @@ def find_named(found: CleanPattern) -> set[int]:
 def write_pattern_text(found: CleanPattern) -> str:
     """The same as text for a terminal."""
     lines = [
-        say_title(found), explain_settled(found.said), f"checked by wire_up {found.version}"
+        say_title(found), explain(found), f"checked by wire_up {found.version}"
     ]
     lines += [describe_call(found, it) for it in found.said.waits]
     for it in found.said.fails:

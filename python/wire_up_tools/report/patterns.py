@@ -4,16 +4,19 @@ A pattern is a text for plans of every size. In one that has a race the checker 
 counterexample, which is told as any other plan.
 """
 import dataclasses
+import itertools
 import os
 import re
 from collections.abc import Iterator, Sequence
 from dataclasses import dataclass
 from typing import Optional, Union
 
+from wire_up_tools import words
 from wire_up_tools.failures import Refused
 from wire_up_tools.plan import Plan
 from wire_up_tools.plan_reading import split_lines
 from wire_up_tools.report.asking import CLEAN, FOUND, NOT_READ, Asker
+from wire_up_tools.report.partial import find_in_head
 from wire_up_tools.report.pattern_answers import CallLine, Settled, read_settled
 from wire_up_tools.report.pattern_lines import Lines, find_lines
 from wire_up_tools.report.phrases import count_of
@@ -30,6 +33,8 @@ FINDINGS = ("# race ", "# rewrite ")
 # What begins a role, and the lines behind that which are no calls.
 MANY = "many"
 ROLES, NO_CALLS = ("one", MANY), ("for", "end", "job")
+# What is said of a pattern that comes from a plan of which that is so.
+IN_PART = "Of the program that was recorded it holds only in part."
 # What a counterexample is called that stands in no file yet.
 PLAN_NAME = "counterexample.plan"
 
@@ -46,6 +51,12 @@ class Pattern:
         """The name of its file."""
         return os.fsencode(os.path.basename(self.path)).decode("utf-8", "replace")
 
+    @property
+    def head(self) -> Sequence[str]:
+        """The comments above the header."""
+        comments = itertools.takewhile(lambda line: line.startswith("#"), self.lines)
+        return [it[1:].removeprefix(" ") for it in comments]
+
 
 @dataclass(frozen=True, eq=False)
 class CleanPattern:
@@ -60,6 +71,17 @@ class CleanPattern:
         """The line of the file where a call stands, if it is found there."""
         calls = list_calls(self.pattern)
         return next((it for role, number, it in calls if line.is_at(role, number)), None)
+
+    @property
+    def reasons(self) -> Sequence[str]:
+        """Why the verdict holds only in part, by the head that the recorder wrote."""
+        return find_in_head(self.pattern.head) if self.origin else ()
+
+    @property
+    def origin(self) -> str:
+        """What the recorder says of where it comes from; nothing for one by hand."""
+        first = "".join(self.pattern.head[:1])
+        return first if first.startswith(words.PATTERN_BY) else ""
 
 
 @dataclass(frozen=True)

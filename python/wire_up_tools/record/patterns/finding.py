@@ -1,4 +1,5 @@
-"""Finds the script of a role: one from which the calls of all its ranks come."""
+"""Finds the script of a role: one from which the calls of all its ranks come, also those of several
+plans side by side."""
 from collections.abc import Iterator, Sequence
 from dataclasses import dataclass, field
 from typing import Optional, Union
@@ -57,10 +58,11 @@ class Broken:
 
 @dataclass(frozen=True)
 class Told:
-    """The calls of one rank, in the words of a pattern."""
+    """The calls of one rank, in the words of a pattern, and the roles of the ranks of its plan."""
 
     rank: str
     calls: Sequence[Said]
+    roles: Roles
 
 
 @dataclass
@@ -88,14 +90,19 @@ def make_turn(lines: Sequence[str], other: str) -> list[Said]:
 
 
 class Search:
-    """The search for the script of one role."""
+    """The search for the script of one role, whose ranks are of one plan or of several."""
 
-    def __init__(self, roles: Roles, told: Sequence[Told]) -> None:
+    def __init__(self, told: Sequence[Told]) -> None:
         self.told = told
         self.ends = tuple(len(it.calls) for it in told)
         self.seen: set[tuple[int, ...]] = set()
         self.furthest: tuple[int, ...] = tuple(0 for _ in told)
-        self.group_of = {rank: it for it in roles.all for rank in it.ranks if it.is_group}
+        # The group of each rank, and the ranks of each group, in the plan of each of `told`.
+        groups = {id(it.roles): [role for role in it.roles.all if role.is_group] for it in told}
+        of_rank = {key: {r: it for it in them for r in it.ranks} for key, them in groups.items()}
+        of_name = {key: {it.name: it.ranks for it in them} for key, them in groups.items()}
+        self.group_of = [of_rank[id(it.roles)] for it in told]
+        self.ranks_of = [of_name[id(it.roles)] for it in told]
 
     def find(self) -> Union[Sequence[Item], Broken]:
         """The items of the script, or where none goes on."""
@@ -142,7 +149,7 @@ class Search:
         for index, said in enumerate(self.find_next(state)):
             if said is None or not said.other:
                 continue
-            group = self.group_of[said.other]
+            group = self.group_of[index][said.other]
             for lines in self.find_turns(index, state.at[index], said.other):
                 for is_cyclic, is_some in ((False, False), (True, False), (False, True)):
                     loop = Loop(group, is_cyclic, is_some, lines)
@@ -176,8 +183,8 @@ class Search:
     def take(self, loop: Loop, state: State) -> Optional[tuple[int, ...]]:
         """Where each rank is after a loop; None where one doesn't make it."""
         ended = []
-        for told, at in zip(self.told, state.at):
-            others = order_turns(loop.group.ranks, told.rank, loop.is_cyclic)
+        for told, ranks_of, at in zip(self.told, self.ranks_of, state.at):
+            others = order_turns(ranks_of[loop.group.name], told.rank, loop.is_cyclic)
             for other in others:
                 turn = make_turn(loop.lines, other)
                 if list(told.calls[at:at + len(turn)]) == turn:
@@ -187,11 +194,15 @@ class Search:
             ended.append(at)
         return tuple(ended)
 
-    def say_broken(self) -> Broken:
-        """Where no script goes on: at the first rank that isn't as most are there."""
+    def find_break(self) -> int:
+        """Where no script goes on: the index of the first rank that isn't as most are there."""
         found = self.find_next(State(self.furthest))
         alike = [sum(it == other for other in found) for it in found]
-        index = min(range(len(found)), key=lambda n: (alike[n], found[n] is None, n))
+        return min(range(len(found)), key=lambda n: (alike[n], found[n] is None, n))
+
+    def say_broken(self) -> Broken:
+        """The rank and the call at which no script goes on."""
+        index = self.find_break()
         return Broken(self.told[index].rank, self.furthest[index] + 1)
 
 
@@ -214,7 +225,7 @@ def tell_all(roles: Roles, scripts: Sequence[Script]) -> Union[Sequence[Told], B
                 said.append(speaker.say(words))
             except NotSaid as why:
                 return Broken(it.rank, number, str(why))
-        told.append(Told(it.rank, said))
+        told.append(Told(it.rank, said, roles))
     return told
 
 
@@ -225,7 +236,7 @@ def find_scripts(roles: Roles, scripts: Sequence[Script]) -> Union[Sequence[Role
         told = tell_all(roles, [it for it in scripts if it.rank in role.ranks])
         if isinstance(told, Broken):
             return told
-        items = Search(roles, told).find()
+        items = Search(told).find()
         if isinstance(items, Broken):
             return items
         found.append(RoleScript(role, items, told))

@@ -64,6 +64,10 @@ class Roles:
         """The role of each rank."""
         return {rank: it for it in self.all for rank in it.ranks}
 
+    def find(self, name: str) -> Role:
+        """The role of a name."""
+        return next(it for it in self.all if it.name == name)
+
     def find_ranks(self, job: str) -> Sequence[str]:
         """The ranks of a job, in order."""
         return [rank for it in self.all if it.job == job for rank in it.ranks]

@@ -15,6 +15,7 @@ from wire_up_tools.record.patterns.finding import (
     order_turns,
 )
 from wire_up_tools.record.patterns.scripts import ANY_VALUE, VALUES, Script, choose_roles
+from wire_up_tools.words import PATTERN_BY
 
 
 @dataclass(frozen=True)
@@ -97,7 +98,7 @@ def write_roles(scripts: Sequence[RoleScript], walks: Sequence[Walk]) -> str:
         f"{len(it.role.ranks)} {it.role.name}" for it in scripts if it.role.is_group
     )
     written = [
-        f"# By wire_up-record, from one run{f' with {sizes}' if sizes else ''}. That other numbers "
+        f"# {PATTERN_BY}, from one run{f' with {sizes}' if sizes else ''}. That other numbers "
         "do the same is a guess.",
         "pattern 1",
     ]

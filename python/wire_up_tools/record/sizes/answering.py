@@ -1,0 +1,167 @@
+"""The answer on a pattern from runs of several sizes: from which sizes it comes and against which
+it was held, what is found and what shows it, and on what the answer rests."""
+import json
+from collections.abc import Mapping, Sequence
+from dataclasses import dataclass, field, replace
+from typing import Any, Optional
+
+from wire_up_tools.record.patterns.scripts import NotSaid, Speaker
+from wire_up_tools.record.sizes.inferring import Inferred
+from wire_up_tools.record.sizes.judging import Named, Verdict
+from wire_up_tools.record.sizes.plans import SizedPlan
+from wire_up_tools.record.sizes.scripts import Skeleton, part_ranks
+from wire_up_tools.record.sizes.writing import find_places
+
+EVERYWHERE = "every number of ranks on every placement"
+# The least number of ranks with three sides of 3: in a smaller grid one of three sides has 2 at
+# most, so that its ranks are neighbours of all others along it.
+LEAST_GRID = 27
+NO_RACE = (
+    "no call of these runs can race: there is no get-now, no name, and no key that is put twice"
+)
+
+
+@dataclass(frozen=True)
+class Shown:
+    """A recording in which something is found."""
+
+    plan: SizedPlan
+    verdict: Verdict
+
+
+@dataclass(frozen=True)
+class Answer:
+    """All that is answered. Without `inferred` no call can race, or no pattern fits: `unfit` says
+    why, and a recording has what is found."""
+
+    taken: Sequence[SizedPlan]
+    held: Sequence[SizedPlan]
+    inferred: Optional[Inferred]
+    verdict: Verdict
+    shown: Optional[Shown] = None
+    unfit: str = ""
+    in_part: Sequence[str] = field(default_factory=list)
+
+    @property
+    def findings(self) -> Sequence[str]:
+        """What is found: in a recording, if one has it, or else in a plan of the pattern."""
+        return self.shown.verdict.findings if self.shown else self.verdict.findings
+
+    @property
+    def calls(self) -> Sequence[Named]:
+        """The calls that the findings name, with where in the program they come from."""
+        if self.shown:
+            return self.shown.verdict.calls
+        if not self.inferred:
+            return []
+        return place_calls(self.inferred.skeleton, self.verdict)
+
+
+def join_sizes(plans: Sequence[SizedPlan]) -> str:
+    """Numbers of ranks in a row, such as `3, 4 and 8`."""
+    sizes = [str(it.size) for it in plans]
+    return f"{', '.join(sizes[:-1])} and {sizes[-1]}" if len(sizes) > 1 else "".join(sizes)
+
+
+def say_origin(taken: Sequence[SizedPlan], held: Sequence[SizedPlan]) -> str:
+    """From which sizes a pattern comes, and against which it was held."""
+    against = join_sizes(held) if held else "none"
+    return f"from runs with {join_sizes(taken)} ranks, held against {against}"
+
+
+def place_calls(skeleton: Skeleton, verdict: Verdict) -> Sequence[Named]:
+    """The calls that a counterexample names, with where in the program their lines come from."""
+    places: Mapping[tuple[str, str], str] = find_places(skeleton)
+    job = skeleton.roles[0].job
+    roles = part_ranks([f"{job}:{n}" for n in range(verdict.ranks)], job, skeleton.way)
+    found = []
+    for it in verdict.calls:
+        try:
+            line = Speaker(roles, it.rank).say(it.words).words
+        except NotSaid:
+            line = ""
+        found.append(replace(it, place=places.get((roles.by_rank[it.rank].name, line))))
+    return found
+
+
+def say_shown(answer: Answer) -> str:
+    """Whether a recording has what is found, or the pattern alone."""
+    if answer.shown:
+        where = " on other placements of its ranks" if answer.shown.verdict.is_elsewhere else ""
+        plan = answer.shown.plan
+        return f"the recording with {plan.size} ranks has it{where}: {plan.name}"
+    return (
+        f"the pattern alone has it, with {answer.verdict.ranks} ranks, and no recording: it may "
+        "lack order that the program has"
+    )
+
+
+def list_notes(answer: Answer) -> list[str]:
+    """On what the answer rests, and what it can't say."""
+    inferred, found = answer.inferred, list[str]()
+    if not inferred:
+        return [answer.unfit or NO_RACE, *answer.in_part]
+    if answer.shown and not answer.verdict.findings:
+        found.append("the pattern hasn't it: that is a mistake of wire_up-record")
+    if inferred.failed:
+        failed = inferred.failed.size
+        found.append(f"a pattern of the smaller runs alone didn't hold for {failed} ranks")
+    if inferred.dropped:
+        found.append(
+            f"{inferred.dropped} times what ranks knew of others doesn't grow with their number, "
+            "and was left out"
+        )
+    if inferred.needs_messages and not answer.findings:
+        found += say_rest([*answer.taken, *answer.held])
+    return [*found, *answer.in_part]
+
+
+def say_rest(plans: Sequence[SizedPlan]) -> list[str]:
+    """That the verdict rests on the order of MPI, and which size tells more."""
+    said = "the verdict rests on the order of messages of MPI in these runs"
+    most = max(plans, key=lambda it: it.size)
+    if most.size >= LEAST_GRID:
+        return [said]
+    return [
+        f"{said}: in a grid of {most.size} ranks a side may have 2, where each rank hears of all; "
+        f"run a larger size too, such as {LEAST_GRID}"
+    ]
+
+
+def list_lines(answer: Answer) -> list[str]:
+    """The answer in lines."""
+    if not answer.findings:
+        first = [f"findings 0 for {EVERYWHERE}"]
+    else:
+        calls = [
+            f"  {it.rank} {it.number} {' '.join(it.words)}{f' at {it.place}' if it.place else ''}"
+            for it in answer.calls
+        ]
+        counted = f"findings {len(answer.findings)}"
+        first = [*answer.findings, *calls, counted, say_shown(answer)]
+    return [*first, say_origin(answer.taken, answer.held), *list_notes(answer)]
+
+
+def write_answer(answer: Answer) -> str:
+    """The answer as text."""
+    return "".join(f"{it}\n" for it in list_lines(answer))
+
+
+def write_json(answer: Answer) -> str:
+    """The answer as one object of JSON."""
+    said: dict[str, Any] = {
+        "from": [it.size for it in answer.taken],
+        "against": [it.size for it in answer.held],
+        "findings": list(answer.findings),
+        "notes": list_notes(answer),
+    }
+    if answer.findings:
+        said["shown"] = "recording" if answer.shown else "pattern"
+        said["ranks"] = answer.shown.plan.size if answer.shown else answer.verdict.ranks
+        said["calls"] = [
+            {"call": f"{it.rank} {it.number}", "words": " ".join(it.words), "place": it.place}
+            for it in answer.calls
+        ]
+    else:
+        said["for"] = EVERYWHERE
+    return json.dumps(said, sort_keys=True, separators=(",", ":")) + "\n"

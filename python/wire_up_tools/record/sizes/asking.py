@@ -1,0 +1,122 @@
+"""Reads the command line with `--sizes`."""
+import re
+from collections.abc import Sequence
+from dataclasses import dataclass
+from typing import Optional
+
+from wire_up_tools.failures import Refused, Unusable
+from wire_up_tools.options import Option, Parser
+
+SIZES, FROM, AGAINST = "--sizes", "--from", "--against"
+NUMBERS = re.compile(r"[1-9]\d{0,6}(,[1-9]\d{0,6})*")
+# What stands in a command for the number of ranks, and the fewest that tell of loops.
+PLACE, FEWEST = "{}", 3
+# The options that go with sizes.
+WITH_SIZES = ("-o", "--keep", "--no-mpi", "--strict", "--checker")
+NEEDS_NUMBERS = "--sizes needs numbers of ranks, such as 3,4,8, or recordings by --from"
+
+
+@dataclass(frozen=True)
+class SizesRequest:
+    """Asks for one pattern from several sizes: of a command that is run with each, or of recordings
+    that are there. `held` are those against which it is held."""
+
+    pattern: str
+    sizes: Sequence[int]
+    command: Sequence[str]
+    taken: Sequence[Sequence[str]]
+    held: Sequence[Sequence[str]]
+    kept: Optional[str] = None
+    checker: Optional[str] = None
+    with_mpi: bool = True
+    is_strict: bool = False
+    is_json: bool = False
+
+
+class SizesParser(Parser):
+    """The options with `--sizes`."""
+
+    def __init__(self, options: Sequence[Option]) -> None:
+        super().__init__([*options, Option("--json", "", "writes the answer as JSON")])
+        self.add_argument(SIZES, nargs="?", const="")
+        for name, found in ((FROM, "taken"), (AGAINST, "held")):
+            self.add_argument(name, dest=found, nargs="+", action="append", default=[])
+
+    def explain(self, words: Sequence[str], option: str) -> str:
+        """What is wrong with an option."""
+        if option in (FROM, AGAINST):
+            return "which recordings?"
+        return super().explain(words, option)
+
+
+def list_options(words: Sequence[str], options: Sequence[Option]) -> Sequence[str]:
+    """The words before the command, or all where recordings are named."""
+    takes = {it.name for it in options if it.word}
+    at = 0
+    while at < len(words) and words[at].startswith("-"):
+        if words[at] in (FROM, AGAINST):
+            return words
+        is_numbered = words[at] == SIZES and NUMBERS.fullmatch("".join(words[at + 1:at + 2]))
+        at += 2 if words[at] in takes or is_numbered else 1
+    return words[:at]
+
+
+def asks_for_sizes(words: Sequence[str], options: Sequence[Option]) -> bool:
+    """Whether a command line has `--sizes`."""
+    return SIZES in list_options(words, options)
+
+
+def read_sizes_request(words: Sequence[str], options: Sequence[Option]) -> SizesRequest:
+    """What a command line with `--sizes` asks for. Raises Unusable, Refused."""
+    before = list_options(words, options)
+    numbers = "".join(words[words.index(SIZES) + 1:][:1])
+    is_run = NUMBERS.fullmatch(numbers) is not None
+    if is_run and (FROM in before or AGAINST in before):
+        raise Unusable(
+            f"{FROM} and {AGAINST} name recordings, and {SIZES} {numbers} runs a command: one of "
+            "the two"
+        )
+    if not is_run and FROM not in before:
+        raise Unusable(NEEDS_NUMBERS)
+    found = SizesParser(options).read(words)
+    for it in options:
+        is_given = getattr(found, it.name.lstrip("-").replace("-", "_"))
+        if it.name not in WITH_SIZES and is_given not in (None, False):
+            raise Unusable(f"{it.name} doesn't go with {SIZES}")
+    if found.o is None:
+        raise Unusable("-o PATTERN says where the pattern goes")
+    asked = SizesRequest(
+        found.o, sorted(map(int, numbers.split(","))) if is_run else [], found.rest,
+        found.taken, found.held, found.keep, found.checker, not found.no_mpi, found.strict,
+        found.json,
+    )
+    judge_request(asked)
+    return asked
+
+
+def judge_request(asked: SizesRequest) -> None:
+    """Refuses a request that can't be answered. Raises Unusable, Refused."""
+    if not asked.sizes:
+        if asked.command or asked.kept:
+            raise Unusable("--keep goes with a command" if asked.kept else "which recordings?")
+        if len(asked.taken) + len(asked.held) < 2:
+            raise Refused("one size isn't enough: name the recordings of a second one by --from")
+        return
+    refuse_sizes(asked.sizes)
+    if not asked.command:
+        raise Unusable("which command?")
+    if not any(PLACE in it for it in asked.command):
+        raise Refused(f"no word of the command has {PLACE}, where the number of ranks goes")
+
+
+def refuse_sizes(sizes: Sequence[int]) -> None:
+    """Refuses sizes that tell too little. Raises Refused."""
+    if min(sizes) < FEWEST:
+        raise Refused(
+            f"runs with {min(sizes)} ranks tell too little: each size must be {FEWEST} or more"
+        )
+    twice = [it for it in dict.fromkeys(sizes) if sizes.count(it) > 1]
+    if twice:
+        raise Refused(f"two runs have {twice[0]} ranks: each size is given once")
+    if len(sizes) < 2:
+        raise Refused("one size isn't enough: give a second one, such as 3,4,8")

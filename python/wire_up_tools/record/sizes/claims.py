@@ -1,0 +1,167 @@
+"""What ranks of a role surely know of others where they come to an item of their script."""
+from collections.abc import Callable, Iterator, Sequence
+from dataclasses import dataclass
+from typing import NamedTuple, Optional
+
+from wire_up_tools.record.patterns.finding import Loop
+from wire_up_tools.record.sizes.growing import measure
+from wire_up_tools.record.sizes.knowing import Known, find_known
+from wire_up_tools.record.sizes.plans import RACING
+from wire_up_tools.record.sizes.scripts import Instance, Skeleton
+
+
+class Claim(NamedTuple):
+    """All ranks of a role know, before an item of their script, that all others of a role have come
+    to an item of theirs. One that is `of_turns` stands in each turn of a loop, of its rank
+    alone."""
+
+    role: str
+    at: int
+    source: str
+    known: int
+    of_turns: bool = False
+
+
+@dataclass(frozen=True)
+class Informed:
+    """An instance, and what its ranks know by the order of MPI too, and by the program alone."""
+
+    instance: Instance
+    known: Known
+    by_program: Known
+
+
+def inform(instance: Instance) -> Informed:
+    """What the ranks of an instance know."""
+    plan = instance.plan
+    return Informed(instance, find_known(plan, True), find_known(plan, False))
+
+
+def list_pairs(instance: Instance, claim: Claim) -> Iterator[tuple[str, str]]:
+    """Who knows of whom by a claim."""
+    of_source = instance.roles.find(claim.source).ranks
+    for rank in instance.roles.find(claim.role).ranks:
+        others = instance.passed[rank].turns[claim.at] if claim.of_turns else of_source
+        yield from ((rank, it) for it in others if it != rank)
+
+
+def find_level(instance: Instance, known: Known, claim: Claim) -> Optional[int]:
+    """To which item all ranks that a claim is about are known to have come; None where there are
+    none."""
+    passed = instance.passed
+    levels = (
+        passed[other].find_item(known[rank][passed[rank].bounds[claim.at]].get(other, 0))
+        for rank, other in list_pairs(instance, claim)
+    )
+    return min(levels, default=None)
+
+
+def is_true(informed: Informed, claim: Claim) -> bool:
+    """Whether a claim is true of an instance."""
+    found = find_level(informed.instance, informed.known, claim)
+    return found is None or found >= claim.known
+
+
+class Finder:
+    """Finds what the ranks of several plans know."""
+
+    def __init__(self, skeleton: Skeleton, informed: Sequence[Informed]) -> None:
+        self.skeleton, self.informed = skeleton, informed
+        self.names = [it.name for it in skeleton.roles]
+
+    def find(self, refused: set[Claim]) -> Sequence[Claim]:
+        """The claims that say something new and that matter, without those that are refused."""
+        found = [it for role in self.names for it in self.list_new(role, refused)]
+        return self.leave_idle(found)
+
+    def list_new(self, role: str, refused: set[Claim]) -> Iterator[Claim]:
+        """What is known at each item of a role that wasn't before it, nor by the program alone."""
+        items = self.skeleton.scripts[role]
+        had = dict.fromkeys(self.names, 0)
+        for at in range(len(items) + 1):
+            for source in self.names:
+                claim = self.claim(Claim(role, at, source, 0), had[source])
+                if claim and claim not in refused:
+                    had[source] = claim.known
+                    yield claim
+                item = items[at] if at < len(items) else None
+                if isinstance(item, Loop) and item.is_some and item.group.name == source:
+                    claim = self.claim(Claim(role, at, source, 0, True), had[source])
+                    yield from [claim] if claim else []
+
+    def claim(self, asked: Claim, had: int) -> Optional[Claim]:
+        """What is known in all plans, if that is more than was known, and than by the program."""
+        levels = self.find_least(asked, lambda it: it.known)
+        if levels is None or levels <= had:
+            return None
+        by_program = self.find_least(asked, lambda it: it.by_program)
+        return asked._replace(known=levels) if levels > (by_program or 0) else None
+
+    def find_least(self, asked: Claim, choose: Callable[[Informed], Known]) -> Optional[int]:
+        """What is known in all plans."""
+        levels = (find_level(it.instance, choose(it), asked) for it in self.informed)
+        return min((it for it in levels if it is not None), default=None)
+
+    def matters(self, role: str, at: int) -> bool:
+        """Whether a call that can race, or bring what races, comes at an item or behind it."""
+        for item in self.skeleton.scripts[role][at:]:
+            for line in item.lines if isinstance(item, Loop) else [item]:
+                words = line.split(" ")
+                if words[0] in (*RACING, "commit") or words[-1] == "collect":
+                    return True
+        return False
+
+    def leave_idle(self, found: Sequence[Claim]) -> Sequence[Claim]:
+        """The claims at or behind which something matters, or what others claim to be passed."""
+        kept = [it for it in found if it.of_turns or self.matters(it.role, it.at)]
+        while True:
+            more = [
+                it for it in found if it not in kept
+                and any(a.source == it.role and a.known >= it.at for a in kept)
+            ]
+            if not more:
+                return [it for it in found if it in kept]
+            kept += more
+
+
+def grows(instances: Sequence[Instance], claim: Claim) -> bool:
+    """Whether what MPI does for a claim grows from an instance to the last one, which has at least
+    twice as many ranks."""
+    sizes = sorted(instances, key=lambda it: it.plan.size)
+    most = sizes[-1]
+    half = [it for it in sizes if 2 * it.plan.size <= most.plan.size][-1]
+    return measure_claim(half, claim) < measure_claim(most, claim)
+
+
+def measure_claim(instance: Instance, claim: Claim) -> int:
+    """How much MPI does from where the ranks stand of which something is known to where it is
+    known."""
+    parts: dict[str, tuple[int, int]] = {}
+    for role in instance.roles.all:
+        for rank in role.ranks:
+            bounds = instance.passed[rank].bounds
+            first = bounds[claim.known] if role.name == claim.source else 0
+            last = bounds[claim.at] if role.name == claim.role else bounds[-1]
+            parts[rank] = first, last
+    return measure(instance.plan, parts)
+
+
+def find_claims(
+    skeleton: Skeleton, larger: Sequence[Instance]
+) -> tuple[Sequence[Claim], int]:
+    """What the ranks of all plans of a skeleton know; and how many claims about a number of ranks
+    don't grow with it and were dropped. `larger` are other instances."""
+    finder = Finder(skeleton, [inform(it) for it in skeleton.instances])
+    instances = [*skeleton.instances, *larger]
+    sizes = [it.plan.size for it in instances]
+    groups = {it.name for it in skeleton.roles if it.is_group}
+    refused = set[Claim]()
+    found = finder.find(refused)
+    while max(sizes) >= 2 * min(sizes):
+        of_many = (it for it in found if not it.of_turns and groups & {it.role, it.source})
+        more = {it for it in of_many if not grows(instances, it)} - refused
+        if not more:
+            break
+        refused |= more
+        found = finder.find(refused)
+    return found, len(refused)

@@ -1,0 +1,220 @@
+"""Makes one pattern from runs of several sizes, and answers what it says."""
+import gc
+import os
+import shutil
+import sys
+import tempfile
+from collections import Counter
+from collections.abc import Iterator, Sequence
+from dataclasses import dataclass, replace
+from typing import Union
+
+from wire_up_tools.checker import Checker, find_checker
+from wire_up_tools.failures import Refused
+from wire_up_tools.files import STANDARD_OUTPUT, write_whole
+from wire_up_tools.limits import LARGE, VERSION_1
+from wire_up_tools.record.floating import settle_floating
+from wire_up_tools.record.notes import FLOATING
+from wire_up_tools.record.places import find_places, read_places
+from wire_up_tools.record.planning import Choices, Plan, make_plan
+from wire_up_tools.record.recordings import read_recordings
+from wire_up_tools.record.running import find_libraries, make_environment, run
+from wire_up_tools.record.sizes.answering import (
+    Answer,
+    Shown,
+    list_notes,
+    say_origin,
+    write_answer,
+    write_json,
+)
+from wire_up_tools.record.sizes.asking import PLACE, SizesRequest, refuse_sizes
+from wire_up_tools.record.sizes.inferring import Inferred, infer
+from wire_up_tools.record.sizes.judging import (
+    CLEAN,
+    FOUND,
+    Verdict,
+    judge_pattern,
+    judge_plan,
+)
+from wire_up_tools.record.sizes.plans import SizedPlan, can_race, take_plan
+from wire_up_tools.record.writing import list_notes as list_plan_notes
+from wire_up_tools.record.writing import is_by_mpi_alone, say_luck, say_own_code, write_plan
+from wire_up_tools.words import (
+    CUT_OFF,
+    LEFT_OUT_HARMLESS,
+    MORE_ORDERED,
+    OTHERWISE_AFTER,
+    PATTERN_BY,
+    WRITTEN_OTHERWISE,
+)
+
+STANDARD_ERROR = 2
+GUESS = "That other numbers do the same is a guess."
+# What is said before why a verdict says less of the program.
+DOUBTS = {
+    MORE_ORDERED: "a verdict holds only in part:",
+    OTHERWISE_AFTER: "another run may do otherwise after",
+}
+
+
+@dataclass(frozen=True)
+class Made:
+    """The plan of a run, in short and with all that it says, and its text."""
+
+    sized: SizedPlan
+    plan: Plan
+    text: str
+
+
+def make_sized(name: str, paths: Sequence[str], choices: Choices) -> Made:
+    """The plan of the recordings of a run. Raises Refused, OSError."""
+    recordings = read_recordings(paths, choices.most)
+    plan = make_plan(recordings, choices)
+    text_of, lean = plan, plan
+    if plan.notes.more_ordered[FLOATING]:
+        # Without gets that may float nothing is more ordered by them.
+        lean = make_plan(recordings, replace(choices, has_floating=False))
+        plan = replace(plan, notes=settle_floating(plan.notes))
+    folders = dict.fromkeys(os.path.dirname(it.path) for it in recordings)
+    places = find_places(plan.draft, read_places(folders))
+    for title, them in list_plan_notes(plan):
+        if title == CUT_OFF and them:
+            raise Refused(f"{name}: the run was cut off, and no pattern is made of it: {them[0]}")
+    return Made(take_plan(name, lean, places), plan, write_plan(text_of, places))
+
+
+def run_sizes(asked: SizesRequest, choices: Choices, folder: str) -> Iterator[Made]:
+    """The plans of a command that is run with each size. `folder` is that of the recorder. Raises
+    Refused, NotRun, OSError."""
+    libraries = find_libraries(folder, asked.with_mpi)
+    if asked.kept and os.path.isdir(asked.kept) and os.listdir(asked.kept):
+        raise Refused(f"{asked.kept}: isn't empty")
+    beside = os.getcwd() if asked.pattern == STANDARD_OUTPUT else os.path.dirname(asked.pattern)
+    room = asked.kept or tempfile.mkdtemp(prefix="wire_up-record-", dir=beside or ".")
+    try:
+        for size in asked.sizes:
+            recordings = os.path.abspath(os.path.join(room, str(size)))
+            os.makedirs(recordings)
+            command = [it.replace(PLACE, str(size)) for it in asked.command]
+            status = run(command, make_environment(libraries, recordings), None, STANDARD_ERROR)
+            if status:
+                how = f"with status {status}" if status > 0 else f"by signal {-status}"
+                raise Refused(f"the run with {size} ranks ended {how}: no pattern is made")
+            made = make_sized(f"the run with {size} ranks", [recordings], choices)
+            if made.sized.size != size:
+                raise Refused(f"the run with {size} ranks has {made.sized.size} processes")
+            yield made
+    finally:
+        if not asked.kept:
+            shutil.rmtree(room, ignore_errors=True)
+
+
+def collect_runs(
+    asked: SizesRequest, choices: Choices, folder: str
+) -> tuple[Sequence[Made], Sequence[Made]]:
+    """The runs from which a pattern is made, and those against which it is held: of a command the
+    largest, if there are three. Raises Refused, NotRun, OSError."""
+    if asked.sizes:
+        made = list(run_sizes(asked, choices, folder))
+        count = len(made) if len(made) < 3 else len(made) - 1
+        return made[:count], made[count:]
+    taken, held = (
+        sorted(
+            (make_sized(" ".join(it), it, choices) for it in them), key=lambda it: it.sized.size
+        )
+        for them in (asked.taken, asked.held)
+    )
+    refuse_sizes([it.sized.size for it in (*taken, *held)])
+    return taken, held
+
+
+def find_shown(checker: Checker, runs: Sequence[Made]) -> Union[Shown, None]:
+    """The first run in which something is found. Raises Refused, OSError."""
+    for it in runs:
+        verdict = judge_plan(checker, it.sized.name, it.text)
+        if verdict.findings:
+            return Shown(it.sized, verdict)
+    return None
+
+
+def answer(checker: Checker, taken: Sequence[Made], held: Sequence[Made]) -> Answer:
+    """The answer on runs. Raises Refused if their calls fit no pattern, and no run has what is
+    found; OSError."""
+    every = [*taken, *held]
+    in_part = list_doubts(every)
+    ours, others = [it.sized for it in taken], [it.sized for it in held]
+    if not any(can_race(it.sized) for it in every):
+        return Answer(ours, others, None, Verdict([]), in_part=in_part)
+    found = infer(ours, others, lambda text: not judge_pattern(checker, text).findings)
+    shown = find_shown(checker, every)
+    if isinstance(found, Inferred):
+        verdict = judge_pattern(checker, found.text)
+        return Answer(found.taken, found.held, found, verdict, shown, in_part=in_part)
+    unfit = f"no pattern fits these runs: {found}"
+    if not shown:
+        raise Refused(unfit)
+    return Answer(ours, others, None, Verdict([]), shown, unfit, in_part)
+
+
+def list_doubts(runs: Sequence[Made]) -> Sequence[str]:
+    """Why a verdict over the plans says less of the program."""
+    return [
+        f"{DOUBTS[title]} {it}" for title, them in join_notes(runs) if title in DOUBTS
+        for it in them
+    ]
+
+
+def join_notes(runs: Sequence[Made]) -> Iterator[tuple[str, Sequence[str]]]:
+    """What the plans can't say: titles, each with the lines below it, which count what most was of
+    in one run."""
+    found: dict[str, Counter[str]] = {}
+    for run_of in runs:
+        for title, them in list_plan_notes(run_of.plan):
+            if title not in (WRITTEN_OTHERWISE, LEFT_OUT_HARMLESS):
+                counted = (it.partition(" ") for it in them)
+                found.setdefault(title, Counter())
+                found[title] |= Counter({what: int(count) for count, _, what in counted})
+    for title, counts in found.items():
+        yield title, [f"{count} {what}" for what, count in sorted(counts.items())]
+
+
+def write_head(found: Answer, runs: Sequence[Made]) -> str:
+    """The head of the pattern: what it comes from, and what it can't say."""
+    last = runs[-1].plan
+    lines = [f"{PATTERN_BY}, {say_origin(found.taken, found.held)}. {GUESS}"]
+    lines += [it for it in list_notes(found) if it not in found.in_part]
+    own = say_own_code if all(is_by_mpi_alone(it.plan) for it in runs) else say_luck
+    lines += dict.fromkeys(it.removeprefix("# ") for say in (say_luck, own) for it in say(last))
+    for title, them in join_notes(runs):
+        lines += [title, *(f"  {it}" for it in them)] if them else []
+    return "".join(f"# {it}\n" for it in lines)
+
+
+def write_whole_pattern(found: Answer, runs: Sequence[Made]) -> str:
+    """The text of the pattern. Where no call can race it has none."""
+    job = runs[0].sized.job
+    empty = f"pattern 1\njob {job}\nmany ranks\n"
+    text = found.inferred.text if found.inferred else empty
+    return write_head(found, runs) + text
+
+
+def answer_sizes(asked: SizesRequest, folder: str) -> int:
+    """Makes and writes the pattern that is asked for, and says the answer. Answers the status: 0 if
+    nothing is found, 1 if something is. `folder` is that of the recorder. Raises Refused, NotRun,
+    OSError."""
+    gc.disable()
+    path = asked.checker or find_checker(folder)
+    if path is None:
+        raise Refused("there is no program `wire_up` to judge the pattern: --checker FILE names it")
+    checker = Checker(path)
+    checker = Checker(path, checker.takes_large())
+    most = LARGE if checker.is_large else VERSION_1
+    choices = Choices(asked.with_mpi, asked.is_strict, most)
+    taken, held = collect_runs(asked, choices, folder)
+    found = answer(checker, taken, held)
+    if not found.unfit:
+        write_whole(asked.pattern, write_whole_pattern(found, [*taken, *held]))
+    said = write_json(found) if asked.is_json else write_answer(found)
+    to = sys.stderr if asked.pattern == STANDARD_OUTPUT else sys.stdout
+    print(said, end="", file=to, flush=True)
+    return FOUND if found.findings else CLEAN

@@ -1,0 +1,108 @@
+"""Infers one pattern from the plans of several sizes, and holds it against larger ones."""
+from collections.abc import Callable, Sequence
+from dataclasses import dataclass, replace
+from typing import Optional, Union
+
+from wire_up_tools.record.patterns.indexing import find_places as find_numbers
+from wire_up_tools.record.patterns.indexing import name_all
+from wire_up_tools.record.sizes.claims import Claim, find_claims, inform, is_true
+from wire_up_tools.record.sizes.leaning import keep_whole_fences, make_lean, take_fences_as_order
+from wire_up_tools.record.sizes.plans import SizedPlan, index_plan
+from wire_up_tools.record.sizes.scripts import Instance, Skeleton, Unfit, find_skeleton, fit
+from wire_up_tools.record.sizes.writing import write_pattern
+
+# Whether nothing is found in a pattern, by its text.
+IsClean = Callable[[str], bool]
+
+
+@dataclass(frozen=True)
+class Inferred:
+    """A pattern: its text without a head, from which plans it comes, which others hold it, and the
+    plan that didn't hold a first one, if there is one. `dropped` counts the claims that don't grow
+    with the ranks. If the pattern `needs_messages`, something is found without what ranks of a
+    group know, or what is known of them, by messages and by fences that aren't of all ranks."""
+
+    text: str
+    skeleton: Skeleton
+    dropped: int
+    needs_messages: bool
+    taken: Sequence[SizedPlan]
+    held: Sequence[SizedPlan]
+    failed: Optional[SizedPlan] = None
+
+
+def index_all(plans: Sequence[SizedPlan]) -> Sequence[SizedPlan]:
+    """Plans with the numbers that are ranks in all of them as indices."""
+    places = find_numbers([name_all((it.words for it in p.list_all()), p.size) for p in plans])
+    return [index_plan(it, places) for it in plans]
+
+
+def infer_way(
+    taken: Sequence[SizedPlan], larger: Sequence[SizedPlan], is_clean: IsClean
+) -> Union[Inferred, Unfit]:
+    """The pattern of plans, which the larger ones hold; or where it breaks. Of MPI's order it has
+    nothing, or else only that of fences of all ranks, if nothing is found without the rest."""
+    skeleton = find_skeleton(taken)
+    if isinstance(skeleton, Unfit):
+        return skeleton
+    fitted = list[Instance]()
+    for it in larger:
+        instance = fit(it, skeleton.way, skeleton.scripts)
+        if isinstance(instance, Unfit):
+            return instance
+        fitted.append(instance)
+    of_fences, _ = find_claims(change_plans(skeleton, keep_whole_fences), fitted)
+    for claims in ([], of_fences):
+        text = write_pattern(skeleton, claims)
+        if why_other(fitted, claims) is None and is_clean(text):
+            return Inferred(text, skeleton, 0, False, taken, larger)
+    claims, dropped = find_claims(skeleton, fitted)
+    text = write_pattern(skeleton, claims)
+    groups = {it.name for it in skeleton.roles if it.is_group}
+    of_many = any(groups & {it.role, it.source} for it in claims)
+    return why_other(fitted, claims) or Inferred(text, skeleton, dropped, of_many, taken, larger)
+
+
+def change_plans(skeleton: Skeleton, change: Callable[[SizedPlan], SizedPlan]) -> Skeleton:
+    """A skeleton whose plans have other lines of order."""
+    return replace(skeleton, instances=[
+        replace(it, plan=change(it.plan)) for it in skeleton.instances
+    ])
+
+
+def why_other(fitted: Sequence[Instance], claims: Sequence[Claim]) -> Optional[Unfit]:
+    """The first instance of which claims aren't true."""
+    for it in fitted if claims else ():
+        informed = inform(it)
+        if not all(is_true(informed, claim) for claim in claims):
+            return Unfit(it.plan, it.plan.ranks[0], 1, "MPI orders it less")
+    return None
+
+
+def infer_once(
+    taken: Sequence[SizedPlan], larger: Sequence[SizedPlan], is_clean: IsClean
+) -> Union[Inferred, Unfit]:
+    """The pattern of plans, which the larger ones hold, with the fences of the program as they are,
+    or else with those for order that collect nothing; or where the first breaks."""
+    unfit = None
+    lean = [make_lean(it) for it in (*taken, *larger)]
+    for changed in (lean, [take_fences_as_order(it) for it in lean]):
+        plans = index_all(changed)
+        found = infer_way(plans[:len(taken)], plans[len(taken):], is_clean)
+        if isinstance(found, Inferred):
+            return found
+        unfit = unfit or found
+    assert unfit
+    return unfit
+
+
+def infer(
+    taken: Sequence[SizedPlan], larger: Sequence[SizedPlan], is_clean: IsClean
+) -> Union[Inferred, Unfit]:
+    """The pattern of plans, which the larger ones hold. Where one doesn't, the pattern is made anew
+    with all of them. Answers where their calls fit no script, if they don't."""
+    found = infer_once(taken, larger, is_clean)
+    if isinstance(found, Inferred) or not larger:
+        return found
+    again = infer_once([*taken, *larger], [], is_clean)
+    return replace(again, failed=found.plan) if isinstance(again, Inferred) else again

@@ -1,0 +1,189 @@
+"""Finds one script for each role, from which the program's calls in the plans of all sizes come."""
+import bisect
+from collections.abc import Iterator, Mapping, Sequence
+from dataclasses import dataclass
+from typing import Optional, Union
+
+from wire_up_tools.record.patterns.finding import (
+    Broken,
+    Item,
+    Loop,
+    Search,
+    Told,
+    make_turn,
+    order_turns,
+    tell_all,
+)
+from wire_up_tools.record.patterns.scripts import FIRST, GROUP, OTHERS, Role, Roles, Said, Script
+from wire_up_tools.record.sizes.plans import SizedPlan
+
+# Which ranks have a role of their own, by their places; -1 is the last. The first way that fits is
+# taken.
+Way = Sequence[int]
+WAYS: Sequence[Way] = ((), (0,), (0, 1), (-1,), (0, -1))
+NAMES = {0: FIRST, 1: "second", -1: "last"}
+
+
+def part_ranks(ranks: Sequence[str], job: str, way: Way) -> Roles:
+    """Parts ranks into roles: those of the way, and one group of all others, which may have
+    none."""
+    first = [it for it in way if it >= 0]
+    after = len(ranks) - (len(way) - len(first))
+    roles = [Role(NAMES[it], job, ranks[it:it + 1], False) for it in first]
+    roles.append(Role(OTHERS if way else GROUP, job, ranks[len(first):max(after, 0)], True))
+    roles += [Role(NAMES[it], job, ranks[it:], False) for it in way if it < 0]
+    return Roles(roles)
+
+
+@dataclass(frozen=True)
+class Passed:
+    """How a rank goes through its script: how many of its calls are over before each item and after
+    the last, and whom each loop is over, by the number of its item."""
+
+    bounds: Sequence[int]
+    turns: Mapping[int, Sequence[str]]
+
+    def find_item(self, count: int) -> int:
+        """The last item that comes after at most so many calls."""
+        return bisect.bisect_right(self.bounds, count) - 1
+
+
+@dataclass(frozen=True)
+class Instance:
+    """A plan whose calls come from scripts: its roles, and how each rank goes through its
+    script."""
+
+    plan: SizedPlan
+    roles: Roles
+    passed: Mapping[str, Passed]
+
+
+@dataclass(frozen=True)
+class Skeleton:
+    """The scripts of roles, by their names, and the plans that they come from."""
+
+    way: Way
+    roles: Sequence[Role]
+    scripts: Mapping[str, Sequence[Item]]
+    instances: Sequence[Instance]
+
+
+@dataclass(frozen=True)
+class Unfit:
+    """Where the calls of a plan fit no script: its name, the rank, the call and its number, and why
+    if there is more to say."""
+
+    plan: SizedPlan
+    rank: str
+    number: int
+    why: str = ""
+
+    def __str__(self) -> str:
+        calls = self.plan.list_program(self.rank)
+        has_it = self.number <= len(calls)
+        what = f"`{' '.join(calls[self.number - 1].words)}`" if has_it else "it has no more calls"
+        why = f": {self.why}" if self.why else ""
+        return f"with {self.plan.size} ranks, call {self.number} of {self.rank}: {what}{why}"
+
+
+def tell_plan(plan: SizedPlan, roles: Roles) -> Union[Sequence[Told], Broken]:
+    """What the program calls in each rank, in the words of a pattern; or the first call that has
+    none."""
+    return tell_all(roles, [
+        Script(rank, plan.job, [it.words for it in plan.list_program(rank)]) for rank in plan.ranks
+    ])
+
+
+def pass_script(items: Sequence[Item], told: Told) -> Optional[Passed]:
+    """How a rank goes through a script; None where its calls don't come from it."""
+    at, bounds, turns = 0, [0], dict[int, Sequence[str]]()
+    for number, item in enumerate(items):
+        if isinstance(item, Loop):
+            ended = pass_loop(item, told, at)
+            if ended is None:
+                return None
+            at, turns[number] = ended
+        else:
+            if told.calls[at:at + 1] != [Said(item, None)]:
+                return None
+            at += 1
+        bounds.append(at)
+    return Passed(bounds, turns) if at == len(told.calls) else None
+
+
+def pass_loop(loop: Loop, told: Told, at: int) -> Optional[tuple[int, Sequence[str]]]:
+    """At which call a rank is after a loop that begins at one, and whom it was over; None where it
+    doesn't make it."""
+    others = list[str]()
+    for other in order_turns(told.roles.find(loop.group.name).ranks, told.rank, loop.is_cyclic):
+        turn = make_turn(loop.lines, other)
+        if list(told.calls[at:at + len(turn)]) == turn:
+            at += len(turn)
+            others.append(other)
+        elif not loop.is_some:
+            return None
+    return at, others
+
+
+def fit(
+    plan: SizedPlan, way: Way, scripts: Mapping[str, Sequence[Item]]
+) -> Union[Instance, Unfit]:
+    """A plan as an instance of scripts; or the rank whose calls don't come from its script."""
+    roles = part_ranks(plan.ranks, plan.job, way)
+    told = tell_plan(plan, roles)
+    if isinstance(told, Broken):
+        return Unfit(plan, told.rank, told.number, told.why)
+    passed = {}
+    for it in told:
+        found = pass_script(scripts[roles.by_rank[it.rank].name], it)
+        if found is None:
+            return Unfit(plan, it.rank, find_otherwise(scripts[roles.by_rank[it.rank].name], it))
+        passed[it.rank] = found
+    return Instance(plan, roles, passed)
+
+
+def find_otherwise(items: Sequence[Item], told: Told) -> int:
+    """The number of the first call of a rank that isn't in its script, as far as is known without
+    a search: the first that no line of the script has."""
+    lines = {line for it in items for line in (it.lines if isinstance(it, Loop) else [it])}
+    others = (n for n, it in enumerate(told.calls, 1) if it.words not in lines)
+    return next(others, len(told.calls))
+
+
+def find_scripts(plans: Sequence[SizedPlan], way: Way) -> Union[Skeleton, Unfit]:
+    """The scripts of plans, with the roles of a way; or where none goes on."""
+    parted = [part_ranks(it.ranks, it.job, way) for it in plans]
+    all_told = list[tuple[SizedPlan, Told]]()
+    for plan, roles in zip(plans, parted):
+        told = tell_plan(plan, roles)
+        if isinstance(told, Broken):
+            return Unfit(plan, told.rank, told.number, told.why)
+        all_told += [(plan, it) for it in told]
+    scripts = {}
+    for role in parted[0].all:
+        mine = [it for it in all_told if it[1].roles.by_rank[it[1].rank].name == role.name]
+        search = Search([told for _, told in mine])
+        found = search.find()
+        if isinstance(found, Broken):
+            return Unfit(mine[search.find_break()][0], found.rank, found.number)
+        scripts[role.name] = found
+    fitted = [fit(it, way, scripts) for it in plans]
+    return Skeleton(way, parted[0].all, scripts, [it for it in fitted if isinstance(it, Instance)])
+
+
+def find_skeleton(plans: Sequence[SizedPlan]) -> Union[Skeleton, Unfit]:
+    """The scripts of plans by the first way to part ranks into roles that has some; or where the
+    way that goes furthest breaks."""
+    unfit = list[Unfit]()
+    for way in list_ways(plans):
+        found = find_scripts(plans, way)
+        if isinstance(found, Skeleton):
+            return found
+        unfit.append(found)
+    return max(unfit, key=lambda it: it.number)
+
+
+def list_ways(plans: Sequence[SizedPlan]) -> Iterator[Way]:
+    """The ways that leave a group in each plan."""
+    fewest = min(it.size for it in plans)
+    return (it for it in WAYS if len(it) < fewest)

@@ -1,0 +1,350 @@
+"""Tests one pattern from plans of several sizes: what it says, and the answers and lines of the
+command."""
+import json
+import math
+import os
+import tempfile
+import unittest
+from collections.abc import Callable, Sequence
+from typing import Any
+
+import support
+from tapes import Tape, make_world, run_recorder, write_file
+from wire_up_tools.failures import Refused, Unusable
+from wire_up_tools.record.command_line import read_request
+from wire_up_tools.record.sizes.asking import SizesRequest
+
+Tapes = Callable[[int], list[Tape]]
+
+
+def send(tapes: Sequence[Tape], source: int, target: int) -> None:
+    """Writes that one rank sends another a message, which is received."""
+    tapes[source].begin(f"send 1 {target} 0 4")
+    tapes[target].call(f"receive 1 {source} 0", f"0 {source} 0 4")
+
+
+def look_up(tape: Tape, name: str) -> None:
+    """Writes that a rank looks a name up and finds it."""
+    tape.call(f"lookup blocks :{name} -", f"0 {name}=text:x")
+
+
+def publish(tape: Tape, name: str) -> None:
+    """Writes that a rank publishes a name."""
+    tape.call(f"publish blocks {name}=text:x -")
+
+
+def tell(size: int) -> list[Tape]:
+    """Rank 0 publishes a port and sends the others a message each; then they look it up."""
+    tapes = make_world(size)
+    publish(tapes[0], "port")
+    for rank in range(1, size):
+        send(tapes, 0, rank)
+        look_up(tapes[rank], "port")
+    return tapes
+
+
+def meet(size: int) -> list[Tape]:
+    """The same with a barrier in place of messages."""
+    tapes = make_world(size)
+    publish(tapes[0], "port")
+    for it in tapes:
+        it.call("collective barrier 1", "0 all")
+    for it in tapes[1:]:
+        look_up(it, "port")
+    return tapes
+
+
+def forget(size: int) -> list[Tape]:
+    """The same without messages."""
+    tapes = make_world(size)
+    publish(tapes[0], "port")
+    for it in tapes[1:]:
+        look_up(it, "port")
+    return tapes
+
+
+def pass_on(size: int) -> list[Tape]:
+    """Each rank publishes a name of its own; a message goes through all of them and comes back to
+    the first, then round again. At the end each looks up the name of the rank before it."""
+    tapes = make_world(size)
+    for rank, it in enumerate(tapes):
+        publish(it, f"port{rank}")
+    for rank in (*range(size), *range(size)):
+        send(tapes, rank, (rank + 1) % size)
+    for rank, it in enumerate(tapes):
+        look_up(it, f"port{(rank - 1) % size}")
+    return tapes
+
+
+# The sides of grids, as MPI_Dims_create chooses them.
+SIDES = {4: (2, 2, 1), 8: (2, 2, 2), 27: (3, 3, 3)}
+
+
+def shift(rank: int, sides: Sequence[int], side: int, by: int) -> int:
+    """The neighbour of a rank along a side of a grid that goes round."""
+    after = math.prod(sides[side + 1:])
+    place = rank // after % sides[side]
+    return rank + ((place + by) % sides[side] - place) * after
+
+
+def go_round(size: int) -> list[Tape]:
+    """Rank 0 publishes a port; each rank of a grid of three sides sends to both neighbours along
+    each; then all look the port up. Where a side has 2, those along it hear of each other."""
+    tapes, sides = make_world(size), SIDES[size]
+    publish(tapes[0], "port")
+    for side in range(3):
+        for by in (1, -1):
+            for rank in range(size):
+                tapes[rank].begin(f"send 1 {shift(rank, sides, side, by)} {by + 1} 4")
+            for rank in range(size):
+                source = shift(rank, sides, side, -by)
+                tapes[rank].call(f"receive 1 {source} {by + 1}", f"0 {source} {by + 1} 4")
+    for it in tapes:
+        look_up(it, "port")
+    return tapes
+
+
+def put_cards(size: int) -> list[Tape]:
+    """Each rank puts a card, and waits for those of all others: no call can race."""
+    tapes = make_world(size)
+    for it in tapes:
+        it.call("put global card text:v").call("commit")
+        it.call("fence blocks all -")
+    return tapes
+
+
+def part_ways(size: int) -> list[Tape]:
+    """With 4 ranks or more another call is made."""
+    tapes = tell(size)
+    for rank, it in enumerate(tapes if size > 3 else []):
+        publish(it, f"more{rank}")
+    return tapes
+
+
+def last_asks(size: int) -> list[Tape]:
+    """The last rank alone looks a port up, once it has heard of rank 0."""
+    tapes = make_world(size)
+    publish(tapes[0], "port")
+    send(tapes, 0, size - 1)
+    look_up(tapes[-1], "port")
+    return tapes
+
+
+class AnswerTest(unittest.TestCase):
+    """The answers of the command on recordings."""
+
+    def setUp(self) -> None:
+        room = tempfile.TemporaryDirectory(prefix="wire-up-")
+        self.addCleanup(room.cleanup)
+        self.room = room.name
+        self.pattern = os.path.join(room.name, "pattern")
+        self.checker = support.program()
+
+    def write_run(self, tapes: Sequence[Tape], is_over: bool = True) -> str:
+        """Writes the recordings of a run. Answers their folder."""
+        folder = tempfile.mkdtemp(dir=self.room)
+        for n, it in enumerate(tapes):
+            write_file(os.path.join(folder, f"{n}.recording"), it.text(is_over))
+        return folder
+
+    def ask(self, make: Tapes, taken: Sequence[int], held: Sequence[int]) -> Any:
+        """The answer on runs of some sizes, as JSON."""
+        words = ["--sizes", "--json", "-o", self.pattern, "--checker", self.checker]
+        for option, sizes in (("--from", taken), ("--against", held)):
+            for size in sizes:
+                words += [option, self.write_run(make(size))]
+        ran = run_recorder(*words)
+        self.assertIn(ran.returncode, (0, 1), ran.stderr)
+        said = json.loads(ran.stdout)
+        self.assertEqual(ran.returncode, int(bool(said["findings"])))
+        self.assertEqual((said["from"], said["against"]), ([*taken], [*held]))
+        return said
+
+    def read_pattern(self) -> str:
+        """The pattern without its comments."""
+        with open(self.pattern, encoding="utf-8") as it:
+            return "".join(line for line in it if not line.startswith("#"))
+
+    def test_order_that_all_know(self) -> None:
+        """It stands as a name that the first rank publishes."""
+        said = self.ask(tell, (3, 4), (8,))
+        self.assertEqual(said["findings"], [])
+        (rests,) = said["notes"]
+        self.assertRegex(rests, "^the verdict rests on the order of messages .*, such as 27$")
+        self.assertEqual(
+            self.read_pattern(),
+            "pattern 1\njob app\none root\npublish port x\npublish done.root.1 sent\n"
+            "many workers\nlookup-wait done.root.1\nlookup port\n",
+        )
+
+    def test_a_fence_of_all(self) -> None:
+        """A verdict that rests on it needs no larger size."""
+        said = self.ask(meet, (3, 4), (8,))
+        self.assertEqual((said["findings"], said["notes"]), ([], []))
+        self.assertIn("many workers\nlookup-wait done.root.1\n", self.read_pattern())
+
+    def test_a_race_that_recordings_have(self) -> None:
+        said = self.ask(forget, (3, 4), (8,))
+        self.assertEqual(
+            said["findings"],
+            ["race app:0 1 app:1 1 name port", "race app:0 1 app:2 1 name port"],
+        )
+        self.assertEqual((said["shown"], said["ranks"]), ("recording", 3))
+        words = [it["words"] for it in said["calls"]]
+        self.assertEqual(words, ["publish port x", "lookup port", "lookup port"])
+
+    def test_names_with_the_rank(self) -> None:
+        """They have an index; who asks whom is left open, so that all must be known."""
+        said = self.ask(pass_on, (3, 4), (8,))
+        self.assertEqual(said["findings"], [])
+        self.assertIn("for some ranks\n", self.read_pattern().replace("workers", "ranks"))
+        self.assertIn("lookup port#[each]\n", self.read_pattern())
+
+    def test_what_does_not_grow(self) -> None:
+        """In a grid all hear of all while its sides are short; that can't be so in any."""
+        said = self.ask(go_round, (4,), (8,))
+        self.assertEqual(said["findings"], [])
+        self.assertIn("in a grid of 8 ranks a side may have 2", said["notes"][0])
+        said = self.ask(go_round, (4,), (8, 27))
+        self.assertEqual(said["findings"], ["race app:0 1 app:1 1 name port"])
+        self.assertEqual((said["shown"], said["ranks"]), ("pattern", 2))
+        self.assertIn("doesn't grow with their number, and was left out", said["notes"][0])
+
+    def test_no_call_that_can_race(self) -> None:
+        said = self.ask(put_cards, (3, 4), (8,))
+        self.assertEqual(said["findings"], [])
+        (why,) = said["notes"]
+        self.assertRegex(why, "^no call of these runs can race: ")
+        self.assertEqual(self.read_pattern(), "pattern 1\njob app\nmany ranks\n")
+
+    def test_a_role_for_the_last_rank(self) -> None:
+        self.assertEqual(self.ask(last_asks, (3, 4), (8,))["findings"], [])
+        self.assertIn("one last\nlookup-wait done.root.1\n", self.read_pattern())
+
+    def test_a_race_without_a_pattern(self) -> None:
+        """A run that has it is enough."""
+        said = self.ask(lambda size: forget(size) if size > 3 else put_cards(size), (3, 4), ())
+        self.assertEqual((said["shown"], said["ranks"]), ("recording", 4))
+        self.assertRegex(said["notes"][0], "^no pattern fits these runs: with . ranks, call 1 of ")
+
+    def test_the_text(self) -> None:
+        words = [it for size in (3, 4) for it in ("--from", self.write_run(tell(size)))]
+        ran = run_recorder("--sizes", "-o", self.pattern, "--checker", self.checker, *words)
+        self.assertEqual(ran.returncode, 0, ran.stderr)
+        first, second, *_ = ran.stdout.splitlines()
+        self.assertEqual(first, "findings 0 for every number of ranks on every placement")
+        self.assertEqual(second, "from runs with 3 and 4 ranks, held against none")
+
+    def refuse(self, *words: str) -> str:
+        """What is said where there is no answer, in one line."""
+        ran = run_recorder("--sizes", "-o", self.pattern, "--checker", self.checker, *words)
+        self.assertEqual((ran.returncode, ran.stdout), (125, ""))
+        self.assertFalse(os.path.exists(self.pattern))
+        (line,) = ran.stderr.splitlines()
+        return line.removeprefix("wire_up-record: ")
+
+    def refuse_runs(self, *runs: Sequence[Tape], is_over: bool = True) -> str:
+        """What is said of runs of which there is no pattern."""
+        folders = [self.write_run(it, is_over) for it in runs]
+        words = [it for folder in folders for it in ("--from", folder)]
+        said = self.refuse(*words)
+        for folder in folders:
+            said = said.replace(folder, "RUN")
+        return said
+
+    def test_runs_without_a_pattern(self) -> None:
+        for runs, said in (
+            ((tell(2), tell(3)), "runs with 2 ranks tell too little: each size must be 3 or more"),
+            ((tell(3), tell(3)), "two runs have 3 ranks: each size is given once"),
+            ((tell(3),), "one size isn't enough: name the recordings of a second one by --from"),
+            (
+                (part_ways(3), part_ways(4)),
+                "no pattern fits these runs: with 4 ranks, call 2 of app:0: `publish more#[app:0] "
+                "x`",
+            ),
+        ):
+            self.assertEqual(self.refuse_runs(*runs), said)
+
+    def test_a_run_that_was_cut_off(self) -> None:
+        said = self.refuse_runs(tell(3), tell(4), is_over=False)
+        self.assertRegex(said, "^RUN: the run was cut off, and no pattern is made of it: 3 process")
+
+    def test_several_jobs(self) -> None:
+        tapes = [Tape(n, job) for job in ("a", "b") for n in range(3)]
+        said = self.refuse_runs(tapes, tell(4))
+        self.assertEqual(said, "RUN: has 2 jobs, and a pattern of several sizes is of one")
+
+
+class CommandLineTest(unittest.TestCase):
+    """The command line with `--sizes`."""
+
+    def read(self, line: str) -> SizesRequest:
+        """What a line asks for."""
+        found = read_request(line.split())
+        assert isinstance(found, SizesRequest)
+        return found
+
+    def refuse(self, line: str) -> str:
+        """What is wrong with a line."""
+        with self.assertRaises((Refused, Unusable)) as found:
+            read_request(line.split())
+        return str(found.exception)
+
+    def test_a_command(self) -> None:
+        asked = self.read("--sizes 8,3,4 -o p --strict mpirun -n {} ./a -o x")
+        self.assertEqual(asked.sizes, [3, 4, 8])
+        self.assertEqual(asked.command, ["mpirun", "-n", "{}", "./a", "-o", "x"])
+        self.assertEqual((asked.pattern, asked.is_strict), ("p", True))
+
+    def test_recordings(self) -> None:
+        for line in (
+            "--sizes -o p --from a b --from c --against d",
+            "--sizes --from a b --from c --against d -o p",
+            "--sizes --against d -o p --from a b --from c",
+        ):
+            asked = self.read(line)
+            self.assertEqual((asked.taken, asked.held), ([["a", "b"], ["c"]], [["d"]]))
+            self.assertEqual((asked.pattern, asked.sizes, asked.command), ("p", [], []))
+
+    def test_of_the_command(self) -> None:
+        """The word of the command's own option is none of ours."""
+        found = read_request("-o p ./program --sizes 3".split())
+        self.assertNotIsInstance(found, SizesRequest)
+
+    def test_what_is_wrong(self) -> None:
+        mixed = (
+            "--from and --against name recordings, and --sizes 3,4 runs a command: one of the two"
+        )
+        needs = "--sizes needs numbers of ranks, such as 3,4,8, or recordings by --from"
+        for line, said in (
+            ("--sizes 3,4 --against x mpirun -n {} a", mixed),
+            ("--sizes 3,4 -o p --from x --from y", mixed),
+            ("--sizes mpirun -n {} a", needs),
+            ("--sizes 3,,4 -o p mpirun -n {} a", needs),
+            ("--sizes -o p", needs),
+            ("--sizes 3,4 mpirun -n {} a", "-o PATTERN says where the pattern goes"),
+            ("--sizes 3,4 -o p", "which command?"),
+            ("--sizes 3,4 -o p --pattern q mpirun -n {} a", "--pattern doesn't go with --sizes"),
+            ("--sizes -o p --from", "which recordings?"),
+            ("--sizes -o p --keep k --from a --from b", "--keep goes with a command"),
+            ("--sizes 3,4 -o p -o q mpirun -n {} a", "-o stands twice"),
+            (
+                "--sizes 3,4 -o p mpirun -n 4 a",
+                "no word of the command has {}, where the number of ranks goes",
+            ),
+            (
+                "--sizes 2,4 -o p mpirun -n {} a",
+                "runs with 2 ranks tell too little: each size must be 3 or more",
+            ),
+            ("--sizes 4,8,4 -o p mpirun -n {} a", "two runs have 4 ranks: each size is given once"),
+            (
+                "--sizes 4 -o p mpirun -n {} a",
+                "one size isn't enough: give a second one, such as 3,4,8",
+            ),
+        ):
+            with self.subTest(line):
+                self.assertEqual(self.refuse(line), said)
+
+
+if __name__ == "__main__":
+    unittest.main()

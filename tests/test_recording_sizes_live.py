@@ -1,0 +1,86 @@
+"""Runs programs with several numbers of ranks, and tests the answers for every number."""
+import json
+import os
+import unittest
+from typing import NamedTuple, Optional
+
+from live import ENVIRONMENT, LiveTest, Ran
+from tapes import ask_program, run_recorder
+
+SIZES = "3,4,8"
+
+
+class Answered(NamedTuple):
+    """What is answered on a program: how many findings, what shows them, and whether it has a call
+    that can race."""
+
+    findings: int
+    shown: Optional[str] = None
+    can_race: bool = True
+
+
+PROGRAMS = {
+    "early": Answered(1, "recording"),
+    "told": Answered(0),
+    "names": Answered(0),
+    "ring": Answered(0, can_race=False),
+    "collectives": Answered(0, can_race=False),
+}
+
+
+class SizesTest(LiveTest):
+    """The command that runs a program with each number of ranks."""
+
+    def setUp(self) -> None:
+        super().setUp()
+        if not self.program:
+            self.skipTest("there is no built wire_up")
+        self.pattern = os.path.join(self.room, "pattern")
+
+    def run_sizes(self, sizes: str, *words: str) -> Ran:
+        """Runs the recorder with sizes."""
+        assert self.program
+        options = ("--sizes", sizes, "--json", "-o", self.pattern, "--checker", self.program)
+        return run_recorder(*options, *words, environment=ENVIRONMENT)
+
+    def test_programs(self) -> None:
+        assert self.program
+        for name, wanted in PROGRAMS.items():
+            with self.subTest(name):
+                command = ("mpirun", "--oversubscribe", "-n", "{}", self.compile(name))
+                ran = self.run_sizes(SIZES, *command)
+                self.assertEqual(ran.returncode, int(wanted.findings > 0), ran.stderr)
+                said = json.loads(ran.stdout)
+                self.assertEqual(len(said["findings"]), wanted.findings)
+                self.assertEqual(said.get("shown"), wanted.shown)
+                self.assertEqual((said["from"], said["against"]), ([3, 4], [8]))
+                is_idle = any(it.startswith("no call of these runs") for it in said["notes"])
+                self.assertEqual(is_idle, not wanted.can_race)
+                judged = ask_program(self.program, "check", "--pattern", self.pattern)
+                self.assertEqual(judged.returncode, ran.returncode)
+
+    def test_where_in_the_program(self) -> None:
+        command = ("mpirun", "--oversubscribe", "-n", "{}", self.compile("early"))
+        said = json.loads(self.run_sizes("3,4", *command).stdout)
+        for it in said["calls"]:
+            self.assertRegex(it["place"], r"^main \(.*early\.c:\d+\)$")
+
+    def test_a_run_that_fails(self) -> None:
+        ran = self.run_sizes("3,4", "sh", "-c", "exit $1", "sh", "{}")
+        self.assertEqual((ran.returncode, ran.stdout), (125, ""))
+        self.assertEqual(
+            ran.stderr,
+            "wire_up-record: the run with 3 ranks ended with status 3: no pattern is made\n",
+        )
+        self.assertEqual(os.listdir(self.room), [])
+
+    def test_another_number_of_processes(self) -> None:
+        command = ("mpirun", "--oversubscribe", "-n", "3", self.compile("ring"), "{}")
+        ran = self.run_sizes("3,4", *command)
+        self.assertEqual((ran.returncode, ran.stdout.count("\n")), (125, 0))
+        said = "wire_up-record: the run with 4 ranks has 3 processes\n"
+        self.assertTrue(ran.stderr.endswith(said), ran.stderr)
+
+
+if __name__ == "__main__":
+    unittest.main()
