@@ -55,6 +55,14 @@ class NewerCase(unittest.TestCase):
             self.skipTest(f"nothing is tested with newer libraries: {lacking}")
         return root
 
+    def make_scratch(self, root: str) -> str:
+        """A folder for temporary files, as it is named inside. Processes there have the same
+        numbers each time, and Open MPI names its folders by them: where a launcher was killed, the
+        next one of its number would end at once."""
+        made = tempfile.mkdtemp(prefix="t", dir=os.path.join(root, "tmp"))
+        self.addCleanup(shutil.rmtree, made, ignore_errors=True)
+        return os.path.join("/tmp", os.path.basename(made))
+
     def run_inside(self, program: str, words: Sequence[str]) -> Ran:
         """Runs a command in a copy of the repository, if there is a program that it needs."""
         root = self.take_root(program)
@@ -70,8 +78,9 @@ class NewerCase(unittest.TestCase):
         except unittest.SkipTest as why:
             print(f"newer libraries: {why}")
         inside = os.path.join("/root", os.path.basename(here))
+        scratch = f"TMPDIR={self.make_scratch(root)}"
         return subprocess.run(
-            enter(root, ["sh", "-c", 'cd "$0" && exec "$@"', inside, *words]),
+            enter(root, ["sh", "-c", 'cd "$0" && exec "$@"', inside, "env", scratch, *words]),
             stdin=subprocess.DEVNULL,
             capture_output=True,
             text=True,
