@@ -75,6 +75,14 @@ if (is_noted(caller))
 # A library of MPI has handlers of its own, and says which files go with the job.
 OF_PROGRAM = ("PMIx_Register_event_handler", "PMIx_Job_control", "PMIx_Job_control_nb")
 NOTES_OF_PROGRAM = NOTES["PMIx"].replace("is_noted", "is_of_program")
+# What is told may depend on how far others are: the program's own count by a name of their own.
+QUERIES = ("PMIx_Query_info", "PMIx_Query_info_nb")
+NOTES_OF_QUERY = """\
+static struct counter others = {.what = OTHERS, .function = "$function"};
+static struct counter own = {.what = OTHERS, .function = "${function}_of_program"};
+if (is_noted(caller))
+    wire_up_count(is_of_program(caller) ? &own : &others);
+"""
 # What the function makes may have the handle of something that is gone.
 FORGETTING = {
     "MPI_Request": "forget_request(*{})",
@@ -110,6 +118,7 @@ def write_counted(library: Library, function: Function) -> str:
     """The wrapper of a function that is only counted."""
     parameters = function.parameters()
     note = NOTES_OF_PROGRAM if function.name in OF_PROGRAM else NOTES[library.prefix]
+    note = NOTES_OF_QUERY if function.name in QUERIES else note
     shape = Shape(note, "".join(write_forgetting(function.name, it) for it in parameters))
     return write_wrapper(library, function, parameters, shape)
 

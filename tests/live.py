@@ -62,6 +62,10 @@ COMPILED = {
         )
         for name in ("event_x", "mca_common_x")
     },
+    "libscript.so": ("mpicc", "-shared", "-fPIC", "-DINTERPRETER", "own.c"),
+    "own-script": (
+        "mpicc", "-DBY_SCRIPT", "own.c", "-L{folder}", "-Wl,-rpath,{folder}", "-lscript"
+    ),
     "told-sanitized": ("mpicc", "-fsanitize=address", "told.c"),
     "mixed": ("mpifort", "-J{folder}", "mixed.c", "mixed_parts.f90"),
     "fortran": ("mpifort", "-J{folder}", "fortran.f90"),

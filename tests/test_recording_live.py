@@ -369,11 +369,11 @@ class OtherWaysTest(LiveTest):
 
     def test_what_own_code_refers_to(self) -> None:
         """Messages of any source lead to no call that it doesn't have; but it has one if a function
-        of PMIx or of names is in it, or another program or library can be: whatever name its own
-        libraries have."""
-        for name in ("event_x", "mca_common_x"):
+        of PMIx or of names is in it, or another program, library or script can be: whatever name
+        its own libraries have."""
+        for name in ("event_x", "mca_common_x", "script"):
             self.compile(f"lib{name}.so")
-        uses = ("system", "opening", "function", "event_x", "mca_common_x")
+        uses = ("system", "opening", "function", "script", "event_x", "mca_common_x")
         for name in ("own", *(f"own-{it}" for it in uses)):
             with self.subTest(name):
                 ran = self.record(*mpirun(3, self.compile(name)))

@@ -68,6 +68,18 @@ class LuckTest(SilentCase):
             with self.subTest(what):
                 self.hold(tapes, OTHERWISE_AFTER, f"1 calls of MPI_File_{what}")
 
+    def test_what_a_server_is_asked(self) -> None:
+        """It may tell how far others are, as which groups there are. What a library of MPI asks is
+        no matter of the program."""
+        for name in ("PMIx_Query_info", "PMIx_Query_info_nb"):
+            tapes = make_world(2)
+            look_up_behind(tapes)
+            tapes[1].say(f"others {name} 1")
+            with self.subTest(name):
+                self.hold_harmless(tapes, f"1 calls of {name}")
+                tapes[1].say(f"others {name}_of_program 1")
+                self.hold(tapes, OTHERWISE_AFTER, f"1 calls of {name}")
+
     def test_a_shared_window(self) -> None:
         """Its memory may be read without MPI_Win_shared_query; but not that of one process."""
         tapes = make_world(2)

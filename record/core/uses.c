@@ -30,8 +30,13 @@ static const char *const of_other_code[] = {
     "system",  "popen",   "syscall",  "wordexp",
 };
 
-/* The runtime of Fortran has such functions under names that begin so. */
-static const char *const of_fortran[] = {"_gfortran_execute_command_line", "_gfortran_system"};
+/* Libraries of the system have such functions under names that begin so: the runtime of Fortran,
+ * what opens libraries for a program, and interpreters, whose scripts can do it. */
+static const char *const of_libraries[] = {
+    "_gfortran_execute_command_line", "_gfortran_system", "g_module_open", "g_spawn_", "lt_dlopen",
+    "JNI_CreateJavaVM", "Py_", "PyRun_", "Rf_initEmbeddedR", "Tcl_", "jl_init", "luaL_", "perl_",
+    "ruby_", "scm_",
+};
 
 /* Whether a name is one of MPI, as C or Fortran spells it: `PMPI_Lookup_name`, `mpi_lookup_name_`. */
 static bool is_of_names(const char *name)
@@ -53,10 +58,12 @@ static bool leads_to_pmix(const char *name) { return begins_with(name, "PMIx_") 
 
 static bool leads_to_other_code(const char *name)
 {
-    for (size_t n = 0; n < sizeof of_other_code / sizeof *of_other_code; n++)
-        if (!strcmp(name, of_other_code[n]))
-            return true;
-    return begins_with(name, of_fortran[0]) || begins_with(name, of_fortran[1]);
+    bool is_one = false;
+    for (size_t n = 0; !is_one && n < sizeof of_other_code / sizeof *of_other_code; n++)
+        is_one = !strcmp(name, of_other_code[n]);
+    for (size_t n = 0; !is_one && n < sizeof of_libraries / sizeof *of_libraries; n++)
+        is_one = begins_with(name, of_libraries[n]);
+    return is_one;
 }
 
 /* --- objects --- */

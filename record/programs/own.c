@@ -5,6 +5,7 @@
  *   -DBY_SYSTEM      the system's call by which another program takes its place
  *   -DBY_OPENING     the function that opens a library
  *   -DBY_FUNCTION    the function of PMIx that looks up a name
+ *   -DBY_SCRIPT      the function that starts an interpreter of Python, here of a library which is this file with -DINTERPRETER
  */
 #include <dlfcn.h>
 #include <mpi.h>
@@ -13,9 +14,14 @@
 #include <unistd.h>
 
 int PMIx_Lookup(void *, size_t, const void *, size_t);
+void Py_Initialize(void);
 void ask(void);
 
-#ifdef LIBRARY
+#ifdef INTERPRETER
+void Py_Initialize(void)
+{
+}
+#elif defined LIBRARY
 void ask(void)
 {
     char port[MPI_MAX_PORT_NAME];
@@ -31,6 +37,8 @@ void ask(void)
     dlopen("libask.so", RTLD_NOW);
 #elif defined BY_FUNCTION
     PMIx_Lookup(NULL, 0, NULL, 0);
+#elif defined BY_SCRIPT
+    Py_Initialize();
 #endif
 }
 #endif

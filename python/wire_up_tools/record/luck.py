@@ -13,8 +13,10 @@ OF_LUCK = re.compile(
     r"|File_open with MPI_MODE_EXCL|File_(open|delete) that failed"
     r"|Win_shared_query(_c)?|Wait(any|some) of sends"
     r"|(\w+ of any source|Im?probe) in a communicator that isn't known)"
-    r"|PMIx_Register_event_handler"
+    r"|PMIx_(Register_event_handler|Query_info(_nb)?_of_program)"
 )
+# How the names end of functions that a library of MPI calls too, where the program itself does.
+BY_PROGRAM = "_of_program"
 # What reads a file, and what writes one. What nobody writes is told at the start.
 READING = re.compile(r"MPI_File_i?read(_at|_all|_ordered)*(_begin|_end)?(_c)?")
 WRITING = re.compile(r"MPI_File_i?write\w*")

@@ -20,7 +20,7 @@ from wire_up_tools.record.directives import (
     say_directive,
     stands_early,
 )
-from wire_up_tools.record.luck import count_shared_windows, is_of_luck
+from wire_up_tools.record.luck import BY_PROGRAM, count_shared_windows, is_of_luck
 from wire_up_tools.record.messages import Messages
 from wire_up_tools.record.processes import Processes
 from wire_up_tools.record.recordings import NO_USE, Recording
@@ -105,7 +105,7 @@ def note_counted(recording: Recording, are_written: bool, notes: Notes) -> None:
         if name == OF_OWN_STORE:
             notes.more_ordered[OWN_STORE] += count
         elif is_of_luck(name, are_written):
-            notes.of_luck[f"calls of {name}"] += count
+            notes.of_luck[f"calls of {name.removesuffix(BY_PROGRAM)}"] += count
         else:
             notes.left_out[f"calls of {name}"] += count
     notes.of_luck["calls of MPI_Win_allocate_shared"] += count_shared_windows(recording)
