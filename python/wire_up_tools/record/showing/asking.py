@@ -150,7 +150,8 @@ def read_asked(found: argparse.Namespace) -> Optional[Asked]:
         raise Unusable("--show and --show-race are two tasks")
     if found.turn_waits is not None and not found.turn:
         raise Unusable("--turn-waits goes with --turn")
-    if found.files is not None:
+    # Its name is a word of Python.
+    if getattr(found, "from") is not None:
         raise Unusable("the command runs again: --from has none")
     hold, limit = read_seconds("--hold", found.hold), read_seconds("--limit", found.limit)
     if hold and limit and limit < hold:
