@@ -12,6 +12,7 @@ from typing import Optional
 
 from wire_up_tools.failures import Unusable
 from wire_up_tools.options import Option
+from wire_up_tools.record.sizes.asking import FROM
 
 # How many races or pairs are tried; how long nothing may move before a hold ends, and how long a
 # run may take besides, in seconds, and in multiples of the first run.
@@ -150,9 +151,8 @@ def read_asked(found: argparse.Namespace) -> Optional[Asked]:
         raise Unusable("--show and --show-race are two tasks")
     if found.turn_waits is not None and not found.turn:
         raise Unusable("--turn-waits goes with --turn")
-    # Its name is a word of Python.
-    if getattr(found, "from") is not None:
-        raise Unusable("the command runs again: --from has none")
+    if getattr(found, FROM.strip("-")) is not None:
+        raise Unusable(f"the command runs again: {FROM} has none")
     hold, limit = read_seconds("--hold", found.hold), read_seconds("--limit", found.limit)
     if hold and limit and limit < hold:
         raise Unusable("--limit is below --hold")
