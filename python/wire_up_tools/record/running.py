@@ -3,10 +3,12 @@ import os
 import re
 import signal
 import subprocess
+import tempfile
 from collections.abc import Mapping, Sequence
 from typing import IO, Optional
 
 from wire_up_tools.failures import Refused
+from wire_up_tools.files import STANDARD_OUTPUT
 
 # The signals that are handed on to the command.
 HANDED_ON = (signal.SIGINT, signal.SIGTERM, signal.SIGHUP, signal.SIGQUIT)
@@ -80,6 +82,21 @@ def is_made_by_python(name: str) -> bool:
     except OSError:
         return False
     return name in os.environ and not any(it.startswith(f"{name}=".encode()) for it in given)
+
+
+def make_folder(path: str, kept: Optional[str]) -> str:
+    """The folder for the recordings of a command, made or found empty: the one that is kept, or one
+    beside the text that is written to a path, or here where that is no file. Raises Refused,
+    OSError."""
+    if not kept:
+        is_file = os.path.isfile(path) or not os.path.exists(path)
+        is_file = is_file and path != STANDARD_OUTPUT
+        beside = os.path.dirname(os.path.abspath(path)) if is_file else os.getcwd()
+        return tempfile.mkdtemp(prefix="wire_up-record-", dir=beside)
+    os.makedirs(kept, exist_ok=True)
+    if os.listdir(kept):
+        raise Refused(f"{kept}: isn't empty")
+    return os.path.abspath(kept)
 
 
 def make_environment(libraries: Sequence[str], folder: str) -> dict[str, str]:
