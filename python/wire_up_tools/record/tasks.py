@@ -30,6 +30,7 @@ from wire_up_tools.record.planning import Choices, Plan, Tested, make_plan, make
 from wire_up_tools.record.recordings import Recording, has_recordings, read_recordings
 from wire_up_tools.record.running import (
     BY_SIGNAL,
+    Ended,
     find_libraries,
     make_environment,
     make_folder,
@@ -316,8 +317,8 @@ def hold_writable(output: Output) -> None:
             try_to_write(path)
 
 
-def run_first(asked: CommandRequest, environment: Mapping[str, str]) -> int:
-    """Runs a command, and answers its status. If it is to run again, all runs read the same.
+def run_first(asked: CommandRequest, environment: Mapping[str, str]) -> Ended:
+    """Runs a command, and answers how it ended. If it is to run again, all runs read the same.
     Raises NotRun, OSError."""
     if asked.asked is None:
         return run(asked.command, environment)
@@ -367,20 +368,23 @@ def record(asked: CommandRequest, folder: str) -> int:
     recordings, is_made = make_folder(output.plan, output.kept), False
     began = time.monotonic()
     try:
-        status = run_first(asked, make_environment(libraries, recordings))
+        status, is_stopped = run_first(asked, make_environment(libraries, recordings))
         seconds = time.monotonic() - began
         if status:
             how = f"with status {status}" if status > 0 else f"by signal {-status}"
             say(f"the command ended {how}")
+        shows = None if is_stopped else asked.asked
         # What goes to standard output goes there once, with what is shown.
-        is_put_off = asked.asked is not None and output.plan == STANDARD_OUTPUT
+        is_put_off = shows is not None and output.plan == STANDARD_OUTPUT
         made = replace(output, plan=os.devnull) if is_put_off else output
         text = make(made, [recordings], folder)
         is_made = True
-        if asked.asked:
+        if shows:
             material = find_material(asked, text, recordings, folder)
             first = First(seconds, status, read_traces(recordings))
-            show(asked.asked, replace(material, first=first), say)
+            show(shows, replace(material, first=first), say)
+        elif asked.asked:
+            say("a signal came: the command doesn't run again")
         return status if status >= 0 else BY_SIGNAL - status
     finally:
         if not output.kept and (is_made or not has_recordings(recordings)):

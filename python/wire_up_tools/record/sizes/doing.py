@@ -92,9 +92,11 @@ def run_sizes(asked: SizesRequest, choices: Choices, folder: str) -> Iterator[Ma
             recordings = os.path.join(room, str(size))
             os.makedirs(recordings)
             command = [it.replace(PLACE, str(size)) for it in asked.command]
-            status = run(command, make_environment(libraries, recordings), None, STANDARD_ERROR)
-            if status:
-                how = f"with status {status}" if status > 0 else f"by signal {-status}"
+            environment = make_environment(libraries, recordings)
+            status, is_stopped = run(command, environment, None, STANDARD_ERROR)
+            if status or is_stopped:
+                how = f"with status {status}" if status >= 0 else f"by signal {-status}"
+                how += ", after a signal came" if is_stopped else ""
                 raise Refused(f"the run with {size} ranks ended {how}: no pattern is made")
             made = make_sized(f"the run with {size} ranks", [recordings], choices)
             if made.sized.size != size:
