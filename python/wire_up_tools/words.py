@@ -23,6 +23,11 @@ MPI_COMMENT = "# MPI: "
 RECORDED_BY = "Recorded by wire_up-record"
 # How the head of a pattern begins that the recorder made.
 PATTERN_BY = "By wire_up-record"
+# What the recorder says of runs of several sizes from which it makes a pattern without calls.
+NO_CALL_RACES = (
+    "no call of these runs can race: there is no get-now, no name, and no key that is put twice"
+)
+NO_CALL_RACES_SENTENCE = f"{NO_CALL_RACES[0].upper()}{NO_CALL_RACES[1:]}."
 CUT_OFF = "The run was cut off, so that a verdict holds only in part:"
 PARTED = "The runs part, so that a verdict holds only in part:"
 LEFT_OUT = "Left out:"
