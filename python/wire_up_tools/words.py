@@ -35,6 +35,8 @@ LEFT_OUT_HARMLESS = "Left out, which can hide no race:"
 MORE_ORDERED = "More ordered than the program, so that a race can be missed:"
 OTHERWISE_AFTER = "Another run may do otherwise after these, so that a race can be missed:"
 WRITTEN_OTHERWISE = "Written otherwise:"
+# What is said of gets below that title that had no directive by which they don't wait.
+NOT_WAITED = "gets that were answered with an error in place of waiting: they are written get-now"
 # What the head says where the program is known to go by nothing but its calls, and the titles of
 # what the library answered otherwise than the rules, and of what it is known to answer by timing.
 EACH_RUN = "each run of this program on these nodes makes these calls, if it goes by them alone"
