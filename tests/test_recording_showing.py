@@ -271,6 +271,23 @@ class CommandTest(ShowingCase):
             self.assertEqual([], glob.glob(os.path.join(self.room, "wire_up-record-*")))
             self.assertEqual([], find_processes(words[-2]))
 
+    def test_a_signal_in_the_first_run(self) -> None:
+        """The plan is there, and the command doesn't run again."""
+        begun = os.path.join(self.room, "begun")
+        first = " ".join(self.words(2, "early"))
+        # Each run leaves a line, and the first waits for the signal.
+        script = f"trap 'exit 3' INT; {first}; echo >>{begun}; while :; do sleep 0.1; done"
+        running = self.begin(["--show"], ["sh", "-c", script])
+        until = time.monotonic() + PATIENCE
+        while not os.path.exists(begun) and time.monotonic() < until:
+            time.sleep(0.1)
+        running.send_signal(signal.SIGINT)
+        _, said = running.communicate(timeout=SOON)
+        self.assertEqual(3, running.returncode, said)
+        self.assertIn("wire_up-record: a signal came: the command doesn't run again\n", said)
+        self.assertEqual("\n", read_file(begun))
+        self.assertNotRegex(read_file(self.plan), "(?m)^# (Shown|Tried)")
+
     def test_another_launcher(self) -> None:
         """The launcher of PRRTE itself, whose namespaces have other numbers."""
         if not shutil.which("prterun"):

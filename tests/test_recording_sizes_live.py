@@ -74,6 +74,16 @@ class SizesTest(LiveTest):
         )
         self.assertEqual(os.listdir(self.room), [])
 
+    def test_a_pattern_that_can_not_be_written(self) -> None:
+        """This is found before the command runs."""
+        for path in (self.room, os.path.join(self.room, "none", "pattern")):
+            with self.subTest(path):
+                self.pattern = path
+                ran = self.run_sizes("3,4", "touch", os.path.join(self.room, "ran{}"))
+                self.assertEqual((ran.returncode, ran.stdout), (125, ""))
+                self.assertRegex(ran.stderr, f"^wire_up-record: {path}: [^\n]*\n$")
+        self.assertEqual(os.listdir(self.room), [])
+
     def test_another_number_of_processes(self) -> None:
         command = ("mpirun", "--oversubscribe", "-n", "3", self.compile("ring"), "{}")
         ran = self.run_sizes("3,4", *command)

@@ -9,7 +9,7 @@ from wire_up_tools.report.findings import read_line
 from wire_up_tools.report.messages import explain_late, find_early, find_late
 from wire_up_tools.report.orders import find_order
 from wire_up_tools.report.readers import list_told
-from wire_up_tools.words import LEFT_TO_LUCK, WITHOUT_MPI
+from wire_up_tools.words import LEFT_TO_LUCK, NOT_WAITED, WITHOUT_MPI
 
 assert support.TOP, "it says where the package is"
 
@@ -53,6 +53,16 @@ class FixesTest(unittest.TestCase):
         said = fix(read_plan(text.encode()), "race a:0 1 b:0 1 name port")
         again = "(MPI_Lookup_name can't: call it until it finds the name; the race is still rep"
         self.assertIn(again, said)
+
+    def test_a_get_that_may_have_no_directive(self) -> None:
+        """The head says so. A plan that doesn't say it names the directives alone."""
+        scripts = "rank n\nput global k v\ncommit\nrank n\nget-now a:0 k\n"
+        more = ", if it has one of them: else this library answered it with an error"
+        for head, is_open in ((f"#   1 {NOT_WAITED}\n", True), ("", False)):
+            plan = read_plan(f"{RECORDED}{head}{HEAD}{scripts}".encode())
+            said = fix(plan, "race a:0 2 a:1 1 key a:0 k")
+            self.assertIn("Leave out PMIX_IMMEDIATE and PMIX_OPTIONAL, so that the get", said)
+            self.assertEqual(more in said, is_open)
 
     def test_a_program_without_mpi(self) -> None:
         text = f"{RECORDED}# {WITHOUT_MPI}: a race\n{HEAD}rank n\n{PUBLISH}rank n\n{LOOKUP}"

@@ -8,7 +8,7 @@ import unittest
 import report_support
 import support
 from wire_up_tools.report.patterns import is_pattern
-from wire_up_tools.words import CUT_OFF, PATTERN_BY
+from wire_up_tools.words import CUT_OFF, NO_CALL_RACES, NO_CALL_RACES_SENTENCE, PATTERN_BY
 
 EVERYWHERE = "for every number of ranks on every placement"
 CLEAN = f"findings 0 {EVERYWHERE}"
@@ -106,6 +106,20 @@ class CleanTest(PatternCase):
         self.assertIn('<div id="line-11" class=""><b>11</b>get-now each card</div>', page)
         made = json.loads(report_support.read(os.path.join(self.room, "made.sarif")))
         self.assertEqual(made["runs"][0]["results"], [])
+
+    def test_no_calls(self) -> None:
+        """That every call is answered isn't said where there is none."""
+        checker = self.write_checker(f"{CLEAN}\n{ANSWERED}\n", 0)
+        by = f"{PATTERN_BY}, from runs with 3 and 4 ranks, held against 8."
+        head = f"# {by}\n# {NO_CALL_RACES}\n"
+        for before, why in ((head, f" {NO_CALL_RACES_SENTENCE} {by}"), ("", "")):
+            path = self.write("my.pattern", f"{before}pattern 1\njob app\nmany ranks\n")
+            text, page = self.report(checker, path, 0)
+            said = "my.pattern: no race, for every number of ranks on every placement"
+            self.assertTrue(text.startswith(f"{said} It has no calls.{why}"), text)
+            self.assertIn(f"<h1>{said}</h1>", page)
+            self.assertIn(f"<p>It has no calls.{why}</p>", page)
+            self.assertIn('<header class="quiet">', page)
 
     def test_calls_that_wait(self) -> None:
         said = f"{CLEAN}\nwaits root 1 fence\nwaits workers 4 get-now\n"

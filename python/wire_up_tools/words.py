@@ -23,6 +23,11 @@ MPI_COMMENT = "# MPI: "
 RECORDED_BY = "Recorded by wire_up-record"
 # How the head of a pattern begins that the recorder made.
 PATTERN_BY = "By wire_up-record"
+# What the recorder says of runs of several sizes from which it makes a pattern without calls.
+NO_CALL_RACES = (
+    "no call of these runs can race: there is no get-now, no name, and no key that is put twice"
+)
+NO_CALL_RACES_SENTENCE = f"{NO_CALL_RACES[0].upper()}{NO_CALL_RACES[1:]}."
 CUT_OFF = "The run was cut off, so that a verdict holds only in part:"
 PARTED = "The runs part, so that a verdict holds only in part:"
 LEFT_OUT = "Left out:"
@@ -30,6 +35,8 @@ LEFT_OUT_HARMLESS = "Left out, which can hide no race:"
 MORE_ORDERED = "More ordered than the program, so that a race can be missed:"
 OTHERWISE_AFTER = "Another run may do otherwise after these, so that a race can be missed:"
 WRITTEN_OTHERWISE = "Written otherwise:"
+# What is said of gets below that title that had no directive by which they don't wait.
+NOT_WAITED = "gets that were answered with an error in place of waiting: they are written get-now"
 # What the head says where the program is known to go by nothing but its calls, and the titles of
 # what the library answered otherwise than the rules, and of what it is known to answer by timing.
 EACH_RUN = "each run of this program on these nodes makes these calls, if it goes by them alone"

@@ -54,7 +54,7 @@ USES = (
         "--sizes 3,4,8 -o PATTERN COMMAND..",
         "runs the command with 3, 4 and 8 ranks, which stand where it has {}, writes one pattern "
         "for every number,\n"
-        f"    {' ' * 47} and says what is found in it",
+        f"    {' ' * 47} and says what is found in it, with --json as JSON",
     ),
     (
         "--sizes -o PATTERN --from FILE.. --from FILE.. --against FILE..",
@@ -75,8 +75,10 @@ BELOW = (
     "\n"
     "Exit statuses: that of the command, and 128 and N if signal N ended it. 125 no plan is "
     "written: a line says why. 126 the command can't be\n"
-    "run; 127 it isn't there. With --from: 0 the plan is written, or 125. SIGINT, SIGTERM, SIGHUP "
-    "and SIGQUIT are handed on to the command.\n"
+    "run; 127 it isn't there. With --from: 0 the plan is written, or 125. With --sizes: 0 if "
+    "nothing is found, 1 if something is,\n"
+    "125 if there is no answer. SIGINT, SIGTERM, SIGHUP and SIGQUIT are handed on to the "
+    "command.\n"
 )
 
 

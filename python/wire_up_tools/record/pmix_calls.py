@@ -41,6 +41,7 @@ from wire_up_tools.record.notes import (
 )
 from wire_up_tools.record.processes import Process, Processes
 from wire_up_tools.record.puts import OTHER_SCOPE, PutsByProcess
+from wire_up_tools.words import NOT_WAITED
 
 NOT_FOUND, DUPLICATE_KEY = -46, -53
 HOST_NAME = b"pmix.hname"
@@ -171,10 +172,7 @@ class ProcessLines:
         if not is_at_once and call.has_failed and not self.puts.is_out_of_scope(
             self.process, owner, key
         ):
-            self.write_otherwise(
-                "gets that were answered with an error in place of waiting: they are written "
-                "get-now"
-            )
+            self.write_otherwise(NOT_WAITED)
             self.note_unreached(owner, key)
             is_at_once = True
         if call.status == 0 and not self.puts.can_see(self.process, call, owner, key):

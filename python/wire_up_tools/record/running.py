@@ -3,10 +3,12 @@ import os
 import re
 import signal
 import subprocess
+import tempfile
 from collections.abc import Mapping, Sequence
-from typing import IO, Optional
+from typing import IO, NamedTuple, Optional
 
 from wire_up_tools.failures import Refused
+from wire_up_tools.files import STANDARD_OUTPUT
 
 # The signals that are handed on to the command.
 HANDED_ON = (signal.SIGINT, signal.SIGTERM, signal.SIGHUP, signal.SIGQUIT)
@@ -82,6 +84,21 @@ def is_made_by_python(name: str) -> bool:
     return name in os.environ and not any(it.startswith(f"{name}=".encode()) for it in given)
 
 
+def make_folder(path: str, kept: Optional[str]) -> str:
+    """The folder for the recordings of a command, made or found empty: the one that is kept, or one
+    beside the text that is written to a path, or here where that is no file. Raises Refused,
+    OSError."""
+    if not kept:
+        is_file = os.path.isfile(path) or not os.path.exists(path)
+        is_file = is_file and path != STANDARD_OUTPUT
+        beside = os.path.dirname(os.path.abspath(path)) if is_file else os.getcwd()
+        return tempfile.mkdtemp(prefix="wire_up-record-", dir=beside)
+    os.makedirs(kept, exist_ok=True)
+    if os.listdir(kept):
+        raise Refused(f"{kept}: isn't empty")
+    return os.path.abspath(kept)
+
+
 def make_environment(libraries: Sequence[str], folder: str) -> dict[str, str]:
     """The environment in which a command runs with libraries in each process, which write their
     recordings to a folder."""
@@ -99,14 +116,25 @@ def make_environment(libraries: Sequence[str], folder: str) -> dict[str, str]:
     return found
 
 
-def wait_and_hand_on(process: "subprocess.Popen[bytes]") -> int:
-    """Waits for a process and hands signals on to it, which must be blocked. Answers its
-    status."""
+class Ended(NamedTuple):
+    """How a command ended: its status, below 0 for the signal that ended it, and whether a signal
+    came that asks us to end too."""
+
+    status: int
+    is_stopped: bool
+
+
+def wait_and_hand_on(process: "subprocess.Popen[bytes]") -> Ended:
+    """Waits for a process and hands signals on to it, which must be blocked. Answers how it
+    ended."""
+    is_stopped = False
     while process.poll() is None:
         came = signal.sigtimedwait((*HANDED_ON, signal.SIGCHLD), PATIENCE)
-        if came and came.si_signo != signal.SIGCHLD and came.si_code != BY_TERMINAL:
-            process.send_signal(came.si_signo)
-    return process.returncode
+        if came and came.si_signo != signal.SIGCHLD:
+            is_stopped = True
+            if came.si_code != BY_TERMINAL:
+                process.send_signal(came.si_signo)
+    return Ended(process.returncode, is_stopped)
 
 
 def run(
@@ -114,9 +142,9 @@ def run(
     environment: Mapping[str, str],
     source: Optional[IO[bytes]] = None,
     output: Optional[int] = None,
-) -> int:
+) -> Ended:
     """Runs a command, which reads from a source, else from standard input, hands signals on to it,
-    and answers its status: below 0 for the signal that ended it. `output` is the file to which its
+    and answers how it ended. `output` is the file to which its
     standard output goes, if not to ours. Raises NotRun if it can't be run."""
     before = signal.pthread_sigmask(signal.SIG_BLOCK, (*HANDED_ON, signal.SIGCHLD))
 

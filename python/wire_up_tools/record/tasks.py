@@ -3,7 +3,6 @@ import gc
 import os
 import shutil
 import sys
-import tempfile
 import time
 from collections.abc import Callable, Mapping, Sequence
 from dataclasses import dataclass, replace
@@ -29,7 +28,14 @@ from wire_up_tools.record.places import (
 )
 from wire_up_tools.record.planning import Choices, Plan, Tested, make_plan, make_whole_plan
 from wire_up_tools.record.recordings import Recording, has_recordings, read_recordings
-from wire_up_tools.record.running import BY_SIGNAL, find_libraries, make_environment, run
+from wire_up_tools.record.running import (
+    BY_SIGNAL,
+    Ended,
+    find_libraries,
+    make_environment,
+    make_folder,
+    run,
+)
 from wire_up_tools.record.showing.asking import Asked
 from wire_up_tools.record.showing.material import First, Material
 from wire_up_tools.record.showing.showing import show
@@ -311,22 +317,8 @@ def hold_writable(output: Output) -> None:
             try_to_write(path)
 
 
-def make_folder(output: Output) -> str:
-    """The folder for the recordings of a command, made or found empty: beside the plan, or here
-    where that is no file. Raises Refused, OSError."""
-    if not output.kept:
-        is_file = os.path.isfile(output.plan) or not os.path.exists(output.plan)
-        is_file = is_file and output.plan != STANDARD_OUTPUT
-        beside = os.path.dirname(os.path.abspath(output.plan)) if is_file else os.getcwd()
-        return tempfile.mkdtemp(prefix="wire_up-record-", dir=beside)
-    os.makedirs(output.kept, exist_ok=True)
-    if os.listdir(output.kept):
-        raise Refused(f"{output.kept}: isn't empty")
-    return os.path.abspath(output.kept)
-
-
-def run_first(asked: CommandRequest, environment: Mapping[str, str]) -> int:
-    """Runs a command, and answers its status. If it is to run again, all runs read the same.
+def run_first(asked: CommandRequest, environment: Mapping[str, str]) -> Ended:
+    """Runs a command, and answers how it ended. If it is to run again, all runs read the same.
     Raises NotRun, OSError."""
     if asked.asked is None:
         return run(asked.command, environment)
@@ -358,7 +350,7 @@ def show_of_plan(asked: ShowRequest, folder: str) -> int:
         data = it.read()
     if not read_plan(data).is_recorded:
         raise Refused(f"{asked.asked.of}: isn't a plan that wire_up-record wrote")
-    room = make_folder(asked.output)
+    room = make_folder(asked.output.plan, asked.output.kept)
     try:
         show(asked.asked, find_material(asked, data.decode("ascii", "replace"), room, folder), say)
     finally:
@@ -373,23 +365,26 @@ def record(asked: CommandRequest, folder: str) -> int:
     output = asked.output
     libraries = find_libraries(folder, output.with_mpi)
     hold_writable(output)
-    recordings, is_made = make_folder(output), False
+    recordings, is_made = make_folder(output.plan, output.kept), False
     began = time.monotonic()
     try:
-        status = run_first(asked, make_environment(libraries, recordings))
+        status, is_stopped = run_first(asked, make_environment(libraries, recordings))
         seconds = time.monotonic() - began
         if status:
             how = f"with status {status}" if status > 0 else f"by signal {-status}"
             say(f"the command ended {how}")
+        shows = None if is_stopped else asked.asked
         # What goes to standard output goes there once, with what is shown.
-        is_put_off = asked.asked is not None and output.plan == STANDARD_OUTPUT
+        is_put_off = shows is not None and output.plan == STANDARD_OUTPUT
         made = replace(output, plan=os.devnull) if is_put_off else output
         text = make(made, [recordings], folder)
         is_made = True
-        if asked.asked:
+        if shows:
             material = find_material(asked, text, recordings, folder)
             first = First(seconds, status, read_traces(recordings))
-            show(asked.asked, replace(material, first=first), say)
+            show(shows, replace(material, first=first), say)
+        elif asked.asked:
+            say("a signal came: the command doesn't run again")
         return status if status >= 0 else BY_SIGNAL - status
     finally:
         if not output.kept and (is_made or not has_recordings(recordings)):

@@ -17,6 +17,7 @@ from wire_up_tools.report.orders import Order
 from wire_up_tools.report.phrases import VALUE_WIDTH, cut
 from wire_up_tools.report.places import name_shown
 from wire_up_tools.report.readers import find_readers, name_readers, say_readers
+from wire_up_tools.words import NOT_WAITED
 
 # How many keys or names a title has.
 SHOWN = 3
@@ -85,6 +86,8 @@ FIX_OF_FENCE = (
     "let the reader meet in the fence itself: "
     "make its rank a member, and let it ask after the fence"
 )
+# Behind it, where some get has neither, by the head.
+BY_LIBRARY = ", if it has one of them: else this library answered it with an error and didn't wait"
 FIX_BY_WAITING = "{use_wait}: it is published once and never taken away"
 NO_WAIT = ". To {wait} isn't enough: it is {why}"
 # MPI's lookup doesn't wait. What a program can do: in one job, and between two.
@@ -222,7 +225,8 @@ def say_by_mpi(finding: Finding, order: Order, is_named: bool) -> str:
 def choose_wait(finding: Finding, order: Order) -> Optional[str]:
     """The fix by which the call waits that doesn't; None where that orders nothing."""
     if finding.kind is Kind.KEY:
-        return "{use_get}"
+        is_open = any(it.endswith(NOT_WAITED) for it in order.plan.declared.head)
+        return "{use_get}" + BY_LIBRARY * is_open
     is_open = "lookup" in finding.verbs and finding.about not in order.uses.unpublished
     return FIX_BY_WAITING if is_open and is_published_once(finding, order) else None
 

@@ -1,5 +1,6 @@
 """Writes what is told of a pattern without findings: as a page of HTML, and as text."""
 import datetime
+from dataclasses import replace
 
 from wire_up_tools.report.html_page import FOOT, HEAD
 from wire_up_tools.report.markup import escape
@@ -11,7 +12,7 @@ from wire_up_tools.report.pattern_answers import (
     say_settled,
 )
 from wire_up_tools.report.pattern_text import write_pattern
-from wire_up_tools.report.patterns import IN_PART, CleanPattern
+from wire_up_tools.report.patterns import IN_PART, WITHOUT_CALLS, CleanPattern
 from wire_up_tools.report.phrases import count_of, cut
 from wire_up_tools.report.plan_page import LINE_WIDTH
 from wire_up_tools.report.terminal_text import write_lines
@@ -20,13 +21,16 @@ from wire_up_tools.report.terminal_text import write_lines
 def say_title(found: CleanPattern) -> str:
     """The verdict with the name of the pattern."""
     part = f" ({'; '.join(found.reasons)})" if found.reasons else ""
-    return f"{found.pattern.name}: {say_settled(found.said)}{part}"
+    # That every call is answered says nothing where there is none.
+    said = found.said if found.has_calls else replace(found.said, is_answered=False)
+    return f"{found.pattern.name}: {say_settled(said)}{part}"
 
 
 def explain(found: CleanPattern) -> str:
     """What the verdict means, and from which runs the pattern comes."""
     part = [IN_PART] if found.reasons else []
-    return " ".join(filter(None, [explain_settled(found.said), *part, found.origin]))
+    meaning = explain_settled(found.said) if found.has_calls else WITHOUT_CALLS
+    return " ".join(filter(None, [meaning, *part, found.origin]))
 
 
 def say_line(found: CleanPattern, call: CallLine) -> str:

@@ -35,6 +35,8 @@ MANY = "many"
 ROLES, NO_CALLS = ("one", MANY), ("for", "end", "job")
 # What is said of a pattern that comes from a plan of which that is so.
 IN_PART = "Of the program that was recorded it holds only in part."
+# What is said of a pattern that has none.
+WITHOUT_CALLS = "It has no calls."
 # What a counterexample is called that stands in no file yet.
 PLAN_NAME = "counterexample.plan"
 
@@ -73,15 +75,24 @@ class CleanPattern:
         return next((it for role, number, it in calls if line.is_at(role, number)), None)
 
     @property
+    def has_calls(self) -> bool:
+        """Whether it says anything of calls."""
+        return any(True for _ in list_calls(self.pattern))
+
+    @property
     def reasons(self) -> Sequence[str]:
         """Why the verdict holds only in part, by the head that the recorder wrote."""
         return find_in_head(self.pattern.head) if self.origin else ()
 
     @property
     def origin(self) -> str:
-        """What the recorder says of where it comes from; nothing for one by hand."""
+        """What the recorder says of where it comes from, and of why it has no calls; nothing for
+        one by hand."""
         first = "".join(self.pattern.head[:1])
-        return first if first.startswith(words.PATTERN_BY) else ""
+        if not first.startswith(words.PATTERN_BY):
+            return ""
+        is_idle = words.NO_CALL_RACES in self.pattern.head
+        return f"{words.NO_CALL_RACES_SENTENCE} {first}" if is_idle else first
 
 
 @dataclass(frozen=True)

@@ -92,9 +92,10 @@ def find_races(trial: Trial, most: int, say: Say) -> list[Race]:
 def say_before(what: str, count: int, say: Say) -> None:
     """Says what is done again, before it is."""
     if count:
+        times = f"{count} times more at least" if count > 1 else "once more at least"
         say(
-            f"{what}; the command runs {count} times more at least, and what it does to files and "
-            "to others, it does again"
+            f"{what}; the command runs {times}, and what it does to files and to others, it does "
+            "again"
         )
 
 

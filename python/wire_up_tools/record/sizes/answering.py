@@ -11,14 +11,12 @@ from wire_up_tools.record.sizes.judging import Named, Verdict
 from wire_up_tools.record.sizes.plans import SizedPlan
 from wire_up_tools.record.sizes.scripts import Skeleton, part_ranks
 from wire_up_tools.record.sizes.writing import find_places
+from wire_up_tools.words import NO_CALL_RACES
 
 EVERYWHERE = "every number of ranks on every placement"
 # The least number of ranks with three sides of 3: in a smaller grid one of three sides has 2 at
 # most, so that its ranks are neighbours of all others along it.
 LEAST_GRID = 27
-NO_RACE = (
-    "no call of these runs can race: there is no get-now, no name, and no key that is put twice"
-)
 
 
 @dataclass(frozen=True)
@@ -100,7 +98,7 @@ def list_notes(answer: Answer) -> list[str]:
     """On what the answer rests, and what it can't say."""
     inferred, found = answer.inferred, list[str]()
     if not inferred:
-        return [answer.unfit or NO_RACE, *answer.in_part]
+        return [answer.unfit or NO_CALL_RACES, *answer.in_part]
     if answer.shown and not answer.verdict.findings:
         found.append("the pattern hasn't it: that is a mistake of wire_up-record")
     if inferred.failed:

@@ -42,6 +42,11 @@ class SizesParser(Parser):
         for name, found in ((FROM, "taken"), (AGAINST, "held")):
             self.add_argument(name, dest=found, nargs="+", action="append", default=[])
 
+    def sort(self, words: Sequence[str]) -> list[str]:
+        """The words as they are: what follows a command is the command's, and recordings end at the
+        next option."""
+        return list(words)
+
     def explain(self, words: Sequence[str], option: str) -> str:
         """What is wrong with an option."""
         if option in (FROM, AGAINST):

@@ -3,7 +3,6 @@ import gc
 import os
 import shutil
 import sys
-import tempfile
 from collections import Counter
 from collections.abc import Iterator, Sequence
 from dataclasses import dataclass, replace
@@ -11,14 +10,14 @@ from typing import Union
 
 from wire_up_tools.checker import Checker, find_checker
 from wire_up_tools.failures import Refused
-from wire_up_tools.files import STANDARD_OUTPUT, write_whole
+from wire_up_tools.files import STANDARD_OUTPUT, try_to_write, write_whole
 from wire_up_tools.limits import LARGE, VERSION_1
 from wire_up_tools.record.floating import settle_floating
 from wire_up_tools.record.notes import FLOATING
 from wire_up_tools.record.places import find_places, read_places
 from wire_up_tools.record.planning import Choices, Plan, make_plan
 from wire_up_tools.record.recordings import read_recordings
-from wire_up_tools.record.running import find_libraries, make_environment, run
+from wire_up_tools.record.running import find_libraries, make_environment, make_folder, run
 from wire_up_tools.record.sizes.answering import (
     Answer,
     Shown,
@@ -87,18 +86,17 @@ def run_sizes(asked: SizesRequest, choices: Choices, folder: str) -> Iterator[Ma
     """The plans of a command that is run with each size. `folder` is that of the recorder. Raises
     Refused, NotRun, OSError."""
     libraries = find_libraries(folder, asked.with_mpi)
-    if asked.kept and os.path.isdir(asked.kept) and os.listdir(asked.kept):
-        raise Refused(f"{asked.kept}: isn't empty")
-    beside = os.getcwd() if asked.pattern == STANDARD_OUTPUT else os.path.dirname(asked.pattern)
-    room = asked.kept or tempfile.mkdtemp(prefix="wire_up-record-", dir=beside or ".")
+    room = make_folder(asked.pattern, asked.kept)
     try:
         for size in asked.sizes:
-            recordings = os.path.abspath(os.path.join(room, str(size)))
+            recordings = os.path.join(room, str(size))
             os.makedirs(recordings)
             command = [it.replace(PLACE, str(size)) for it in asked.command]
-            status = run(command, make_environment(libraries, recordings), None, STANDARD_ERROR)
-            if status:
-                how = f"with status {status}" if status > 0 else f"by signal {-status}"
+            environment = make_environment(libraries, recordings)
+            status, is_stopped = run(command, environment, None, STANDARD_ERROR)
+            if status or is_stopped:
+                how = f"with status {status}" if status >= 0 else f"by signal {-status}"
+                how += ", after a signal came" if is_stopped else ""
                 raise Refused(f"the run with {size} ranks ended {how}: no pattern is made")
             made = make_sized(f"the run with {size} ranks", [recordings], choices)
             if made.sized.size != size:
@@ -210,6 +208,8 @@ def answer_sizes(asked: SizesRequest, folder: str) -> int:
     checker = Checker(path, checker.takes_large())
     most = LARGE if checker.is_large else VERSION_1
     choices = Choices(asked.with_mpi, asked.is_strict, most)
+    if asked.pattern != STANDARD_OUTPUT:
+        try_to_write(asked.pattern)
     taken, held = collect_runs(asked, choices, folder)
     found = answer(checker, taken, held)
     if not found.unfit:
