@@ -30,7 +30,7 @@ COMPILED_WITH_LIBRARY = {"hidden": "liblookups.so"}
 HOLD, LONG_HOLD = "4", "30"
 SAID = re.compile(r"^wire_up-record: ", re.MULTILINE)
 # How long a signal may take to end all, in seconds.
-SOON = 20
+SOON = 60
 
 
 def find_processes(path: str) -> list[int]:

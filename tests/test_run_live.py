@@ -63,7 +63,7 @@ class Live(LiveRuns):
         words = ["--times", "1", "--table", table, "--suite", "fence-single"]
         ran = self.run_it(*words, "scope-local-direct", *names)
         self.assertEqual(1, ran.returncode, ran.stderr)
-        self.assertIn("\nkept fence-barrier 0 of 1 plans: ", ran.stdout)
+        self.assertIn("\nkept fence-barrier 1 of 1 plans: ", ran.stdout)
         if "library OpenPMIx 4" in ran.stdout:
             self.assertIn("\nnot-kept scope-local 1 of 1 plans: ", ran.stdout)
             self.assertIn("\nknown openpmix-4.2 explains ", ran.stdout)
