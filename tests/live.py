@@ -60,8 +60,9 @@ COMPILED = {
         f"own-{name}": (
             "mpicc", "-DBY_LIBRARY", "own.c", "-L{folder}", "-Wl,-rpath,{folder}", f"-l{name}"
         )
-        for name in ("event_x", "mca_common_x")
+        for name in ("event_x", "mca_common_x", "hwloc")
     },
+    "libhwloc.so": ("mpicc", "-shared", "-fPIC", "-DLIBRARY", "-DBY_OPENING", "own.c"),
     "libscript.so": ("mpicc", "-shared", "-fPIC", "-DINTERPRETER", "own.c"),
     "own-script": (
         "mpicc", "-DBY_SCRIPT", "own.c", "-L{folder}", "-Wl,-rpath,{folder}", "-lscript"

@@ -370,15 +370,16 @@ class OtherWaysTest(LiveTest):
     def test_what_own_code_refers_to(self) -> None:
         """Messages of any source lead to no call that it doesn't have; but it has one if a function
         of PMIx or of names is in it, or another program, library or script can be: whatever name
-        its own libraries have."""
-        for name in ("event_x", "mca_common_x", "script"):
+        its own libraries have. That by which MPI reaches the machine opens drivers alone."""
+        for name in ("event_x", "mca_common_x", "script", "hwloc"):
             self.compile(f"lib{name}.so")
         uses = ("system", "opening", "function", "script", "event_x", "mca_common_x")
-        for name in ("own", *(f"own-{it}" for it in uses)):
+        for name in ("own", "own-hwloc", *(f"own-{it}" for it in uses)):
             with self.subTest(name):
                 ran = self.record(*mpirun(3, self.compile(name)))
                 self.assertEqual((ran.returncode, ran.stdout), (0, "own done\n"))
-                is_alone, head = name == "own", read_file(self.plan).partition("\nrehearsal ")[0]
+                is_alone = name in ("own", "own-hwloc")
+                head = read_file(self.plan).partition("\nrehearsal ")[0]
                 self.assertEqual(f"# {OWN_CODE}\n" in head, is_alone)
                 self.assertIn(OTHERWISE_ALONE if is_alone else OTHERWISE_AFTER, head)
                 self.assertEqual("another run may do otherwise" not in ran.stderr, is_alone)

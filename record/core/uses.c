@@ -68,9 +68,25 @@ static bool leads_to_other_code(const char *name)
 
 /* --- objects --- */
 
-/* Whose an object is: the program's own; a library that the system has, which opens no code that
- * calls PMIx, but may call it itself; or one of MPI, PMIx, the system or the recorder. */
+/* Whose an object is: the program's own; a library of the system or the machine, which opens no code
+ * that calls PMIx, but may call it itself; or one of MPI, PMIx, the system or the recorder. */
 enum standing { OWN, INSTALLED, KNOWN };
+
+/* How the libraries begin by which MPI reaches the machine: they open drivers alone, wherever they
+ * are, as in a folder of their own on a cluster. */
+static const char *const of_machine[] = {
+    "libcuda.so", "libcudart.so", "libfabric.so", "libhwloc.so", "libibverbs.so", "libpsm2.so",
+    "librdmacm.so", "libucm.so", "libucp.so", "libucs.so", "libuct.so",
+};
+
+static bool is_of_machine(const char *path)
+{
+    const char *slash = strrchr(path, '/'), *name = slash ? slash + 1 : path;
+    bool is_one = false;
+    for (size_t n = 0; !is_one && n < sizeof of_machine / sizeof *of_machine; n++)
+        is_one = begins_with(name, of_machine[n]);
+    return is_one;
+}
 
 static bool is_beside_recorder(const char *path)
 {
@@ -87,7 +103,7 @@ static enum standing find_standing(const struct dl_phdr_info *object)
     bool is_known = owner != OF_PROGRAM && (is_of_system(path) || is_beside_mpi(path));
     if (is_known || (owner == OF_RECORDER && is_beside_recorder(path)))
         return KNOWN;
-    return is_of_system(path) ? INSTALLED : OWN;
+    return is_of_system(path) || is_of_machine(path) ? INSTALLED : OWN;
 }
 
 /* Finds the function of a relocation that counts; null where it names none. */

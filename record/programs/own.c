@@ -1,7 +1,7 @@
 /* Process 0 takes messages of any source, and nothing that it calls of PMIx depends on them. The words by which it is compiled say to what its
  * own code refers besides, though it never calls that:
  *
- *   -DBY_LIBRARY     a function of a library of its own, which is this file with -DLIBRARY, and looks up a name of MPI
+ *   -DBY_LIBRARY     a function of a library of its own, which is this file with -DLIBRARY, and looks up a name of MPI, or with -DBY_OPENING too
  *   -DBY_SYSTEM      the system's call by which another program takes its place
  *   -DBY_OPENING     the function that opens a library
  *   -DBY_FUNCTION    the function of PMIx that looks up a name
@@ -24,8 +24,12 @@ void Py_Initialize(void)
 #elif defined LIBRARY
 void ask(void)
 {
+#ifdef BY_OPENING
+    dlopen("libask.so", RTLD_NOW);
+#else
     char port[MPI_MAX_PORT_NAME];
     MPI_Lookup_name("port", MPI_INFO_NULL, port);
+#endif
 }
 #else
 #ifndef BY_LIBRARY
