@@ -6,7 +6,10 @@ from dataclasses import replace
 from wire_up_tools.record.draft import Part
 from wire_up_tools.record.notes import FLOATING, Notes, is_floating
 
-SETTLED = "gets that don't block: they stand where they ended, and without them nothing is found"
+SETTLED = (
+    "gets that don't block: they stand where they ended, as if the program waited for them there; "
+    "without them nothing is found"
+)
 
 
 def drop_floating(part: Part) -> None:
