@@ -60,6 +60,8 @@ class NewerCase(unittest.TestCase):
         numbers each time, and Open MPI names its folders by them: where a launcher was killed, the
         next one of its number would end at once."""
         made = tempfile.mkdtemp(prefix="t", dir=os.path.join(root, "tmp"))
+        # Munge runs as another user.
+        os.chmod(made, 0o1777)
         self.addCleanup(shutil.rmtree, made, ignore_errors=True)
         return os.path.join("/tmp", os.path.basename(made))
 

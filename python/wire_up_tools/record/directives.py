@@ -81,11 +81,13 @@ def gives_up(action: Action) -> bool:
 def is_usual_range(action: Action, of: Pair) -> bool:
     """Whether a range is taken for that of a plan: all processes.
 
-    A lookup may give a number that no range has: MPI_Lookup_name of Open MPI 5.0.7 gives 17, and
-    PMIx finds what is published for the session all the same. Of a publish it isn't known for whom
-    such a name is.
+    That of a lookup can hide no race: with it fewer names are found, and what was answered is held
+    to the replay. MPI_Lookup_name of Open MPI 5.0.7 gives a number that it never set, another one
+    in each run. Of a publish it isn't known for whom a name of such a range is.
     """
     number = of.value.number
+    if isinstance(action, Lookup):
+        return number is not None
     if number is None or number in RANGES:
         return number in USUAL_RANGES
     return not isinstance(action, Publish)
