@@ -66,6 +66,18 @@ class CommandLineTest(RoomTest):
         self.assertFalse(os.path.exists(self.plan))
         self.use(["-o", os.devnull, "--answers", os.devnull, "--from", self.good], 0)
 
+    def test_a_text_for_a_recording_that_is_read(self) -> None:
+        """It isn't overwritten, by whichever way it is named."""
+        copy, link = os.path.join(self.room, "0.recording"), os.path.join(self.room, "link")
+        shutil.copy(self.good, copy)
+        os.symlink(copy, link)
+        before = read_file(copy)
+        for words in (["-o", copy], ["-o", link], ["-o", self.plan, "--answers", copy]):
+            for named in (copy, self.room):
+                self.use([*words, "--from", named], 125, "is a recording that is read")
+        self.assertEqual(before, read_file(copy))
+        self.assertFalse(os.path.exists(self.plan))
+
     def test_what_is_no_file(self) -> None:
         self.use(["-o", self.plan, "--from", "/dev/zero"], 125, "/dev/zero: it is no file")
         folder = os.path.join(self.room, "folder")
