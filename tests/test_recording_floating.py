@@ -5,9 +5,10 @@ import unittest
 
 import support
 from tapes import Tape, read_file, run_recorder, write_file
-from wire_up_tools.record.floating import SETTLED
+from wire_up_tools.plan_reading import read_plan
 from wire_up_tools.record.notes import FLOATING, UNAWAITED
-from wire_up_tools.words import MORE_ORDERED, WRITTEN_OTHERWISE
+from wire_up_tools.report.partial import find_reasons, say_awaited
+from wire_up_tools.words import AWAITED, MORE_ORDERED, WRITTEN_OTHERWISE
 
 
 def put_and_commit(*keys: str) -> Tape:
@@ -50,8 +51,12 @@ class FloatingTest(unittest.TestCase):
 
     def test_where_nothing_is_found_without_them(self) -> None:
         plan, said = self.record(put_and_commit("k"), get_without_waiting())
-        self.assertEqual(said, "")
-        self.assertIn(f"# {WRITTEN_OTHERWISE}\n#   1 {SETTLED}\n", plan)
+        polls = "if it polls for them, another run may do otherwise"
+        self.assertEqual(said, f"wire_up-record: 1 {AWAITED}; {polls}\n")
+        self.assertIn(f"# {WRITTEN_OTHERWISE}\n#   1 {AWAITED}\n", plan)
+        read = read_plan(plan.encode())
+        self.assertEqual(find_reasons(read), [])
+        self.assertIn("If it polls for them,", say_awaited(read) or "")
         self.assertIn("\nget app:0 k\n", plan)
         self.assertNotIn(MORE_ORDERED, plan)
 

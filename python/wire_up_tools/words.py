@@ -35,6 +35,8 @@ LEFT_OUT_HARMLESS = "Left out, which can hide no race:"
 MORE_ORDERED = "More ordered than the program, so that a race can be missed:"
 OTHERWISE_AFTER = "Another run may do otherwise after these, so that a race can be missed:"
 WRITTEN_OTHERWISE = "Written otherwise:"
+# What is said below that title of gets that don't block, where nothing is found without them.
+AWAITED = "gets that don't block: they stand where they ended, as if the program waited for them"
 # What is said of gets below that title that had no directive by which they don't wait.
 NOT_WAITED = "gets that were answered with an error in place of waiting: they are written get-now"
 # What the head says where the program is known to go by nothing but its calls, and the titles of

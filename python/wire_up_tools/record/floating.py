@@ -5,11 +5,7 @@ from dataclasses import replace
 
 from wire_up_tools.record.draft import Part
 from wire_up_tools.record.notes import FLOATING, Notes, is_floating
-
-SETTLED = (
-    "gets that don't block: they stand where they ended, as if the program waited for them there; "
-    "without them nothing is found"
-)
+from wire_up_tools.words import AWAITED
 
 
 def drop_floating(part: Part) -> None:
@@ -23,5 +19,5 @@ def settle_floating(notes: Notes) -> Notes:
     more_ordered = notes.more_ordered.copy()
     del more_ordered[FLOATING]
     otherwise = notes.otherwise.copy()
-    otherwise[SETTLED] += counted
+    otherwise[AWAITED] += counted
     return replace(notes, more_ordered=more_ordered, otherwise=otherwise)

@@ -51,7 +51,7 @@ from wire_up_tools.record.verdicts import (
     test_plan,
 )
 from wire_up_tools.record.writing import is_by_mpi_alone, write_answers, write_plan
-from wire_up_tools.words import EACH_RUN, LEFT_TO_LUCK
+from wire_up_tools.words import AWAITED, EACH_RUN, LEFT_TO_LUCK
 
 # What is said of verdicts over plans that are known to be more ordered than the program.
 IN_PART = "holds only in part"
@@ -143,6 +143,9 @@ def say_part(plan: Plan) -> None:
     of_luck = list_luck(plan)
     if of_luck and not is_by_mpi_alone(plan):
         say(f"{', '.join(of_luck)}: another run may do otherwise after them")
+    awaited = notes.otherwise[AWAITED]
+    if awaited:
+        say(f"{awaited} {AWAITED}; if it polls for them, another run may do otherwise")
 
 
 def list_luck(plan: Plan) -> list[str]:

@@ -97,6 +97,17 @@ def is_by_mpi_alone(head: Sequence[str]) -> bool:
     return words.OWN_CODE in head
 
 
+def say_awaited(plan: Plan) -> Optional[str]:
+    """On what the order rests that gets have which don't block; None where there are none, or that
+    order is said to hide what another lacks."""
+    if not any(it.endswith(words.AWAITED) for it in plan.list_in_head(words.WRITTEN_OTHERWISE)):
+        return None
+    return (
+        "Gets that don't block stand where they ended, as if the program waited for them. If it "
+        "polls for them, another run may do otherwise."
+    )
+
+
 def say_own_code(plan: Plan) -> Optional[str]:
     """What luck decides that leads to no call of PMIx, and on what that rests; None where it
     decides nothing, or can lead to one."""

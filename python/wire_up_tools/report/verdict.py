@@ -5,7 +5,12 @@ from wire_up_tools.report.causes import Cause
 from wire_up_tools.report.contents import Report
 from wire_up_tools.report.findings import MOST_GROUPS, Kind
 from wire_up_tools.report.library_page import say_otherwise
-from wire_up_tools.report.partial import hides_race, is_of_each_run, say_own_code
+from wire_up_tools.report.partial import (
+    hides_race,
+    is_of_each_run,
+    say_awaited,
+    say_own_code,
+)
 from wire_up_tools.report.patterns import find_groups, say_counterexample
 from wire_up_tools.report.phrases import count_of
 from wire_up_tools.report.placements import Placed
@@ -106,8 +111,7 @@ def say_besides(report: Report) -> list[str]:
     of_library = [say_otherwise(report.judged)] if report.judged else []
     is_of_runs = not report.causes and is_of_each_run(report.plan)
     of_runs = [EACH_RUN_SENTENCE] if is_of_runs else []
-    own = say_own_code(report.plan)
-    of_code = [own] if own else []
+    of_code = [it for it in (say_own_code(report.plan), say_awaited(report.plan)) if it]
     said = [*of_runs, *say_pattern(report), *say_placements(report), *of_library, *of_code]
     return [*said, *say_in_vain(report.plan)]
 
