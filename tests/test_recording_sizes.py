@@ -121,6 +121,28 @@ def part_ways(size: int) -> list[Tape]:
     return tapes
 
 
+def answer_otherwise(size: int) -> list[Tape]:
+    """All others get the card of rank 0, which the library hasn't with 4 ranks or more. All put a
+    card twice, so that calls can race."""
+    tapes = make_world(size)
+    for it in tapes:
+        it.call("put global card text:v").call("commit")
+        it.call("put global card text:w").call("commit")
+        it.call("fence blocks all -")
+    found = "0 text:w" if size < 4 else "-46"
+    for it in tapes[1:]:
+        it.call("get blocks job:0 :card -", found)
+    publish(tapes[0], "port")
+    return tapes
+
+
+def forget_cards(size: int) -> list[Tape]:
+    """The last rank gets a card of rank 0 that nobody puts."""
+    tapes = tell(size)
+    tapes[-1].call("get blocks job:0 :card -", "-46")
+    return tapes
+
+
 def last_asks(size: int) -> list[Tape]:
     """The last rank alone looks a port up, once it has heard of rank 0."""
     tapes = make_world(size)
@@ -226,6 +248,25 @@ class AnswerTest(unittest.TestCase):
         said = self.ask(lambda size: forget(size) if size > 3 else put_cards(size), (3, 4), ())
         self.assertEqual((said["shown"], said["ranks"]), ("recording", 4))
         self.assertRegex(said["notes"][0], "^no pattern fits these runs: with . ranks, call 1 of ")
+
+    def test_a_call_that_fails_at_every_size(self) -> None:
+        said = self.ask(forget_cards, (3, 4), (8,))
+        self.assertEqual(said["findings"], [])
+        self.assertIn("may fail in a plan of the pattern: last 3 get-now", said["notes"])
+
+    def test_a_reply_that_differs_between_sizes(self) -> None:
+        said = self.ask(answer_otherwise, (3, 4), ())
+        why = "call 6 of app:1 was answered otherwise with 4 ranks: `get-now app:0 card`"
+        self.assertTrue(said["notes"][0].endswith(why), said["notes"])
+
+    def test_a_checker_that_is_not_there(self) -> None:
+        """It is refused before the program runs."""
+        words = ["--sizes", "3,4", "-o", self.pattern, "--checker", "/no/checker"]
+        ran = run_recorder(*words, "sh", "-c", f"touch {self.room}/ran {{}}")
+        self.assertEqual(ran.returncode, 125)
+        said = "/no/checker: can't be run: No such file or directory"
+        self.assertEqual(ran.stderr.splitlines()[0].partition(": ")[2], said)
+        self.assertFalse(os.path.exists(f"{self.room}/ran"))
 
     def test_the_text(self) -> None:
         words = [it for size in (3, 4) for it in ("--from", self.write_run(tell(size)))]

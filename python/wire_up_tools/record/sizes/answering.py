@@ -111,7 +111,16 @@ def list_notes(answer: Answer) -> list[str]:
         )
     if inferred.needs_messages and not answer.findings:
         found += say_rest([*answer.taken, *answer.held])
-    return [*found, *answer.in_part]
+    return [*found, *say_unanswered(answer.verdict), *answer.in_part]
+
+
+def say_unanswered(verdict: Verdict) -> list[str]:
+    """Which lines of a pattern wait for ever, or fail, in plans of it."""
+    return [
+        f"{what} in a plan of the pattern: {' '.join(it.split()[1:4])}"
+        for what, lines in (("waits for ever", verdict.waiting), ("may fail", verdict.failing))
+        for it in lines
+    ]
 
 
 def say_rest(plans: Sequence[SizedPlan]) -> list[str]:

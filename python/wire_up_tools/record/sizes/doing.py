@@ -29,9 +29,11 @@ from wire_up_tools.record.sizes.answering import (
 from wire_up_tools.record.sizes.asking import PLACE, SizesRequest, refuse_sizes
 from wire_up_tools.record.sizes.inferring import Inferred, infer
 from wire_up_tools.record.sizes.judging import (
+    ANSWERS,
     CLEAN,
     FOUND,
     Verdict,
+    find_judge,
     judge_pattern,
     judge_plan,
 )
@@ -146,7 +148,7 @@ def answer(checker: Checker, taken: Sequence[Made], held: Sequence[Made]) -> Ans
     found = infer(ours, others, lambda text: not judge_pattern(checker, text).findings)
     shown = find_shown(checker, every)
     if isinstance(found, Inferred):
-        verdict = judge_pattern(checker, found.text)
+        verdict = judge_pattern(checker, found.text, ANSWERS)
         return Answer(found.taken, found.held, found, verdict, shown, in_part=in_part)
     unfit = f"no pattern fits these runs: {found}"
     if not shown:
@@ -204,8 +206,7 @@ def answer_sizes(asked: SizesRequest, folder: str) -> int:
     path = asked.checker or find_checker(folder)
     if path is None:
         raise Refused("there is no program `wire_up` to judge the pattern: --checker FILE names it")
-    checker = Checker(path)
-    checker = Checker(path, checker.takes_large())
+    checker = find_judge(path)
     most = LARGE if checker.is_large else VERSION_1
     choices = Choices(asked.with_mpi, asked.is_strict, most)
     if asked.pattern != STANDARD_OUTPUT:

@@ -11,6 +11,8 @@ from wire_up_tools.record.sizes.plans import SizedPlan, index_plan
 from wire_up_tools.record.sizes.scripts import Instance, Skeleton, Unfit, find_skeleton, fit
 from wire_up_tools.record.sizes.writing import write_pattern
 
+# The two forms of a call, of which its reply decides: it waited, or it found what there was.
+TWINS = {"get": "get-now", "get-now": "get", "lookup": "lookup-wait", "lookup-wait": "lookup"}
 # Whether nothing is found in a pattern, by its text.
 IsClean = Callable[[str], bool]
 
@@ -102,7 +104,33 @@ def infer(
     """The pattern of plans, which the larger ones hold. Where one doesn't, the pattern is made anew
     with all of them. Answers where their calls fit no script, if they don't."""
     found = infer_once(taken, larger, is_clean)
-    if isinstance(found, Inferred) or not larger:
+    if isinstance(found, Inferred):
         return found
+    if not larger:
+        return explain(found, taken)
     again = infer_once([*taken, *larger], [], is_clean)
-    return replace(again, failed=found.plan) if isinstance(again, Inferred) else again
+    if isinstance(again, Inferred):
+        return replace(again, failed=found.plan)
+    return explain(again, [*taken, *larger])
+
+
+def find_twin(first: SizedPlan, other: SizedPlan) -> Optional[str]:
+    """The first call of a rank that is one in its other form in another size, that for another
+    reply."""
+    for rank in filter(other.calls.__contains__, first.ranks):
+        both = zip(first.list_program(rank), other.list_program(rank))
+        for number, (call, twin) in enumerate(both, 1):
+            if list(twin.words) == [TWINS.get(call.verb), *call.words[1:]]:
+                return (
+                    f"call {number} of {rank} was answered otherwise with {other.size} ranks: "
+                    f"`{' '.join(twin.words)}`"
+                )
+            if twin.words != call.words:
+                break
+    return None
+
+
+def explain(unfit: Unfit, plans: Sequence[SizedPlan]) -> Unfit:
+    """Where calls fit no script, with the reason if it lies in a reply."""
+    twins = (find_twin(plans[0], it) for it in plans[1:])
+    return replace(unfit, why=unfit.why or next(filter(None, twins), ""))

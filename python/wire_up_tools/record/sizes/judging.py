@@ -9,7 +9,8 @@ from wire_up_tools.checker import Answer, Checker
 from wire_up_tools.failures import Refused
 from wire_up_tools.plan_reading import read_plan
 
-PATTERN, ANYWHERE, JSON = "--pattern", "--anywhere", "--json"
+PATTERN, ANYWHERE, JSON, ANSWERS = "--pattern", "--anywhere", "--json", "--answers"
+SUCCESS = "PMIX_SUCCESS"
 CLEAN, FOUND = 0, 1
 # A call in a finding: a rank and a number.
 NAMED = re.compile(r"(\S+:\d+) (\d+)")
@@ -29,12 +30,15 @@ class Named:
 @dataclass(frozen=True)
 class Verdict:
     """What is found, in lines, and the calls that the findings name, in a plan with so many
-    `ranks`: that of a run, perhaps on other placements (`is_elsewhere`), or a counterexample."""
+    `ranks`: that of a run, perhaps on other placements (`is_elsewhere`), or a counterexample. Of a
+    pattern without findings, which lines wait for ever or fail in plans of it."""
 
     findings: Sequence[str]
     calls: Sequence[Named] = ()
     ranks: int = 0
     is_elsewhere: bool = False
+    waiting: Sequence[str] = ()
+    failing: Sequence[str] = ()
 
 
 def refuse(answer: Answer, what: str) -> Refused:
@@ -43,13 +47,11 @@ def refuse(answer: Answer, what: str) -> Refused:
     return Refused(f"{what}: the checker gives no verdict{f': {lines[0]}' if lines else ''}")
 
 
-def judge_pattern(checker: Checker, text: str) -> Verdict:
-    """What is found in a pattern, of any number of ranks on any placement. Raises Refused,
-    OSError."""
-    if not checker.takes("check", PATTERN):
-        raise Refused(f"{checker.path}: judges no patterns")
+def judge_pattern(checker: Checker, text: str, *options: str) -> Verdict:
+    """What is found in a pattern, of any number of ranks on any placement; which lines may fail,
+    with the option `--answers`. Raises Refused, OSError."""
     small = Checker(checker.path)
-    answer = small.ask("check", PATTERN, JSON, plan=text.encode())
+    answer = small.ask("check", PATTERN, JSON, *options, plan=text.encode())
     if answer.status not in (CLEAN, FOUND):
         raise refuse(answer, "the pattern")
     said: dict[str, Any] = json.loads(answer.stdout)
@@ -57,7 +59,20 @@ def judge_pattern(checker: Checker, text: str) -> Verdict:
         findings = list(map(str, said["findings"]))
         calls = find_named(str(said["counterexample"]), findings)
         return Verdict(findings, calls, int(said["ranks"]))
-    return Verdict([])
+    failing = [it for it in said.get("answers", []) if not set(it.split()[4:]) <= {SUCCESS}]
+    return Verdict([], waiting=said["waits"], failing=failing)
+
+
+def find_judge(path: str) -> Checker:
+    """The checker at a path. Raises Refused if it can't be run or judges no patterns."""
+    checker = Checker(path)
+    try:
+        judges = checker.takes("check", PATTERN)
+    except OSError as failed:
+        raise Refused(f"{path}: can't be run: {failed.strerror}") from None
+    if not judges:
+        raise Refused(f"{path}: judges no patterns")
+    return Checker(path, checker.takes_large())
 
 
 def judge_plan(checker: Checker, name: str, text: str) -> Verdict:
