@@ -1,1 +1,3 @@
 pub mod LessOrder
+pub mod AddedNames
+pub mod OrderThere

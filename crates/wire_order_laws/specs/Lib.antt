@@ -1,1 +1,2 @@
 pub mod LessOrder
+pub mod OrderThere
