@@ -1,3 +1,5 @@
 pub mod LessOrder
 pub mod AddedNames
 pub mod OrderThere
+pub mod Alike
+pub mod Unread

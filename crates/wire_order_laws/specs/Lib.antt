@@ -1,2 +1,4 @@
 pub mod LessOrder
 pub mod OrderThere
+pub mod Unread
+pub mod WholeFences

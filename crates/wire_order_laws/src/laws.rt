@@ -2,6 +2,7 @@
 
 ghost use Rattle.wire_order_laws.specs.LessOrder.{LessOrderFinds};
 ghost use Rattle.wire_order_laws.specs.OrderThere.{OrderThereFinds, InstanceTells};
+ghost use Rattle.wire_order_laws.specs.Unread.{BareFinds, NothingRaces};
 
 /// Where a plan that lacks waits of another has no finding, the other has none.
 pub fn less_order_finds()
@@ -17,4 +18,14 @@ pub fn order_there_finds()
 /// none.
 pub fn instance_tells()
     ensures { InstanceTells }
+{}
+
+/// Where a plan has no finding without what nobody gets, the full plan has none.
+pub fn bare_finds()
+    ensures { BareFinds }
+{}
+
+/// A plan without a call that can race has no finding.
+pub fn nothing_races()
+    ensures { NothingRaces }
 {}
