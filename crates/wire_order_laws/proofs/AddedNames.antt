@@ -1,5 +1,5 @@
 -- A plan with added names that order nothing: its edges, live events and chains, beside those of the plan without them.
-use Rattle.std.proofs.Common.{◌≡◌, ℕ, zero, suc, ◌<◌, ◌≤◌, List, [], ◌∷◌, Bool, true, false, ◌==◌, ◌||◌, nat_le, Option, Some, None, is_some, ◌⊎◌, inl, inr, refl, sym, ap, ◌∙◌, subst, arith, eq-eqb, ne_eqb}
+use Rattle.std.proofs.Common.{◌≡◌, ℕ, zero, suc, ◌<◌, ◌≤◌, List, [], ◌∷◌, true, ◌||◌, nat_le, Option, Some, None, is_some, ◌⊎◌, inl, inr, refl, sym, ap, ◌∙◌, subst, arith, eq-eqb, ne_eqb}
 use Rattle.std.specs.Prelude.{slice_get}
 use Rattle.std.specs.List.{list_all}
 use Rattle.std.proofs.lemmas.Bool.{cond-true, cond-false, cases_eq, cases_lt, true≢false, false_from_ne_true}
@@ -21,7 +21,7 @@ use Rattle.wire_runs.proofs.EmbeddedOrder.{live_back}
 use Rattle.wire_runs.proofs.MoreReads.{kind_in_place}
 use Rattle.wire_runs.proofs.Parts.{rising}
 use Rattle.wire_order_laws.specs.LessOrder.{LacksWaits, HasLessOrder}
-use Rattle.wire_order_laws.specs.OrderThere.{IsNew, MayAdd, AddsNames, IsAhead, IsBehind, AwaitsNew, IsTold, AddsNoOrder}
+use Rattle.wire_order_laws.specs.OrderThere.{MayAdd, AddsNames, IsAhead, IsBehind, AwaitsNew, IsTold, AddsNoOrder}
 use Rattle.wire_order_laws.proofs.LessOrder.{each as each_part, e as stands_in, kind_into as kind_there}
 
 adds_lack : (small large : Plan) (pieces : List Piece) → AddsNames small large pieces → LacksWaits small large pieces

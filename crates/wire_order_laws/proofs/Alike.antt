@@ -1,8 +1,8 @@
 -- Plans that agree event by event in all that findings rest on have the same findings.
-use Rattle.std.proofs.Common.{◌≡◌, ℕ, suc, List, Bool, true, false, ◌==◌, nat_le, Option, Some, is_some, ◌⊎◌, inl, inr, refl, sym, ap, ◌∙◌, subst}
+use Rattle.std.proofs.Common.{◌≡◌, ℕ, suc, List, Bool, true, false, ◌==◌, nat_le, Some, is_some, ◌⊎◌, inl, inr, sym, ap, ◌∙◌, subst}
 use Rattle.std.specs.List.{list_all, list_any}
-use Rattle.wire_runs.specs.Plan.{Plan, Event, Kind, Put, Commit, Arrive, Leave, Get, GetNow, Fixed, kind, event_count, node_of, same_node, admits}
-use Rattle.wire_runs.specs.Puts.{own, stored, put_count, scope_of}
+use Rattle.wire_runs.specs.Plan.{Plan, Event, Kind, Put, Commit, Arrive, Get, GetNow, Fixed, kind, event_count, node_of, same_node, admits}
+use Rattle.wire_runs.specs.Puts.{stored, put_count, scope_of}
 use Rattle.wire_runs.specs.Fences.{arrivals, is_full, collects, is_collecting, has_node}
 use Rattle.wire_runs.specs.Names.{takes_name, writes_name, calls_name}
 use Rattle.wire_runs.specs.Order.{Stores, IsArrival, PublishesOnce, Edge, Follows, Meets, Feeds, Announces, may_come, Live, live, Before, edge, further}

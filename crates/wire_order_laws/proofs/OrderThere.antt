@@ -1,5 +1,5 @@
 -- Names that order nothing hide no finding.
-use Rattle.std.proofs.Common.{◌≡◌, ℕ, List, Bool, true, false, ◌==◌, Option, Some, None, inl, inr, refl, sym, ap, ◌∙◌, subst, arith}
+use Rattle.std.proofs.Common.{◌≡◌, ℕ, List, true, false, ◌==◌, Option, Some, None, inl, inr, refl, sym, ap, ◌∙◌, subst, arith}
 use Rattle.std.specs.Prelude.{option_map}
 use Rattle.std.proofs.lemmas.Bool.{true≢false}
 use Rattle.wire_runs.specs.Plan.{GetNow, Plan, Event, Kind, kind, node_of, same_node, admits}
@@ -14,9 +14,7 @@ use Rattle.wire_runs.proofs.Arrivals.{mate_on, node_among, written_name}
 use Rattle.wire_runs.proofs.Images.{image_later, stored_end, puts_end, stores_into, arrival_into, writes_same, calls_same}
 use Rattle.wire_runs.proofs.EmbeddedOrder.{chain_into}
 use Rattle.wire_runs.proofs.EmbeddedFindings.{scope_same, get_delivers_back, fence_delivers_back}
-use Rattle.wire_order_laws.specs.LessOrder.{HasLessOrder}
-use Rattle.wire_order_laws.specs.OrderThere.{AddsNoOrder, OrderThereFinds, InstanceTells}
-use Rattle.wire_order_laws.proofs.LessOrder.{less_order_finds}
+use Rattle.wire_order_laws.specs.OrderThere.{AddsNoOrder, OrderThereFinds}
 use Rattle.wire_order_laws.proofs.AddedNames.{e as stands_in, spot as spot_of, kind_into as kind_there, kind_back as kind_here, once_back as once_here, full_same as full_there, arrival_spot as arrival_of, chain_back as chain_here, live_into as live_there}
 
 module _ (small large : Plan) (pieces : ℕ → List Piece) (adds : AddsNoOrder small large pieces) where
@@ -199,6 +197,3 @@ module _ (small large : Plan) (pieces : ℕ → List Piece) (adds : AddsNoOrder 
 
 pub order_there_finds : OrderThereFinds
 order_there_finds small large pieces adds settled = settled_less small large pieces adds settled
-
-pub instance_tells : InstanceTells
-instance_tells instance plan has settled = order_there_finds plan has.between has.names has.adds (less_order_finds instance has.between has.pieces has.less settled)

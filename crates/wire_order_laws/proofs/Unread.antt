@@ -1,24 +1,22 @@
 -- A bare plan agrees with the full one in all that findings rest on; and a plan that has no call that can race has none.
-use Rattle.std.proofs.Common.{◌≡◌, ℕ, zero, suc, ◌<◌, List, Bool, true, false, ◌==◌, ◌||◌, nat_le, Option, Some, None, is_some, ◌⊎◌, inl, inr, refl, sym, ap, ◌∙◌, subst, arith, eqb-true, ne_eqb}
+use Rattle.std.proofs.Common.{◌≡◌, ℕ, zero, suc, List, Bool, true, false, ◌==◌, ◌||◌, nat_le, Option, Some, None, is_some, ◌⊎◌, inl, inr, refl, sym, ap, ◌∙◌, subst, arith, eqb-true, ne_eqb}
 use Rattle.std.specs.Prelude.{if◌then◌else◌}
 use Rattle.std.specs.List.{list_all}
-use Rattle.std.proofs.lemmas.Bool.{cond-false, cond_both, cases_lt, true≢false}
-use Rattle.std.proofs.lemmas.Option.{none-some, same_Some}
+use Rattle.std.proofs.lemmas.Bool.{cond-false, cond_both, true≢false}
+use Rattle.std.proofs.lemmas.Option.{same_Some}
 use Rattle.wire_types.specs.declared.Scope.{Scope}
 use Rattle.wire_types.specs.declared.Reply.{Reply}
-use Rattle.wire_runs.specs.Plan.{Plan, Event, Kind, Put, Commit, Arrive, Leave, Get, GetNow, Publish, Lookup, LookupWait, Unpublish, UnpublishAll, Fixed}
+use Rattle.wire_runs.specs.Plan.{Plan, Event, Kind, Put, Commit, Arrive, Leave, Get, GetNow, Publish, Lookup, LookupWait, Fixed}
 use Rattle.wire_runs.specs.Plan.{kind_at, kind, event_count}
 use Rattle.wire_runs.specs.Puts.{own_with, own, stored_with, stored, put_count_with, put_count, scope_in, scope_of}
 use Rattle.wire_runs.specs.Fences.{arrivals_with, arrivals, is_full, collects_with, collects}
 use Rattle.wire_runs.specs.Names.{is_publish, publishes, takes_name, writes_name, calls_name}
 use Rattle.wire_runs.specs.Order.{PublishesOnce, may_come}
 use Rattle.wire_runs.specs.Races.{IsRewrite, IsNameRace, IsSettled}
-use Rattle.wire_runs.specs.Embeddings.{IsNameOf}
-use Rattle.wire_runs.proofs.Basics.{event_within, event_past}
 use Rattle.wire_runs.proofs.Arrivals.{stored_is_put, written_name}
-use Rattle.wire_runs.proofs.Images.{event_at}
 use Rattle.wire_order_laws.specs.LessOrder.{IsPublishedOnce}
-use Rattle.wire_order_laws.specs.Unread.{IsOnlyPut, IsGot, GetsAtOnce, IsBareAt, Same, Unread, Empty, Uncollected, IsBare, BareFinds, CantRace, NothingRaces}
+use Rattle.wire_order_laws.specs.Unread.{IsGot, GetsAtOnce, IsBareAt, Same, Unread, Empty, Uncollected, IsBare, BareFinds, CantRace, NothingRaces}
+use Rattle.wire_order_laws.proofs.Beside.{beside, takes_alike, writes_alike, calls_alike}
 use Rattle.wire_order_laws.proofs.Alike.{IsPlain, Agrees, settled_alike}
 
 -- where no put of the key has come, none has come before
@@ -35,16 +33,7 @@ module _ (bare full : Plan) (less : IsBare bare full) where
   -- what holds of no call, and of a call and what stands in its place, holds at each event
   both : (x : Event) (holds : Option Kind → Option Kind → Type 0) → holds None None →
       ((k l : Kind) → kind full x ≡ Some k → kind bare x ≡ Some l → IsBareAt bare full x k l → holds (Some k) (Some l)) → holds (kind full x) (kind bare x)
-  both x holds none some = elim (cases_lt x.at (event_count full x.proc)) [
-    | inl lt ↦ (
-        let k = event_at full x.proc x.at lt in
-        let l = event_at bare x.proc x.at (let same = less.counts x.proc in omega (arith, lt, same)) in
-        subst (λ o. holds o (kind bare x)) (sym k.1) (subst (λ o. holds (Some k.0) o) (sym l.1) (some k.0 l.0 k.1 l.1 (less.calls x k.0 l.0 k.1 l.1))))
-    | inr ge ↦ (
-        let past = event_past full x.proc x.at ge in
-        let past_bare = event_past bare x.proc x.at (let same = less.counts x.proc in omega (arith, ge, same)) in
-        subst (λ o. holds o (kind bare x)) (sym past) (subst (λ o. holds None o) (sym past_bare) none))
-  ]
+  both = beside full bare (IsBareAt bare full) less.counts less.calls
 
   -- what doesn't tell a put or a commit from a call of fixed reply, nor whether a fence collects, is the same of both
   seen : {A : Type 0} (f : Option Kind → A) → ((key : ℕ) (scope : Scope) (reply : Reply) → f (Some (Put key scope)) ≡ f (Some (Fixed reply))) →
@@ -240,30 +229,17 @@ module _ (bare full : Plan) (less : IsBare bare full) where
       go k l (Uncollected others collect arrive_is bare_is not) = absurd (not now)
 
   -- names
-  takes_plan : (name : ℕ) (x : Event) (o : Option Kind) → takes_name full name x o ≡ takes_name bare name x o
-  takes_plan name x (Some UnpublishAll) = publishes_are x.proc name (event_count full x.proc) ∙ ap (publishes bare x.proc name) (sym (less.counts x.proc))
-  takes_plan name x None = refl
-  takes_plan name x (Some _) = refl
-
-  writes_plan : (name : ℕ) (x : Event) (o : Option Kind) → writes_name full name x o ≡ writes_name bare name x o
-  writes_plan name x (Some (Publish n)) = refl
-  writes_plan name x None = refl
-  writes_plan name x (Some k) = takes_plan name x (Some k)
-
-  calls_plan : (name : ℕ) (x : Event) (o : Option Kind) → calls_name full name x o ≡ calls_name bare name x o
-  calls_plan name x (Some (Lookup n)) = refl
-  calls_plan name x (Some (LookupWait n)) = refl
-  calls_plan name x None = refl
-  calls_plan name x (Some k) = writes_plan name x (Some k)
+  publish_alike : (p name : ℕ) → publishes full p name (event_count full p) ≡ publishes bare p name (event_count bare p)
+  publish_alike p name = publishes_are p name (event_count full p) ∙ ap (publishes bare p name) (sym (less.counts p))
 
   takes_are : (name : ℕ) (x : Event) → takes_name full name x (kind full x) ≡ takes_name bare name x (kind bare x)
-  takes_are name x = seen (takes_name full name x) (λ key scope reply. refl) (λ reply. refl) (λ ms c. refl) x ∙ takes_plan name x (kind bare x)
+  takes_are name x = seen (takes_name full name x) (λ key scope reply. refl) (λ reply. refl) (λ ms c. refl) x ∙ takes_alike full bare publish_alike name x (kind bare x)
 
   writes_are : (name : ℕ) (x : Event) → writes_name full name x (kind full x) ≡ writes_name bare name x (kind bare x)
-  writes_are name x = seen (writes_name full name x) (λ key scope reply. refl) (λ reply. refl) (λ ms c. refl) x ∙ writes_plan name x (kind bare x)
+  writes_are name x = seen (writes_name full name x) (λ key scope reply. refl) (λ reply. refl) (λ ms c. refl) x ∙ writes_alike full bare publish_alike name x (kind bare x)
 
   calls_are : (name : ℕ) (x : Event) → calls_name full name x (kind full x) ≡ calls_name bare name x (kind bare x)
-  calls_are name x = seen (calls_name full name x) (λ key scope reply. refl) (λ reply. refl) (λ ms c. refl) x ∙ calls_plan name x (kind bare x)
+  calls_are name x = seen (calls_name full name x) (λ key scope reply. refl) (λ reply. refl) (λ ms c. refl) x ∙ calls_alike full bare publish_alike name x (kind bare x)
 
   -- what may come
   full_is : (members : List ℕ) (j : ℕ) → is_full full members j ≡ is_full bare members j
@@ -276,9 +252,9 @@ module _ (bare full : Plan) (less : IsBare bare full) where
       let all = sym (less.counts owner) in
       ap (λ v. if y.proc == owner then is_some v else (is_some (stored full owner key (event_count full owner)) || nat_le 2 (put_count full owner key (event_count full owner)))) (owns_are owner key y.at g)
       ∙ ap (λ v. if y.proc == owner then is_some (own bare owner key y.at) else (is_some v || nat_le 2 (put_count full owner key (event_count full owner))))
-          (stores_are owner key (event_count full owner) g ∙ ap (stored bare owner key) all)
+      (stores_are owner key (event_count full owner) g ∙ ap (stored bare owner key) all)
       ∙ ap (λ v. if y.proc == owner then is_some (own bare owner key y.at) else (is_some (stored bare owner key (event_count bare owner)) || nat_le 2 v))
-          (puts_are owner key (event_count full owner) g ∙ ap (put_count bare owner key) all)
+      (puts_are owner key (event_count full owner) g ∙ ap (put_count bare owner key) all)
   may_plan y (Some (Leave members)) is = ap (is_full full members) (arrivals_are y.proc members y.at) ∙ full_is members (arrivals bare y.proc members y.at)
   may_plan y (Some _) is = refl
 

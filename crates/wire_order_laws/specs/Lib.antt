@@ -2,3 +2,4 @@ pub mod LessOrder
 pub mod OrderThere
 pub mod Unread
 pub mod WholeFences
+pub mod Leaner

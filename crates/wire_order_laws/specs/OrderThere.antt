@@ -6,7 +6,7 @@ use Rattle.wire_runs.specs.Order.{PublishesOnce, Live, Before}
 use Rattle.wire_runs.specs.Races.{IsSettled}
 use Rattle.wire_runs.specs.Embeddings.{IsNameOf}
 use Rattle.wire_runs.specs.Parts.{Piece, Kept, Left, kept_kinds, all_kinds, place_in, in_place}
-use Rattle.wire_order_laws.specs.LessOrder.{IsPublishedOnce, HasLessOrder}
+use Rattle.wire_order_laws.specs.LessOrder.{IsPublishedOnce}
 
 -- a name that the large plan publishes once, and on which the small one has no call
 abbrev pub IsNew : (small large : Plan) → ℕ → Type 0
@@ -61,15 +61,3 @@ pub record AddsNoOrder (small large : Plan) (pieces : ℕ → List Piece) : Type
 abbrev pub OrderThereFinds : Type 0
 OrderThereFinds = (small large : Plan) (pieces : ℕ → List Piece) → AddsNoOrder small large pieces
     → IsSettled large → IsSettled small
-
--- a plan with the calls of another and at least its order: the other has less order than the plan with such names
-pub record HasItsOrder (other plan : Plan) : Type 0 where
-  pub between : Plan
-  pub names : ℕ → List Piece
-  pub adds : AddsNoOrder plan between names
-  pub pieces : ℕ → List Piece
-  pub less : HasLessOrder other between pieces
-
--- where nothing is found in an instance of a pattern, nothing is found in a plan with its calls and at least its order
-abbrev pub InstanceTells : Type 0
-InstanceTells = (instance plan : Plan) → HasItsOrder instance plan → IsSettled instance → IsSettled plan

@@ -1,5 +1,5 @@
 -- Whole fences left out: a full plan, and one that lacks some of its fences in place, each with the calls of all members.
-use Rattle.std.specs.Prelude.{◌≡◌, ℕ, suc, List, Bool, true, false, Some}
+use Rattle.std.specs.Prelude.{◌≡◌, ℕ, suc, List, Bool, true, Some}
 use Rattle.wire_types.specs.declared.Reply.{Reply}
 use Rattle.wire_runs.specs.Plan.{Plan, Event, Kind, Arrive, Leave, Fixed, kind, event_count, node_of}
 use Rattle.wire_runs.specs.Fences.{arrivals}
