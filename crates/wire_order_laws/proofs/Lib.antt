@@ -6,3 +6,4 @@ pub mod Alike
 pub mod Unread
 pub mod WholeFences
 pub mod Leaner
+pub mod Rows
