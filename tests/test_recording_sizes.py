@@ -76,6 +76,22 @@ def pass_on(size: int) -> list[Tape]:
     return tapes
 
 
+def ask_between(size: int) -> list[Tape]:
+    """Each rank publishes a name of its own. Behind a barrier rank 0 looks two of them up, and
+    behind another one all publish the same name."""
+    tapes = make_world(size)
+    for rank, it in enumerate(tapes):
+        publish(it, f"port{rank}")
+    for it in tapes:
+        it.call("collective barrier 1", "0 all")
+    look_up(tapes[0], "port1")
+    look_up(tapes[0], f"port{size - 1}")
+    for it in tapes:
+        it.call("collective barrier 1", "0 all")
+        publish(it, "port")
+    return tapes
+
+
 # The sides of grids, as MPI_Dims_create chooses them.
 SIDES = {4: (2, 2, 1), 8: (2, 2, 2), 27: (3, 3, 3)}
 
@@ -199,6 +215,17 @@ class AnswerTest(unittest.TestCase):
         self.assertEqual(said["findings"], [])
         self.assertIn("for some ranks\n", self.read_pattern().replace("workers", "ranks"))
         self.assertIn("lookup port#[each]\n", self.read_pattern())
+
+    def test_ranks_without_a_turn(self) -> None:
+        """They don't say that they are past a loop before they have waited ahead of it: each would
+        wait for the others, and the pattern hide the race."""
+        said = self.ask(ask_between, (3, 4), (8,))
+        self.assertEqual((said["shown"], said["notes"]), ("recording", []))
+        self.assertIn("for some ranks\nlookup port#[each]\nend\n", self.read_pattern())
+        self.assertIn(
+            "publish done.ranks.1[self] sent\nfor ranks\nlookup-wait done.ranks.1[each]\n",
+            self.read_pattern(),
+        )
 
     def test_what_does_not_grow(self) -> None:
         """In a grid all hear of all while its sides are short; that can't be so in any."""

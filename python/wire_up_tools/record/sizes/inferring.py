@@ -5,7 +5,13 @@ from typing import Optional, Union
 
 from wire_up_tools.record.patterns.indexing import find_places as find_numbers
 from wire_up_tools.record.patterns.indexing import name_all
-from wire_up_tools.record.sizes.claims import Claim, find_claims, inform, is_true
+from wire_up_tools.record.sizes.claims import (
+    Claim,
+    find_claims,
+    find_waits,
+    inform,
+    is_true,
+)
 from wire_up_tools.record.sizes.leaning import keep_whole_fences, make_lean, take_fences_as_order
 from wire_up_tools.record.sizes.plans import SizedPlan, index_plan
 from wire_up_tools.record.sizes.scripts import Instance, Skeleton, Unfit, find_skeleton, fit
@@ -72,9 +78,10 @@ def change_plans(skeleton: Skeleton, change: Callable[[SizedPlan], SizedPlan]) -
 
 def why_other(fitted: Sequence[Instance], claims: Sequence[Claim]) -> Optional[Unfit]:
     """The first instance of which claims aren't true."""
+    waits = find_waits(claims)
     for it in fitted if claims else ():
         informed = inform(it)
-        if not all(is_true(informed, claim) for claim in claims):
+        if not all(is_true(informed, claim, waits) for claim in claims):
             return Unfit(it.plan, it.plan.ranks[0], 1, "MPI orders it less")
     return None
 
