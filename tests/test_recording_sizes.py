@@ -13,6 +13,8 @@ from tapes import Tape, make_world, run_recorder, write_file
 from wire_up_tools.failures import Refused, Unusable
 from wire_up_tools.record.command_line import read_request
 from wire_up_tools.record.sizes.asking import SizesRequest
+from wire_up_tools.record.sizes.leaning import part_fences
+from wire_up_tools.record.sizes.plans import Call, SizedPlan
 
 Tapes = Callable[[int], list[Tape]]
 
@@ -300,6 +302,32 @@ class AnswerTest(unittest.TestCase):
         tapes = [Tape(n, job) for job in ("a", "b") for n in range(3)]
         said = self.refuse_runs(tapes, tell(4))
         self.assertEqual(said, "RUN: has 2 jobs, and a pattern of several sizes is of one")
+
+
+class FencesTest(unittest.TestCase):
+    """Fences in which calls of the program and of MPI meet."""
+
+    def part(self, *words: str) -> list[list[bool]]:
+        """Which calls stand for order, where the second of two ranks makes them the other way
+        round."""
+        calls = [Call(it.split(" ")) for it in words]
+        order = [Call(["fence", "app:*"], is_order=True) for _ in range(2)]
+        plan = SizedPlan("a run", "app", {
+            "app:0": [order[0], calls[0]], "app:1": [calls[1], order[1]]
+        })
+        return [[it.is_order for it in them] for them in part_fences(plan).calls.values()]
+
+    def test_none_collects(self) -> None:
+        self.assertEqual(self.part("fence app:*", "fence app:*"), [[True, True], [True, True]])
+
+    def test_one_collects(self) -> None:
+        """What it may bring isn't left out."""
+        said = self.part("fence app:* collect", "fence app:*")
+        self.assertEqual(said, [[True, False], [True, False]])
+
+    def test_a_set_in_other_words(self) -> None:
+        said = self.part("fence app:0,app:1 collect", "fence app:* collect")
+        self.assertEqual(said, [[False, False], [False, False]])
 
 
 class CommandLineTest(unittest.TestCase):

@@ -12,7 +12,12 @@ from wire_up_tools.record.sizes.claims import (
     inform,
     is_true,
 )
-from wire_up_tools.record.sizes.leaning import keep_whole_fences, make_lean, take_fences_as_order
+from wire_up_tools.record.sizes.leaning import (
+    keep_whole_fences,
+    make_lean,
+    part_fences,
+    take_fences_as_order,
+)
 from wire_up_tools.record.sizes.plans import SizedPlan, index_plan
 from wire_up_tools.record.sizes.scripts import Instance, Skeleton, Unfit, find_skeleton, fit
 from wire_up_tools.record.sizes.writing import write_pattern
@@ -92,7 +97,7 @@ def infer_once(
     """The pattern of plans, which the larger ones hold, with the fences of the program as they are,
     or else with those for order that collect nothing; or where the first breaks."""
     unfit = None
-    lean = [make_lean(it) for it in (*taken, *larger)]
+    lean = [part_fences(make_lean(it)) for it in (*taken, *larger)]
     for changed in (lean, [take_fences_as_order(it) for it in lean]):
         plans = index_all(changed)
         found = infer_way(plans[:len(taken)], plans[len(taken):], is_clean)
