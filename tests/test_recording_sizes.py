@@ -13,6 +13,8 @@ from tapes import Tape, make_world, run_recorder, write_file
 from wire_up_tools.failures import Refused, Unusable
 from wire_up_tools.record.command_line import read_request
 from wire_up_tools.record.sizes.asking import SizesRequest
+from wire_up_tools.record.sizes.leaning import part_fences
+from wire_up_tools.record.sizes.plans import Call, SizedPlan
 
 Tapes = Callable[[int], list[Tape]]
 
@@ -73,6 +75,22 @@ def pass_on(size: int) -> list[Tape]:
         send(tapes, rank, (rank + 1) % size)
     for rank, it in enumerate(tapes):
         look_up(it, f"port{(rank - 1) % size}")
+    return tapes
+
+
+def ask_between(size: int) -> list[Tape]:
+    """Each rank publishes a name of its own. Behind a barrier rank 0 looks two of them up, and
+    behind another one all publish the same name."""
+    tapes = make_world(size)
+    for rank, it in enumerate(tapes):
+        publish(it, f"port{rank}")
+    for it in tapes:
+        it.call("collective barrier 1", "0 all")
+    look_up(tapes[0], "port1")
+    look_up(tapes[0], f"port{size - 1}")
+    for it in tapes:
+        it.call("collective barrier 1", "0 all")
+        publish(it, "port")
     return tapes
 
 
@@ -222,6 +240,17 @@ class AnswerTest(unittest.TestCase):
         self.assertIn("for some ranks\n", self.read_pattern().replace("workers", "ranks"))
         self.assertIn("lookup port#[each]\n", self.read_pattern())
 
+    def test_ranks_without_a_turn(self) -> None:
+        """They don't say that they are past a loop before they have waited ahead of it: each would
+        wait for the others, and the pattern hide the race."""
+        said = self.ask(ask_between, (3, 4), (8,))
+        self.assertEqual((said["shown"], said["notes"]), ("recording", []))
+        self.assertIn("for some ranks\nlookup port#[each]\nend\n", self.read_pattern())
+        self.assertIn(
+            "publish done.ranks.1[self] sent\nfor ranks\nlookup-wait done.ranks.1[each]\n",
+            self.read_pattern(),
+        )
+
     def test_what_does_not_grow(self) -> None:
         """In a grid all hear of all while its sides are short; that can't be so in any."""
         said = self.ask(go_round, (4,), (8,))
@@ -314,6 +343,32 @@ class AnswerTest(unittest.TestCase):
         tapes = [Tape(n, job) for job in ("a", "b") for n in range(3)]
         said = self.refuse_runs(tapes, tell(4))
         self.assertEqual(said, "RUN: has 2 jobs, and a pattern of several sizes is of one")
+
+
+class FencesTest(unittest.TestCase):
+    """Fences in which calls of the program and of MPI meet."""
+
+    def part(self, *words: str) -> list[list[bool]]:
+        """Which calls stand for order, where the second of two ranks makes them the other way
+        round."""
+        calls = [Call(it.split(" ")) for it in words]
+        order = [Call(["fence", "app:*"], is_order=True) for _ in range(2)]
+        plan = SizedPlan("a run", "app", {
+            "app:0": [order[0], calls[0]], "app:1": [calls[1], order[1]]
+        })
+        return [[it.is_order for it in them] for them in part_fences(plan).calls.values()]
+
+    def test_none_collects(self) -> None:
+        self.assertEqual(self.part("fence app:*", "fence app:*"), [[True, True], [True, True]])
+
+    def test_one_collects(self) -> None:
+        """What it may bring isn't left out."""
+        said = self.part("fence app:* collect", "fence app:*")
+        self.assertEqual(said, [[True, False], [True, False]])
+
+    def test_a_set_in_other_words(self) -> None:
+        said = self.part("fence app:0,app:1 collect", "fence app:* collect")
+        self.assertEqual(said, [[False, False], [False, False]])
 
 
 class CommandLineTest(unittest.TestCase):

@@ -46,7 +46,7 @@ module _ (small large : Plan) (pieces : ℕ → List Piece) (less : HasLessOrder
   abbrev to : Renaming
   to = in_place pieces
 
-  each : IsPartEach to small large pieces
+  pub each : IsPartEach to small large pieces
   each = record {
     one_key = λ a b u v s. s;
     one_name = λ a b u v s. s;
@@ -68,7 +68,7 @@ module _ (small large : Plan) (pieces : ℕ → List Piece) (less : HasLessOrder
     | inr r ↦ inr r
   ]
 
-  kind_into : (y : Event) (k : Kind) → kind small y ≡ Some k → kind large (image to y) ≡ Some k
+  pub kind_into : (y : Event) (k : Kind) → kind small y ≡ Some k → kind large (image to y) ≡ Some k
   kind_into y k is = kinds_agree to small large pieces each y k is ∙ ap Some (kind_in_place pieces k)
 
   -- names that are published once

@@ -1,1 +1,5 @@
 pub mod LessOrder
+pub mod OrderThere
+pub mod Unread
+pub mod WholeFences
+pub mod Leaner

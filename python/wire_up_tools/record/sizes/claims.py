@@ -1,5 +1,5 @@
 """What ranks of a role surely know of others where they come to an item of their script."""
-from collections.abc import Callable, Iterator, Sequence
+from collections.abc import Callable, Iterator, Sequence, Set
 from dataclasses import dataclass
 from typing import NamedTuple, Optional
 
@@ -20,6 +20,10 @@ class Claim(NamedTuple):
     source: str
     known: int
     of_turns: bool = False
+
+
+# A role, and the item of its script before which it waits.
+Wait = tuple[str, int]
 
 
 @dataclass(frozen=True)
@@ -45,20 +49,29 @@ def list_pairs(instance: Instance, claim: Claim) -> Iterator[tuple[str, str]]:
         yield from ((rank, it) for it in others if it != rank)
 
 
-def find_level(instance: Instance, known: Known, claim: Claim) -> Optional[int]:
+def find_waits(claims: Sequence[Claim]) -> frozenset[Wait]:
+    """Before which items claims make ranks wait. A wait in a turn has a call of its turn behind
+    it."""
+    return frozenset((it.role, it.at) for it in claims if not it.of_turns)
+
+
+def find_level(
+    instance: Instance, known: Known, claim: Claim, waits: Set[Wait]
+) -> Optional[int]:
     """To which item all ranks that a claim is about are known to have come; None where there are
-    none."""
+    none. A rank that has made no call behind one of the `waits` hasn't surely passed it."""
     passed = instance.passed
+    waiting = {at for role, at in waits if role == claim.source}
     levels = (
-        passed[other].find_item(known[rank][passed[rank].bounds[claim.at]].get(other, 0))
+        passed[other].find_item(known[rank][passed[rank].bounds[claim.at]].get(other, 0), waiting)
         for rank, other in list_pairs(instance, claim)
     )
     return min(levels, default=None)
 
 
-def is_true(informed: Informed, claim: Claim) -> bool:
-    """Whether a claim is true of an instance."""
-    found = find_level(informed.instance, informed.known, claim)
+def is_true(informed: Informed, claim: Claim, waits: Set[Wait]) -> bool:
+    """Whether a claim is true of an instance whose ranks have these waits."""
+    found = find_level(informed.instance, informed.known, claim, waits)
     return found is None or found >= claim.known
 
 
@@ -68,11 +81,18 @@ class Finder:
     def __init__(self, skeleton: Skeleton, informed: Sequence[Informed]) -> None:
         self.skeleton, self.informed = skeleton, informed
         self.names = [it.name for it in skeleton.roles]
+        self.waits = frozenset[Wait]()
 
     def find(self, refused: set[Claim]) -> Sequence[Claim]:
-        """The claims that say something new and that matter, without those that are refused."""
-        found = [it for role in self.names for it in self.list_new(role, refused)]
-        return self.leave_idle(found)
+        """The claims that say something new and that matter, without those that are refused. Each
+        is true with the waits of all."""
+        while True:
+            found = [it for role in self.names for it in self.list_new(role, refused)]
+            found = self.leave_idle(found)
+            waits = find_waits(found)
+            if waits <= self.waits:
+                return found
+            self.waits |= waits
 
     def list_new(self, role: str, refused: set[Claim]) -> Iterator[Claim]:
         """What is known at each item of a role that wasn't before it, nor by the program alone."""
@@ -99,7 +119,9 @@ class Finder:
 
     def find_least(self, asked: Claim, choose: Callable[[Informed], Known]) -> Optional[int]:
         """What is known in all plans."""
-        levels = (find_level(it.instance, choose(it), asked) for it in self.informed)
+        levels = (
+            find_level(it.instance, choose(it), asked, self.waits) for it in self.informed
+        )
         return min((it for it in levels if it is not None), default=None)
 
     def matters(self, role: str, at: int) -> bool:

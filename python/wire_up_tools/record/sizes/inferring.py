@@ -5,8 +5,19 @@ from typing import Optional, Union
 
 from wire_up_tools.record.patterns.indexing import find_places as find_numbers
 from wire_up_tools.record.patterns.indexing import name_all
-from wire_up_tools.record.sizes.claims import Claim, find_claims, inform, is_true
-from wire_up_tools.record.sizes.leaning import keep_whole_fences, make_lean, take_fences_as_order
+from wire_up_tools.record.sizes.claims import (
+    Claim,
+    find_claims,
+    find_waits,
+    inform,
+    is_true,
+)
+from wire_up_tools.record.sizes.leaning import (
+    keep_whole_fences,
+    make_lean,
+    part_fences,
+    take_fences_as_order,
+)
 from wire_up_tools.record.sizes.plans import SizedPlan, index_plan
 from wire_up_tools.record.sizes.scripts import Instance, Skeleton, Unfit, find_skeleton, fit
 from wire_up_tools.record.sizes.writing import write_pattern
@@ -74,9 +85,10 @@ def change_plans(skeleton: Skeleton, change: Callable[[SizedPlan], SizedPlan]) -
 
 def why_other(fitted: Sequence[Instance], claims: Sequence[Claim]) -> Optional[Unfit]:
     """The first instance of which claims aren't true."""
+    waits = find_waits(claims)
     for it in fitted if claims else ():
         informed = inform(it)
-        if not all(is_true(informed, claim) for claim in claims):
+        if not all(is_true(informed, claim, waits) for claim in claims):
             return Unfit(it.plan, it.plan.ranks[0], 1, "MPI orders it less")
     return None
 
@@ -87,7 +99,7 @@ def infer_once(
     """The pattern of plans, which the larger ones hold, with the fences of the program as they are,
     or else with those for order that collect nothing; or where the first breaks."""
     unfit = None
-    lean = [make_lean(it) for it in (*taken, *larger)]
+    lean = [part_fences(make_lean(it)) for it in (*taken, *larger)]
     for changed in (lean, [take_fences_as_order(it) for it in lean]):
         plans = index_all(changed)
         found = infer_way(plans[:len(taken)], plans[len(taken):], is_clean)

@@ -89,21 +89,38 @@ def keep_whole_fences(plan: SizedPlan) -> SizedPlan:
     ])
 
 
-def take_fences_as_order(plan: SizedPlan) -> SizedPlan:
-    """A plan in which fences stand for order alone, where they bring nothing that a call could get
-    at once."""
+def find_meetings(plan: SizedPlan) -> Sequence[Sequence[Call]]:
+    """The calls of each fence, as a plan matches them: of a set the first of each rank, the second
+    of each, and so on, whether the program made them or they stand for MPI."""
     meetings: dict[tuple[tuple[str, ...], int], list[Call]] = {}
-    for rank, calls in plan.calls.items():
+    for calls in plan.calls.values():
         count = Counter[tuple[str, ...]]()
         for call in calls:
             if call.verb == "fence":
                 members = tuple(plan.find_members(call.words[1]))
                 count[members] += 1
                 meetings.setdefault((members, count[members]), []).append(call)
-    bare = {
-        it for them in meetings.values()
-        if not any(call.collects for call in them) for it in them
-    }
-    return plan.change(
-        lambda _, calls: [replace(it, is_order=True) if it in bare else it for it in calls]
-    )
+    return list(meetings.values())
+
+
+def mark_as_order(plan: SizedPlan, marks: Mapping[Call, bool]) -> SizedPlan:
+    """A plan in which some calls stand for order alone, or no longer do."""
+    return plan.change(lambda _, calls: [
+        replace(it, is_order=marks[it]) if it in marks else it for it in calls
+    ])
+
+
+def part_fences(plan: SizedPlan) -> SizedPlan:
+    """A plan of which each fence can be left out whole. Where calls of the program and of MPI meet
+    in one, all of them stand for order, if none collects, or else all for the program."""
+    mixed = [it for it in find_meetings(plan) if len({call.is_order for call in it}) > 1]
+    return mark_as_order(plan, {
+        call: not any(other.collects for other in them) for them in mixed for call in them
+    })
+
+
+def take_fences_as_order(plan: SizedPlan) -> SizedPlan:
+    """A plan in which fences stand for order alone, where they bring nothing that a call could get
+    at once."""
+    bare = [it for it in find_meetings(plan) if not any(call.collects for call in it)]
+    return mark_as_order(plan, {call: True for them in bare for call in them})

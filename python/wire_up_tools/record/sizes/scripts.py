@@ -1,6 +1,6 @@
 """Finds one script for each role, from which the program's calls in the plans of all sizes come."""
 import bisect
-from collections.abc import Iterator, Mapping, Sequence
+from collections.abc import Iterator, Mapping, Sequence, Set
 from dataclasses import dataclass
 from typing import Optional, Union
 
@@ -43,9 +43,12 @@ class Passed:
     bounds: Sequence[int]
     turns: Mapping[int, Sequence[str]]
 
-    def find_item(self, count: int) -> int:
-        """The last item that comes after at most so many calls."""
-        return bisect.bisect_right(self.bounds, count) - 1
+    def find_item(self, count: int, waits: Set[int]) -> int:
+        """The last item that comes after at most so many calls, and behind no item before which a
+        rank that made no more calls may wait."""
+        last = bisect.bisect_right(self.bounds, count) - 1
+        first = bisect.bisect_left(self.bounds, count)
+        return next((it for it in range(first, last) if it in waits), last)
 
 
 @dataclass(frozen=True)
