@@ -162,8 +162,8 @@ class LineOfProgress(ProgramCase):
 
     def test_a_file_that_is_refused(self) -> None:
         """Without --explain the fault alone is told, on a terminal too."""
-        said = b"wire_up: fault 3 BadHeader 1\n"
-        self.hold_on_terminal(["check", "README.md"], (2, b"", said))
+        said = b"wire_up: fault 2 TooLong 1\n"
+        self.hold_on_terminal(["check", "/dev/zero"], (2, b"", said))
 
 
 if __name__ == "__main__":
