@@ -49,31 +49,57 @@ MPI_Status *told = choose_status(is_watched, status, &own);
 TOLD = {"status": "told"}
 
 
-def shape_persistent_send(is_synchronous: str) -> Shape:
-    """A send that each start makes."""
+def shape_persistent_send(is_synchronous: str, after: str = "") -> Shape:
+    """A send that each start makes, and what is done once it is set up."""
     message = "(struct envelope){comm, to, tag}"
     return Shape(CALL, f"""\
 if (call.is_noted && result == MPI_SUCCESS)
     keep_persistent_send(*request, {message}, count_bytes(count, type), {is_synchronous});
-""")
+""" + after)
 
+
+# A message whose buffer may have been full: other processes decide that.
+BEYOND_ROOM = """\
+static struct counter beyond = {.what = OTHERS, .function = "${function}_beyond_room"};
+"""
+COUNT_BUFFERED = BEYOND_ROOM + """\
+if (number)
+    count_buffered(&beyond, comm, count_bytes(count, type));
+"""
+FORGET_REQUEST = """\
+if (call.is_noted && result == MPI_SUCCESS)
+    forget_request(*request);
+"""
 
 MESSAGES = {
     "send": Shape(CALL + NOTE_SEND, NOTE_UNSENT),
+    "buffered-send": Shape(CALL + NOTE_SEND + COUNT_BUFFERED, NOTE_UNSENT),
+    "nonblocking-buffered-send": Shape(
+        CALL + NOTE_SEND + COUNT_BUFFERED, NOTE_UNSENT + FORGET_REQUEST
+    ),
+    "attach-buffer": Shape(CALL, """\
+if (call.is_noted && result == MPI_SUCCESS)
+    take_buffer(buffer, size);
+"""),
+    "detach-buffer": Shape(CALL, """\
+if (call.is_noted && result == MPI_SUCCESS)
+    take_buffer(NULL, 0);
+"""),
     # It ends only when the receive has begun, so its end is noted too.
     "synchronous-send": Shape(CALL + NOTE_SEND, NOTE_UNSENT + """\
 note_sent(number, result, WAITED);
 """),
-    "nonblocking-send": Shape(CALL + NOTE_SEND, NOTE_UNSENT + """\
-if (call.is_noted && result == MPI_SUCCESS)
-    forget_request(*request);
-"""),
+    "nonblocking-send": Shape(CALL + NOTE_SEND, NOTE_UNSENT + FORGET_REQUEST),
     # Its request is over only when the receive has begun.
     "nonblocking-synchronous-send": Shape(CALL + NOTE_SEND, NOTE_UNSENT + """\
 if (call.is_noted && result == MPI_SUCCESS)
     keep_synchronous_send(*request, number);
 """),
     "persistent-send": shape_persistent_send("false"),
+    "persistent-buffered-send": shape_persistent_send("false", BEYOND_ROOM + """\
+if (call.is_noted && result == MPI_SUCCESS && number_of_communicator((uintptr_t)comm))
+    count_buffered(&beyond, comm, ANY_BYTES);
+"""),
     "persistent-synchronous-send": shape_persistent_send("true"),
     # A message that a probe matches is received there.
     "receive": Shape(CALL + NOTE_RECEIVE + TELL_STATUS, """\
@@ -102,18 +128,20 @@ note_received(number, result, told, WAITED);
 }
 
 
-def shape_file(is_exclusive: str) -> Shape:
-    """A call on the name of a file, which is counted: apart if it failed, or is one that fails
-    where the file is there."""
+def shape_file(how: str, is_exclusive: str) -> Shape:
+    """A call on the name of a file, which is noted with how it is called; it is counted apart if it
+    failed, or is one that fails where the file is there."""
     return Shape(CALL + """\
-static struct counter others = {.what = OTHERS, .function = "$function"};
+struct timespec changed = {.tv_sec = 0};
+if (call.is_noted)
+    changed = find_change(name);
 """, f"""\
 if (call.is_noted && result != MPI_SUCCESS)
     note_other("$function that failed");
 else if (call.is_noted && ({is_exclusive}))
     note_other("$function with MPI_MODE_EXCL");
 else if (call.is_noted)
-    wire_up_count(&others);
+    note_file({how}, name, changed);
 """)
 
 
@@ -418,8 +446,10 @@ note_child_of_group(&parent, result, made, tag);
 
 WINDOWS = {
     # Whether a file is there can be luck.
-    "open-file": shape_file("mode & MPI_MODE_EXCL"),
-    "delete-file": shape_file("false"),
+    "open-file": shape_file(
+        'mode & MPI_MODE_CREATE ? "create" : "open"', "mode & MPI_MODE_EXCL"
+    ),
+    "delete-file": shape_file('"delete"', "false"),
     "make-window": Shape(BEGIN + BEGIN_CHILD, """\
 end_collective(&it, result, "all");
 note_window(&parent, result, comm, made);

@@ -161,7 +161,7 @@ OTHERS = {
     "early": Program(2, 1, 1),
     "names": Program(4, 0, 2),
     "ring": Program(4, 0, 0, tested=EACH_RUN),
-    "spawn": Program(2, 0, 0, left_out="4 calls of PMIx_Connect, 1 calls of PMIx_Spawn"),
+    "spawn": Program(2, 0, 0),
     "told": Program(2, 0, 1),
     "mpi4py": Program(3, 0, 3),
     "sleep": Program(2, 0, 0, "", f"the run was cut off: {IN_PART}{NOT_FINALIZED}"),

@@ -68,6 +68,45 @@ class LuckTest(SilentCase):
             with self.subTest(what):
                 self.hold(tapes, OTHERWISE_AFTER, f"1 calls of MPI_File_{what}")
 
+    def hold_file(self, calls: Sequence[tuple[int, str, int]], function: str) -> None:
+        """Tests that the last of calls on a file, each of a rank and with when the file had changed
+        before, in seconds since the first rank began, makes a call of a function luck."""
+        what = f"1 calls of {function} of a file that was made, changed or deleted"
+        for at in range(1, len(calls) + 1):
+            tapes = make_world(2)
+            look_up_behind(tapes)
+            for on, said, when in calls[:at]:
+                tapes[on].say(f"file {said} a%20file {1700000000 + when}.000000")
+            if at == len(calls):
+                self.hold(tapes, OTHERWISE_AFTER, what)
+            else:
+                self.assertNotIn("otherwise", self.record(tapes))
+                self.assertEqual(self.report().reasons, [])
+
+    def test_files_that_another_made(self) -> None:
+        """It may not be there yet, or no more. What was there at the start, or was opened by the
+        process itself, is there, unless another deletes it."""
+        self.hold_file([(0, "create", 1), (1, "open", 1)], "MPI_File_open")
+        self.hold_file([(0, "create", 1), (1, "delete", 0)], "MPI_File_delete")
+        self.hold_file([(0, "create", 1), (0, "open", 2), (1, "open", 0)], "MPI_File_open")
+        self.hold_file([(0, "open", -1), (1, "open", -1), (0, "delete", 2)], "MPI_File_open")
+
+    def test_files_that_were_there(self) -> None:
+        tapes = make_world(2)
+        tapes[0].say("file open a 1699999999.500000").say("file create b 1700000001.000000")
+        tapes[0].say("file open b 1700000002.000000").say("file delete b 1700000002.000000")
+        self.hold_harmless(tapes, "1 calls of MPI_File_delete")
+        self.assertIn("\n#   3 calls of MPI_File_open\n", read_file(self.plan))
+
+    def test_a_full_buffer(self) -> None:
+        for function in ("MPI_Bsend", "MPI_Ibsend", "MPI_Bsend_init"):
+            tapes = make_world(2)
+            look_up_behind(tapes)
+            tapes[0].say(f"others {function}_beyond_room 3")
+            with self.subTest(function):
+                what = f"3 calls of {function} whose buffer may have been full"
+                self.hold(tapes, OTHERWISE_AFTER, what)
+
     def test_what_a_server_is_asked(self) -> None:
         """It may tell how far others are, as which groups there are. What a library of MPI asks is
         no matter of the program."""

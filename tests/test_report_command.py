@@ -74,10 +74,11 @@ class RefusalsTest(CommandCase):
         self.refuse(said, "-o", self.kept, EARLY, checker=script)
 
     def refuse_line(self, line: str, *words: str) -> None:
-        """Tests that a command line is refused with this line, and with the help."""
+        """Tests that a command line is refused with this line alone."""
         ran = report_support.run_report(*words)
         self.assertEqual((ran.returncode, ran.stdout), (FAILED, ""))
-        self.assertEqual(ran.stderr, f"wire_up-report: {line}\n\n{HELP}")
+        more = "; wire_up-report --help tells more"
+        self.assertEqual(ran.stderr, f"wire_up-report: {line}{more}\n")
         self.check_kept()
 
     def test_no_plan(self) -> None:

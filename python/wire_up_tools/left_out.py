@@ -3,10 +3,12 @@ for the head of the plan, and for pages."""
 import re
 
 # What can hide no race: it changes nothing that others see, or what it does is judged otherwise; or
-# it is a part of MPI's order, and without it the plan is less ordered than the program.
+# it is a part of MPI's order, and without it the plan is less ordered than the program. A message in
+# a communicator that isn't known is taken for none in another.
 HARMLESS = re.compile(
     r"gets of a wildcard rank|(gets|puts) of reserved keys|.*, since they can't change a finding"
-    r"|calls of (MPI_\w+|PMIx_(Store_internal|Job_control|Query_info|Log)(_nb)?)"
+    r"|calls of MPI_\w+( in a communicator that isn't known)?"
+    r"|calls of PMIx_(Store_internal|Job_control|Query_info|Log)(_nb)?"
     r"|directives pmix\.(timeout|persist|range)"
     r"|(collectives|messages|receives) .*"
 )

@@ -136,6 +136,11 @@ def answer_alone(words: Sequence[str], name: str, help_text: str) -> Optional[st
     return f"{name} {VERSION}\n" if list(words) in (["-V"], ["--version"]) else None
 
 
+def say_unusable(name: str, why: Unusable) -> str:
+    """The line of a program of this name that says what is wrong with its command line."""
+    return f"{name}: {why}; {name} --help tells more\n"
+
+
 def describe(options: Sequence[Option]) -> str:
     """The rows of a help that say what options mean, and that the help and the version are two."""
     alone = (("-V, --version", "shows the version"), ("-h, --help", "shows this"))

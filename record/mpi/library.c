@@ -38,6 +38,8 @@ static const struct {
     {offsetof(struct mpi_library, query_thread), "PMPI_Query_thread"},
     {offsetof(struct mpi_library, is_thread_main), "PMPI_Is_thread_main"},
     {offsetof(struct mpi_library, iprobe), "PMPI_Iprobe"},
+    {offsetof(struct mpi_library, comm_get_errhandler), "PMPI_Comm_get_errhandler"},
+    {offsetof(struct mpi_library, errhandler_free), "PMPI_Errhandler_free"},
 };
 
 /* Where the library is: it was opened as `opened`, or the program was loaded with it, and it is
@@ -77,6 +79,8 @@ static bool find_objects(struct mpi_library *to, const struct source *in)
     to->no_comm = find_object(in, "ompi_mpi_comm_null");
     to->no_request = find_object(in, "ompi_request_null");
     to->no_type = find_object(in, "ompi_mpi_datatype_null");
+    to->errors_are_fatal = find_object(in, "ompi_mpi_errors_are_fatal");
+    to->errors_abort = find_object(in, "ompi_mpi_errors_abort");
     return to->world && to->self && to->no_comm && to->no_request && to->no_type;
 }
 #else
@@ -88,6 +92,10 @@ static bool find_objects(struct mpi_library *to, const struct source *in)
     to->no_comm = MPI_COMM_NULL;
     to->no_request = MPI_REQUEST_NULL;
     to->no_type = MPI_DATATYPE_NULL;
+    to->errors_are_fatal = to->errors_abort = MPI_ERRORS_ARE_FATAL;
+#ifdef MPI_ERRORS_ABORT
+    to->errors_abort = MPI_ERRORS_ABORT;
+#endif
     return true;
 }
 #endif

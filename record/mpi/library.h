@@ -31,9 +31,12 @@ struct mpi_library {
     __typeof__(&PMPI_Query_thread) query_thread;
     __typeof__(&PMPI_Is_thread_main) is_thread_main;
     __typeof__(&PMPI_Iprobe) iprobe;
+    __typeof__(&PMPI_Comm_get_errhandler) comm_get_errhandler;
+    __typeof__(&PMPI_Errhandler_free) errhandler_free;
     MPI_Comm world, self, no_comm;
     MPI_Request no_request;
     MPI_Datatype no_type;
+    MPI_Errhandler errors_are_fatal, errors_abort; /* older libraries have the first alone */
 };
 extern struct mpi_library mpi;
 

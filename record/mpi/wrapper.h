@@ -8,9 +8,11 @@
 #ifndef WIRE_UP_MPI_WRAPPER_H
 #define WIRE_UP_MPI_WRAPPER_H
 
+#include "mpi/buffers.h"
 #include "mpi/collectives.h"
 #include "mpi/completions.h"
 #include "mpi/epochs.h"
+#include "mpi/files.h"
 
 #include <errno.h>
 

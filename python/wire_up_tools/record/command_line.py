@@ -15,6 +15,7 @@ from wire_up_tools.options import (
     Parser,
     answer_alone,
     describe,
+    say_unusable,
 )
 from wire_up_tools.record.recordings import find_files
 from wire_up_tools.record.running import BY_SIGNAL, HANDED_ON, NotRun, Stopped
@@ -243,7 +244,7 @@ def main(words: Sequence[str], folder: str) -> int:
         catch_signals()
         return do(read_request(words), folder)
     except Unusable as why:
-        print(f"wire_up-record: {why}\n\n{write_help()}", end="", file=sys.stderr)
+        sys.stderr.write(say_unusable(NAME, why))
     except NotRun as why:
         say(str(why))
         return why.status

@@ -1,9 +1,11 @@
 """Which calls luck decides: their result depends on which rank was faster, or behind them another
 rank's memory or file is read, or they say what is done when an event comes. They order nothing."""
 import re
-from collections.abc import Iterable
+from collections import Counter
+from collections.abc import Sequence
 
 from wire_up_tools.record.calls import Collective
+from wire_up_tools.record.file_calls import Files, find_deleted
 from wire_up_tools.record.recordings import Recording
 
 OF_LUCK = re.compile(
@@ -17,20 +19,35 @@ OF_LUCK = re.compile(
 )
 # How the names end of functions that a library of MPI calls too, where the program itself does.
 BY_PROGRAM = "_of_program"
+# How the names end of sends whose buffer may have been full, where that doesn't end the program;
+# and what is said of them.
+BEYOND_ROOM, FULL = "_beyond_room", " whose buffer may have been full"
 # What reads a file, and what writes one. What nobody writes is told at the start.
 READING = re.compile(r"MPI_File_i?read(_at|_all|_ordered)*(_begin|_end)?(_c)?")
 WRITING = re.compile(r"MPI_File_i?write\w*")
 SHARED_WINDOW = "win_allocate_shared"
 
 
-def do_write(recordings: Iterable[Recording]) -> bool:
-    """Whether a process writes files by MPI."""
-    return any(WRITING.fullmatch(name) for it in recordings for name in it.others)
+def say_of_luck(name: str) -> str:
+    """What is said of calls that luck decides, by their name in a recording."""
+    if name.endswith(BEYOND_ROOM):
+        return f"calls of {name.removesuffix(BEYOND_ROOM)}{FULL}"
+    return f"calls of {name.removesuffix(BY_PROGRAM)}"
+
+
+def look_at_files(recordings: Sequence[Recording]) -> Files:
+    """What is known of the files of all processes."""
+    return Files(
+        start=min(it.began for it in recordings),
+        deleting=Counter(name for it in recordings for name in find_deleted(it.files)),
+        are_written=any(WRITING.fullmatch(name) for it in recordings for name in it.others),
+    )
 
 
 def is_of_luck(name: str, are_written: bool) -> bool:
     """Whether luck decides a call of this name, where files are written by MPI or aren't."""
-    return bool(OF_LUCK.fullmatch(name) or are_written and READING.fullmatch(name))
+    is_one = OF_LUCK.fullmatch(name) or name.endswith(BEYOND_ROOM)
+    return bool(is_one or are_written and READING.fullmatch(name))
 
 
 def count_shared_windows(recording: Recording) -> int:

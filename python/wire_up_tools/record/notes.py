@@ -20,7 +20,8 @@ from wire_up_tools.record.directives import (
     say_directive,
     stands_early,
 )
-from wire_up_tools.record.luck import BY_PROGRAM, count_shared_windows, is_of_luck
+from wire_up_tools.record.file_calls import Files, count_file_calls
+from wire_up_tools.record.luck import count_shared_windows, is_of_luck, say_of_luck
 from wire_up_tools.record.messages import Messages
 from wire_up_tools.record.processes import Processes
 from wire_up_tools.record.recordings import NO_USE, Recording
@@ -75,9 +76,8 @@ class Notes:
         return {it: n for it, n in self.left_out.items() if n and can_hide(it) == can_hide_race}
 
 
-def note_recording(recording: Recording, are_written: bool, notes: Notes) -> None:
-    """Notes what a recording lacks, and what of it has no line. Files are written by MPI, or
-    aren't."""
+def note_recording(recording: Recording, files: Files, notes: Notes) -> None:
+    """Notes what a recording lacks, and what of it has no line."""
     if recording.is_cut:
         notes.cut_off["last lines of recordings, which were cut"] += 1
     if not recording.has_finalized:
@@ -87,7 +87,8 @@ def note_recording(recording: Recording, are_written: bool, notes: Notes) -> Non
     notes.more_ordered.update(recording.unseen_pmix)
     uses = recording.uses.decode() if recording.uses else NOT_NOTED
     notes.uses[uses] += recording.uses != NO_USE
-    note_counted(recording, are_written, notes)
+    note_counted(recording, files.are_written, notes)
+    note_files(recording, files, notes)
     for name, count in recording.polls.items():
         notes.of_luck[f"calls of {name} that found nothing"] += count
     for name, count in recording.found.items():
@@ -105,10 +106,17 @@ def note_counted(recording: Recording, are_written: bool, notes: Notes) -> None:
         if name == OF_OWN_STORE:
             notes.more_ordered[OWN_STORE] += count
         elif is_of_luck(name, are_written):
-            notes.of_luck[f"calls of {name.removesuffix(BY_PROGRAM)}"] += count
+            notes.of_luck[say_of_luck(name)] += count
         else:
             notes.left_out[f"calls of {name}"] += count
     notes.of_luck["calls of MPI_Win_allocate_shared"] += count_shared_windows(recording)
+
+
+def note_files(recording: Recording, files: Files, notes: Notes) -> None:
+    """Notes the calls on names of files, of which others may decide some."""
+    of_luck, others = count_file_calls(recording.files, files)
+    for noted, counted in ((notes.of_luck, of_luck), (notes.left_out, others)):
+        noted.update({f"calls of {name}": count for name, count in counted.items()})
 
 
 def count_starts(recordings: Iterable[Recording]) -> int:

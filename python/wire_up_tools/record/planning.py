@@ -6,6 +6,7 @@ from typing import Optional
 from wire_up_tools.failures import Refused
 from wire_up_tools.limits import VERSION_1, Limits
 from wire_up_tools.record.applications import note_applications
+from wire_up_tools.record.connecting import settle_connecting
 from wire_up_tools.record.draft import Draft, Part, Step, make_draft, walk
 from wire_up_tools.record.floating import drop_floating
 from wire_up_tools.record.meetings import Sets
@@ -152,4 +153,5 @@ def make_whole_plan(recordings: Sequence[Recording], choices: Choices) -> Plan:
     draft = make_draft(processes, parts)
     refuse_waiting(draft)
     note_applications(draft, calls.part, notes)
+    settle_connecting(processes, draft, notes)
     return Plan(choices, processes, spelling, draft, notes, mpi)

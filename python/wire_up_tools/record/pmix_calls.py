@@ -29,7 +29,7 @@ from wire_up_tools.record.directives import (
     has_directive,
 )
 from wire_up_tools.record.draft import Line, Part
-from wire_up_tools.record.luck import do_write
+from wire_up_tools.record.luck import look_at_files
 from wire_up_tools.record.messages import Messages
 from wire_up_tools.record.names import Spelling, is_reserved_by_pmix
 from wire_up_tools.record.notes import (
@@ -327,10 +327,10 @@ def make_lines(processes: Processes, spelling: Spelling, with_mpi: bool) -> Pmix
     part, notes, puts = Part(), Notes(), PutsByProcess()
     calls: dict[Process, Sequence[Call]] = {}
     reserved = find_reserved(processes)
-    are_written = do_write(it.recording for it in processes.all)
+    files = look_at_files([it.recording for it in processes.all])
     for process in processes.all:
         recording = process.recording
-        note_recording(recording, are_written, notes)
+        note_recording(recording, files, notes)
         of_pmix = recording.calls_of_pmix
         first = len(part.lines)
         lines = ProcessLines(process, processes, spelling, puts, part, notes, reserved)

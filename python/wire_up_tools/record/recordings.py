@@ -13,6 +13,8 @@ from typing import NoReturn, Optional, Union
 from wire_up_tools.failures import Refused
 from wire_up_tools.limits import Limits
 from wire_up_tools.record.calls import Call
+from wire_up_tools.record.file_calls import FORM as FILE_FORM
+from wire_up_tools.record.file_calls import FileCall, read_file_call
 from wire_up_tools.record.forms import (
     WORD,
     Groups,
@@ -98,7 +100,7 @@ class Recording:
     probes: both in the order in which they began.
     `others` counts the calls that are only counted, by their names; `polls` those that found
     nothing before another call, and `found` those that found a request complete which isn't known
-    as a receive or a collective; `unseen` what called MPI past the recorder, and `unseen_pmix` what
+    as a receive or a collective; `files` are its calls on names of files that succeeded; `unseen` what called MPI past the recorder, and `unseen_pmix` what
     called PMIx so, by what is said of it. `uses` is a function to which the program's own code
     refers that can lead to a call of PMIx, `NO_USE` for none, and None where that wasn't noted.
     `outer` has the number of the place at which the function
@@ -120,6 +122,7 @@ class Recording:
     others: Mapping[str, int]
     polls: Mapping[str, int]
     found: Mapping[str, int]
+    files: Sequence[FileCall]
     unseen: Mapping[str, int]
     unseen_pmix: Mapping[str, int]
     uses: Optional[bytes]
@@ -162,6 +165,7 @@ PLAIN = {
     "others": re.compile(r"others (\w+) (\d{1,18})"),
     "polled": re.compile(r"polled (MPI_\w+) (\d{1,18})"),
     "found": re.compile(r"found (MPI_\w+) (\d{1,18})"),
+    "file": FILE_FORM,
     "unseen": re.compile(rf"unseen ({UNSEEN_KINDS}) ({WORD})"),
     "thread": re.compile(r"thread"),
     "uses": re.compile(r"uses (\w{1,128})"),
@@ -243,6 +247,7 @@ class Records:
     counted: dict[str, int] = field(default_factory=dict)
     polls: dict[str, int] = field(default_factory=dict)
     found: dict[str, int] = field(default_factory=dict)
+    files: list[FileCall] = field(default_factory=list)
     unseen: Counter[str] = field(default_factory=Counter)
     unseen_pmix: Counter[str] = field(default_factory=Counter)
     told: dict[str, bytes] = field(default_factory=dict)
@@ -325,6 +330,8 @@ class Records:
         elif verb in ("others", "polled", "found"):
             counts = {"others": self.counted, "polled": self.polls, "found": self.found}[verb]
             counts[groups[0]] = max(int(groups[1]), counts.get(groups[0], 0))
+        elif verb == "file":
+            self.files.append(read_file_call(groups))
         elif verb == "unseen":
             unseen = self.unseen_pmix if groups[0] in UNSEEN_PMIX else self.unseen
             unseen[read_unseen(groups)] += 1
@@ -413,6 +420,7 @@ def read_recording(path: str, data: bytes) -> Recording:
         others=records.others + Counter(records.counted),
         polls=records.polls,
         found=records.found,
+        files=records.files,
         unseen=records.unseen,
         unseen_pmix=records.unseen_pmix,
         uses=records.told.get(USES),

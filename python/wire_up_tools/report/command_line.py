@@ -9,7 +9,7 @@ from typing import Optional
 from wire_up_tools.checker import Checker, find_checker
 from wire_up_tools.failures import Refused, Unusable, explain
 from wire_up_tools.files import STANDARD_OUTPUT, write_whole
-from wire_up_tools.options import Option, Parser, answer_alone, describe
+from wire_up_tools.options import Option, Parser, answer_alone, describe, say_unusable
 from wire_up_tools.report.asking import CLEAN, Asker
 from wire_up_tools.report.contents import Report, make_report
 from wire_up_tools.report.html_page import write_page
@@ -190,7 +190,7 @@ def main(words: Sequence[str], folder: str) -> int:
     try:
         return write_report(read_options(words), folder)
     except Unusable as why:
-        tell(f"{NAME}: {why}", "", HELP.rstrip("\n"))
+        sys.stderr.write(say_unusable(NAME, why))
     except Refused as why:
         tell(f"{why}" if f"{why}".startswith("wire_up: ") else f"{NAME}: {why}")
     except OSError as why:

@@ -71,6 +71,11 @@ MEANING_OF_LOOKUP = (
     "{lookup} doesn't wait, and nothing makes it wait for the publish. "
     "If the publish comes first, it finds the value; if not, it replies PMIX_ERR_NOT_FOUND."
 )
+# What it means that one place of the program looks a name up again and again.
+MEANING_OF_POLL = (
+    " It is called {count} times there: if that is a poll until the name is found, runs differ only "
+    "in how often it asks, and {lookup_wait} is one call that waits."
+)
 MEANING_OF_LOOKUP_WAIT = (
     "The name is published more than once or taken away again, "
     "so {lookup_wait} may find one value or another, or wait for ever."
@@ -147,7 +152,21 @@ def explain(finding: Finding, order: Order) -> str:
         return explain_rewrite(finding, order)
     if finding.verbs == ("lookup-wait", "publish") and is_taken_later(finding, order):
         return say(MEANING_OF_LOOKUP_WAIT_THAT_FINDS, finding)
-    return say(choose_meaning(finding), finding)
+    return say(choose_meaning(finding), finding) + say_poll(finding, order)
+
+
+def say_poll(finding: Finding, order: Order) -> str:
+    """What it means that a program asks for a name again and again where a lookup of a race comes
+    from; nothing where it asks once."""
+    lookup = next((it for it in finding.calls if it.verb == "lookup"), None)
+    if not lookup or not lookup.place or not choose_wait(finding, order):
+        return ""
+    same = [
+        it
+        for it in order.plan.calls_of[lookup.rank.name]
+        if (it.verb, it.about, it.place) == (lookup.verb, lookup.about, lookup.place)
+    ]
+    return say(MEANING_OF_POLL, finding, count=f"{len(same)}") if len(same) > 1 else ""
 
 
 def explain_rewrite(finding: Finding, order: Order) -> str:

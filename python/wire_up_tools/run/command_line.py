@@ -7,7 +7,7 @@ from collections.abc import Sequence
 from typing import Optional
 
 from wire_up_tools.failures import Refused, Unusable, explain
-from wire_up_tools.options import Option, Parser, answer_alone, describe
+from wire_up_tools.options import Option, Parser, answer_alone, describe, say_unusable
 from wire_up_tools.run.interrupts import Interrupted, catch_signals, ignore_signals
 from wire_up_tools.run.libraries.traits import LIBRARIES
 from wire_up_tools.run.saying import NAME, say
@@ -214,7 +214,7 @@ def answer(words: Sequence[str], folder: str) -> int:
         found = Parser(OPTIONS, TASKS).read(words)
         return do(read_request(found), read_choices(found), folder)
     except Unusable as why:
-        print(f"{NAME}: {why}\n\n{write_help()}", end="", file=sys.stderr)
+        sys.stderr.write(say_unusable(NAME, why))
     except Refused as why:
         say(str(why).removeprefix("wire_up: "))
     except OSError as why:
