@@ -1,5 +1,5 @@
-"""Holds what `check --pattern` says of waiting, for one pattern, to `replay --complete` of the plans
-that `expand` writes of it, up to LARGEST ranks of each group.
+"""Holds what `check --pattern` says of waiting, for one pattern, to `replay --complete` of the
+plans that `expand` writes of it, up to LARGEST ranks of each group.
 
 - If it says that every call is answered, no call waits at three sizes, LARGEST among them, and with
   `--complete` it ends with status 0 only if each call of these plans succeeds.

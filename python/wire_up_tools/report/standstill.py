@@ -1,0 +1,101 @@
+"""The ranks that wait for ever in a plan without findings, as `wire_up replay` names them: those of
+a deadlock, and those that wait for what never comes."""
+import itertools
+from collections.abc import Iterator, Sequence
+from dataclasses import dataclass, replace
+from typing import Any, Optional
+
+from wire_up_tools.report.asking import CLEAN, Asker, read_json
+from wire_up_tools.report.pattern_answers import Settled
+
+# How many sizes of a pattern are tried until a rank waits, and how many ranks of a group at most,
+# if it has no larger least number.
+SIZES, LARGEST = 256, 3
+
+
+@dataclass(frozen=True)
+class Standing:
+    """A rank that waits for ever: its name, the number and the verb of its call, and for what."""
+
+    rank: str
+    number: int
+    verb: str
+    waits_for: str
+
+
+@dataclass(frozen=True)
+class Standstill:
+    """Ranks that wait for ever: those of a circle, each for the next and the last for the first,
+    and those that wait for no rank."""
+
+    circle: Sequence[Standing]
+    never: Sequence[Standing]
+
+    @property
+    def is_empty(self) -> bool:
+        """Whether it names nobody."""
+        return not self.circle and not self.never
+
+
+@dataclass(frozen=True)
+class Sized:
+    """Who waits for ever in the plan of a pattern with so many ranks of each group."""
+
+    sizes: Sequence[tuple[str, int]]
+    ranks: int
+    standstill: Standstill
+
+    @property
+    def words(self) -> str:
+        """The sizes as `expand` takes them."""
+        return ",".join(f"{name}={count}" for name, count in self.sizes)
+
+
+def find_standstill(asker: Asker) -> Optional[Standstill]:
+    """Who waits for ever in a plan; None if the checker is an older one, which doesn't tell, or the
+    plan so large that its report in one piece would be."""
+    if asker.checker.is_large:
+        return None
+    return read_standstill(read_json(asker.ask("replay", "--json", "--explain")))
+
+
+def read_standstill(said: dict[str, Any]) -> Optional[Standstill]:
+    """Who waits for ever by a report, if it tells."""
+    if "deadlock" not in said:
+        return None
+    return Standstill([*map(read_standing, said["deadlock"])], [*map(read_standing, said["never"])])
+
+
+def read_standing(said: dict[str, Any]) -> Standing:
+    """A rank that waits, as a report has it."""
+    return Standing(said["proc"], said["call"], said["verb"], said["waits_for"])
+
+
+def find_sized(asker: Asker, groups: Sequence[str], said: Settled) -> Optional[Sized]:
+    """Who waits for ever in the smallest plan of a pattern in which a rank does, of those in which
+    all turns are taken; None if none of the first sizes is one, or the checker doesn't tell."""
+    for sizes in itertools.islice(list_sizes(groups, said), SIZES):
+        found = look_at_size(asker, sizes)
+        if found is None or not found.standstill.is_empty:
+            return found
+    return None
+
+
+def list_sizes(groups: Sequence[str], said: Settled) -> Iterator[list[tuple[str, int]]]:
+    """The sizes of the groups, those with the fewest ranks first."""
+    least = {name: count for count, name in said.least}
+    ranges = [range(least.get(it, 0), max(LARGEST, least.get(it, 0)) + 1) for it in groups]
+    for counts in sorted(itertools.product(*ranges), key=lambda it: (sum(it), it)):
+        yield [*zip(groups, counts)]
+
+
+def look_at_size(asker: Asker, sizes: Sequence[tuple[str, int]]) -> Optional[Sized]:
+    """Who waits for ever in the plan of a pattern with these sizes; None if none is written."""
+    sized = Sized(sizes, 0, Standstill([], []))
+    plan = asker.ask("expand", *([f"--ranks={sized.words}"] if sizes else []))
+    if plan.status != CLEAN:
+        return None
+    of_plan = replace(asker, data=plan.stdout.encode())
+    said = read_json(of_plan.ask("replay", "--json", "--explain"))
+    found = read_standstill(said)
+    return replace(sized, ranks=len(said["ranks"]), standstill=found) if found else None
