@@ -3,7 +3,7 @@ second readers, and to a model of plans and a reference for patterns: tests/soak
 holds for each plan, and tests/pattern_soaking.py for each pattern. With --waits it holds patterns,
 most of which wait, to plans of them: tests/answer_soaking.py.
 
-Usage: make soak [MINUTES=N] [SEED=N]
+Usage: make soak [MINUTES=N] [SEED=N], or make waits for --waits
        PYTHONPATH=tests python3 -m build.soak [PROGRAM] [--minutes N | --seconds N] [--seed N]
                                               [--keep FOLDER] [--patterns | --waits]
        PYTHONPATH=tests python3 -m build.soak [PROGRAM] --again FILE     looks at one file once more
