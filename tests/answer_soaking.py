@@ -20,7 +20,9 @@ import grammar
 import pattern_reference
 import random_patterns
 import waiting_patterns
+from pattern_grammar import Pattern
 from pattern_reference import ANSWERED, CLEAN, Ranks
+from pattern_soaking import MOST_LOOKED_AT
 from random_plans import styled
 from soak_runner import Difference, Runner, same
 
@@ -63,10 +65,9 @@ def read_told(status: int, wrote: bytes) -> Told:
 class Look:
     """All looks at one pattern in which nothing is found. The dice choose at which sizes."""
 
-    def __init__(self, runner: Runner, text: bytes, seed: int) -> None:
+    def __init__(self, runner: Runner, text: bytes, pattern: Pattern, seed: int) -> None:
         self.runner, self.text, self.dice = runner, text, random.Random(seed)
-        self.pattern = pattern_reference.read_pattern(text)
-        self.roles = self.pattern.roles
+        self.pattern, self.roles = pattern, pattern.roles
 
     def sizes_of(self, size: int) -> list[int]:
         """The sizes of the roles, if each group has so many ranks, or its least number."""
@@ -148,13 +149,15 @@ class Look:
 
 
 def look(runner: Runner, text: bytes, seed: int) -> str:
-    """Holds one pattern. Answers what kind of file it is. Raises a difference."""
+    """Holds one pattern. Answers what kind of file it is. Raises a difference, and Refused."""
+    pattern = pattern_reference.read_pattern(text)
+    if pattern_reference.instance_count(pattern) > MOST_LOOKED_AT:
+        return "too large"
     ran = runner.run(*CHECK, given=text)
-    if ran.status == 2:
-        return "refused"
     if not ran.wrote.startswith(CLEAN):
         return "with findings"
-    runner.held[Look(runner, text, seed).at_all(read_told(ran.status, ran.wrote))] += 1
+    told = Look(runner, text, pattern, seed).at_all(read_told(ran.status, ran.wrote))
+    runner.held[told] += 1
     return "without findings"
 
 
@@ -162,8 +165,8 @@ def difference_of(runner: Runner, text: bytes, seed: int) -> tuple[Optional[Diff
     """The difference that a pattern shows, or None, and what kind of file it is."""
     try:
         return None, look(runner, text, seed)
-    except grammar.Refused as why:
-        return Difference("a pattern that only the second reader refuses", str(why)), "different"
+    except grammar.Refused:
+        return None, "refused"
     except Difference as it:
         return it, "different"
 

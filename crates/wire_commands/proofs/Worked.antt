@@ -1,6 +1,8 @@
 -- From what the parts of a replay tell to what it tells.
 use Rattle.std.proofs.Common.{◌≡◌, ◌≢◌, ◌∙◌, ◌↔◌, ◌==◌, subst, sym, refl, arith, ℕ, Bool, true, false, List, [], ◌∷◌, length, Option}
-use Rattle.std.specs.Prelude.{◌&&◌}
+use Rattle.std.specs.Prelude.{◌&&◌, Vec, Result, Ok, Err, IfOk}
+use Rattle.std.specs.declared.alloc.Global.{Global}
+use Rattle.wire_types.specs.declared.Fault.{Fault}
 use Rattle.std.proofs.lemmas.Bool.{eqb-true, true≢false}
 use Rattle.wire_types.specs.Outcome.{Ends}
 use Rattle.wire_content.specs.Scripts.{Scripts}
@@ -51,6 +53,11 @@ pub found_told : (mode : Mode) (s : Scripts) (found counted : List Finding) (end
     → TellsFound mode.json mode.anyway s found text → IsReplay mode s ended text
 found_told mode s found counted ended text law those some count ends tells =
     record { found = found; judged = judged_so s found counted ended law those count ends; tells = found_tells mode s found text some tells }
+
+pub standstill_tells : (json explain : Bool) (s : Scripts) (ends : Ends) (r : Result (Vec ℕ Global) Fault) → json && explain ≡ true → ends ≡ plain_ends s →
+    IfOk r (λ text. ReportsStandstill s ends text.items) → IfOk r (λ text. TellsEnd json explain s text.items)
+standstill_tells json explain s ends (Ok text) asked at told = standstill_told json explain s ends text.items asked at told
+standstill_tells json explain s ends (Err e) asked at told = tt
 
 -- where it is clean, nothing is found
 clean_tells : (mode : Mode) (s : Scripts) (found : List Finding) (ended : Ended) (text : List ℕ) → ended ≡ ended_with found → Tells mode s found text → ended ≡ Clean →

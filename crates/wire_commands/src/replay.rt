@@ -200,6 +200,7 @@ fn judge_scripts(
 }
 
 /// The report of a settled plan, of whose plain run this is the outcome, in the form that is asked for.
+#[tactic(auto, using(crate::proofs::Worked::standstill_tells, crate::proofs::Worked::report_told))]
 fn settled_text(
     alloc: Global,
     plan: &Plan,

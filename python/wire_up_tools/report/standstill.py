@@ -1,16 +1,23 @@
 """The ranks that wait for ever in a plan without findings, as `wire_up replay` names them: those of
 a deadlock, and those that wait for what never comes."""
 import itertools
+import re
 from collections.abc import Iterator, Sequence
 from dataclasses import dataclass, replace
 from typing import Any, Optional
 
+from wire_up_tools.checker import Answer
 from wire_up_tools.report.asking import CLEAN, Asker, read_json
 from wire_up_tools.report.pattern_answers import Settled
 
 # How many sizes of a pattern are tried until a rank waits, and how many ranks of a group at most,
 # if it has no larger least number.
 SIZES, LARGEST = 256, 3
+# How lines say who waits for ever: a rank with its call, what stands above those that wait for what
+# never comes, and that there are more.
+LINE = re.compile(r"^    (\S+) (\d+) (\S+) waits for (.*)$", re.MULTILINE)
+NEVER = "  for what never comes:\n"
+MORE = re.compile(r"^    and \d+ more$", re.MULTILINE)
 
 
 @dataclass(frozen=True)
@@ -52,18 +59,31 @@ class Sized:
 
 
 def find_standstill(asker: Asker) -> Optional[Standstill]:
-    """Who waits for ever in a plan; None if the checker is an older one, which doesn't tell, or the
-    plan so large that its report in one piece would be."""
+    """Who waits for ever in a plan; None if the checker is an older one, which doesn't tell all of
+    it, or the plan so large that its report in one piece would be."""
     if asker.checker.is_large:
         return None
-    return read_standstill(read_json(asker.ask("replay", "--json", "--explain")))
+    return read_standstill(asker.ask("replay", "--json", "--explain"))
 
 
-def read_standstill(said: dict[str, Any]) -> Optional[Standstill]:
-    """Who waits for ever by a report, if it tells."""
+def read_standstill(answer: Answer) -> Optional[Standstill]:
+    """Who waits for ever by a report as JSON; of an older checker, by what it says besides."""
+    said = read_json(answer)
     if "deadlock" not in said:
-        return None
+        return read_lines(answer.stderr) if "ranks" in said else None
     return Standstill([*map(read_standing, said["deadlock"])], [*map(read_standing, said["never"])])
+
+
+def read_lines(said: str) -> Optional[Standstill]:
+    """Who waits for ever by the lines that say it; None if they only count some of a deadlock."""
+    circle, _, never = said.partition(NEVER)
+    if MORE.search(circle):
+        return None
+    read = (
+        [Standing(rank, int(call), verb, what) for rank, call, verb, what in LINE.findall(it)]
+        for it in (circle, never)
+    )
+    return Standstill(*read)
 
 
 def read_standing(said: dict[str, Any]) -> Standing:
@@ -96,6 +116,7 @@ def look_at_size(asker: Asker, sizes: Sequence[tuple[str, int]]) -> Optional[Siz
     if plan.status != CLEAN:
         return None
     of_plan = replace(asker, data=plan.stdout.encode())
-    said = read_json(of_plan.ask("replay", "--json", "--explain"))
-    found = read_standstill(said)
-    return replace(sized, ranks=len(said["ranks"]), standstill=found) if found else None
+    answer = of_plan.ask("replay", "--json", "--explain")
+    found = read_standstill(answer)
+    ranks = len(read_json(answer)["ranks"]) if found else 0
+    return replace(sized, ranks=ranks, standstill=found) if found else None
