@@ -125,10 +125,7 @@ pub fn run_command<R: Read, W: Sink>(
     let manner = manner_of(&request);
     match request.command {
         Command::Check(judged) => status_of(check(rt, manner, judged, reader, writer)),
-        Command::Replay(options) => {
-            let replaying = replaying_of(&request, options);
-            replay(rt, replaying, options.complete, watch, reader, writer)
-        }
+        Command::Replay(options) => replay(rt, manner, options, watch, reader, writer),
         Command::Follow(order) => {
             if request.plan.is_none() {
                 // Where standard input is closed, the order would be opened in its place, and be read as the
@@ -234,33 +231,28 @@ fn asked_of<'a>(options: PairOptions<'a>) -> PairAsked<'a> {
     }
 }
 
-/// How a plan is replayed. With `--explain` JSON has who waits for ever.
-fn replaying_of(request: &Request<'_>, options: ReplayOptions) -> Replaying<'static, OpenGate> {
-    let mode = Mode {
-        json: request.form.is_json(),
-        anyway: options.anyway,
-        explain: request.explain,
-    };
-    Replaying {
-        size: request.size,
-        workers: options.workers,
-        mode,
-        gate: &OpenGate,
-    }
-}
-
-/// Replays a plan. If it is to be complete, it names the first call that doesn't succeed.
+/// Replays a plan. With `--complete` it names the first call that doesn't succeed.
 fn replay<S: Source, W: Sink>(
     rt: &(impl Eprint + AllocGlobal + Threads + Wait + Sync),
-    replaying: Replaying<'_, OpenGate>,
-    complete: bool,
+    manner: Manner<'_>,
+    options: ReplayOptions,
     watch: OrderWatch<'_>,
     reader: &mut S,
     writer: &mut W,
 ) -> Result<u8, Fault> {
+    let mode = Mode {
+        json: manner.form.is_json(),
+        anyway: options.anyway,
+    };
+    let replaying = Replaying {
+        size: manner.size,
+        workers: options.workers,
+        mode,
+        gate: &OpenGate,
+    };
     let replayed = replay_plan(rt, rt.alloc(), reader, writer, replaying)?;
     *watch.has_run = matches!(replayed.ended, Ended::Clean);
-    if !complete {
+    if !options.complete {
         return Ok(replayed.ended.status());
     }
     if let Some(line) = &replayed.failure {
