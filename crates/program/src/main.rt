@@ -27,9 +27,9 @@ use std::{env, io, thread};
 use terminal_line::{NotedReader, NotedWriter, Progress, Streams, start_line};
 use wire_command_line::{CallPair, Command, Refusal, Request, read_request};
 use wire_explain::{
-    explain_file, explain_order, explain_part, explain_rank, explain_stop, explain_word,
+    explain_file, explain_order, explain_part, explain_rank, explain_standstill, explain_stop,
+    explain_word,
 };
-use wire_standstill::explain_standstill;
 use wire_types::{Fault, FromRead, ToWrite, write_out};
 
 /// The exit status of a command line that can't be read.

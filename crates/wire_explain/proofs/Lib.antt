@@ -1,3 +1,4 @@
+pub mod Awaited
 pub mod Edits
 pub mod Explanations
 pub mod Tables
@@ -7,6 +8,8 @@ mod Lines
 mod Words
 pub mod PatternUsages
 mod PatternWords
+pub mod Found
+pub mod Parts
 pub mod Reasons
 pub mod Sets
 pub mod Texts

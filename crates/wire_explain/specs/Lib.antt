@@ -7,3 +7,4 @@ pub mod Explained
 pub mod Order
 pub mod Stops
 pub mod Told
+pub mod Standstill

@@ -1,4 +1,0 @@
-pub mod Awaited
-pub mod Found
-pub mod Parts
-pub mod Ranks

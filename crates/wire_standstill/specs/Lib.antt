@@ -1,4 +1,0 @@
-pub mod Standstill
-pub mod Lines
-pub mod Report
-pub mod Told
