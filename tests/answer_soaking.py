@@ -4,7 +4,8 @@ plans that `expand` writes of it, up to LARGEST ranks of each group.
 - If it says that every call is answered, no call waits at three sizes, LARGEST among them, and with
   `--complete` it ends with status 0 only if each call of these plans succeeds.
 - The lines `later N` are those at which ranks wait with N ranks of each group, and none waits with
-  as many as are judged.
+  fewer, down to as many as are judged.
+- If it says that every call is answered for up to N ranks, none waits with so many.
 - Where a rank waits with as many ranks as are judged, a line `waits` says so (one pattern of
   WAITS_ONE_IN is looked at).
 
@@ -32,6 +33,7 @@ MOST_RANKS = 100
 # One pattern of so many is of the whole language; the others wait.
 WHOLE_ONE_IN, WAITS_ONE_IN = 20, 5
 CHECK = ("check", "--pattern", "--complete")
+UP_TO = re.compile(rb"^every call is answered for up to (\d+) ranks", re.MULTILINE)
 LINE = re.compile(rb"^(?:waits|later (\d+)) (\S+) (\d+) (\S+)$", re.MULTILINE)
 
 
@@ -45,17 +47,20 @@ class Stands(NamedTuple):
 
 class Told(NamedTuple):
     """What is told of a pattern: the lines of what waits in an instance that is judged, and those
-    of what waits with so many ranks; whether every call is answered; and the status."""
+    of what waits with so many ranks; whether every call is answered, or up to how many ranks; and
+    the status."""
 
     waits: set[Stands]
     later: dict[int, set[Stands]]
     answered: bool
+    up_to: int
     status: int
 
 
 def read_told(status: int, wrote: bytes) -> Told:
     """What `check --pattern --complete` tells."""
-    told = Told(set(), {}, ANSWERED in wrote, status)
+    up_to = max([0, *map(int, UP_TO.findall(wrote))])
+    told = Told(set(), {}, ANSWERED in wrote, up_to, status)
     for size, role, line, verb in LINE.findall(wrote):
         its = told.later.setdefault(int(size), set()) if size else told.waits
         its.add(Stands(role, int(line), verb))
@@ -113,7 +118,7 @@ class Look:
         if told.waits:
             self.at_waits(told.waits)
             return "waits"
-        return self.at_silence()
+        return self.at_silence(told.up_to)
 
     def at_answered(self, told: Told) -> None:
         """No call waits at three sizes, and each succeeds if the status says so."""
@@ -127,9 +132,10 @@ class Look:
                 raise Difference("a call fails in a complete pattern", f"{size} of each")
 
     def at_later(self, size: int, lines: set[Stands]) -> None:
-        """These lines wait with so many ranks, and none does with as many as are judged."""
+        """These lines wait with so many ranks, and none does with fewer."""
         same("other lines than those of a later size", self.stands(size), lines, size)
-        same("a later size that isn't the first", set(), self.stands(JUDGED), size)
+        for fewer in range(JUDGED, size):
+            same("a later size that isn't the first", set(), self.stands(fewer), fewer)
 
     def at_waits(self, lines: set[Stands]) -> None:
         """What waits with as many ranks as are judged has a line."""
@@ -137,12 +143,12 @@ class Look:
             missing = self.stands(JUDGED) - lines
             same("a call waits that has no line", set(), missing)
 
-    def at_silence(self) -> str:
-        """With how many ranks of each group one waits first, if any does."""
+    def at_silence(self, up_to: int) -> str:
+        """With how many ranks of each group one waits first, if any does; with so many none may."""
         for size in filter(self.is_small, range(JUDGED, LARGEST + 1)):
             last = self.replay(size)[1]
             if last != b"waiting 0":
-                if size == JUDGED:
+                if size <= max(JUDGED, up_to):
                     raise Difference("a call waits that has no line", f"{size} of each")
                 return f"silent, a rank waits with {size}"
         return "silent, no rank waits"

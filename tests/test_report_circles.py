@@ -31,6 +31,8 @@ lookup-wait a[each]
 end
 publish z[self] 1
 """
+# One more of them, which needs one more worker.
+SERVES_LAST = "one c\nfor w\npublish c[each] 1\nlookup-wait z[each]\nend\n"
 NOBODY = "pattern 1\njob app\nmany w min 2\nlookup-wait port\n"
 # Two ranks in a circle, and one that waits for a key that nobody puts.
 BOTH = "rehearsal 1\nnode n\njob a\nrank n\nget a:1 b\nput global a 1\ncommit\n"
@@ -95,6 +97,14 @@ class PatternTest(CircleCase):
             self.assertIn("app:0 4 lookup-wait waits for the name b[app:3] to be published", it)
         calls = [("app:0", "4 lookup-wait"), ("app:1", "2 lookup-wait"), ("app:2", "2 lookup-wait")]
         self.hold_ring(page, calls)
+
+    def test_a_later_size(self) -> None:
+        """Where none waits in what is judged, larger plans are looked at."""
+        later = TWO_LOOPS.replace("wait z", "wait c").replace("many w", SERVES_LAST + "many w")
+        text, page = self.report("later.pattern", later)
+        for it in (text, page):
+            self.assertIn("Who waits for ever with 7 ranks (w=4)", it)
+            self.assertIn("4 ranks wait in a circle: a deadlock", it)
 
     def test_what_never_comes(self) -> None:
         """The smallest plan has the least number of ranks."""

@@ -125,7 +125,7 @@ def judge_pattern(path: str, asker: Asker) -> Union[CleanPattern, Counterexample
     said = read_settled(answer.stdout.splitlines(), answer.status == CLEAN)
     if not said:
         raise asker.refuse("verdict on a pattern")
-    sized = find_sized(small, list_groups(pattern), said) if said.waits else None
+    sized = None if said.is_answered else find_sized(small, list_groups(pattern), said)
     return CleanPattern(pattern, asker.version(), said, sized)
 
 

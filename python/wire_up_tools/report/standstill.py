@@ -10,9 +10,9 @@ from wire_up_tools.checker import Answer
 from wire_up_tools.report.asking import CLEAN, Asker, read_json
 from wire_up_tools.report.pattern_answers import Settled
 
-# How many sizes of a pattern are tried until a rank waits, and how many ranks of a group at most,
-# if it has no larger least number.
-SIZES, LARGEST = 256, 3
+# How many sizes of a pattern are tried until a rank waits, how many ranks a group has there at most
+# (if it has no larger least number), and how many where none waits so.
+SIZES, LARGEST, LATER = 256, 3, 9
 # How lines say who waits for ever: a rank with its call, what stands above those that wait for what
 # never comes, and that there are more.
 LINE = re.compile(r"^    (\S+) (\d+) (\S+) waits for (.*)$", re.MULTILINE)
@@ -93,20 +93,28 @@ def read_standing(said: dict[str, Any]) -> Standing:
 
 def find_sized(asker: Asker, groups: Sequence[str], said: Settled) -> Optional[Sized]:
     """Who waits for ever in the smallest plan of a pattern in which a rank does, of those in which
-    all turns are taken; None if none of the first sizes is one, or the checker doesn't tell."""
-    for sizes in itertools.islice(list_sizes(groups, said), SIZES):
-        found = look_at_size(asker, sizes)
+    all turns are taken; None if that is none of the first sizes, or the checker doesn't tell."""
+    sizes = list_sizes(groups, said) if said.waits else list_later_sizes(groups, said)
+    for it in itertools.islice(sizes, SIZES):
+        found = look_at_size(asker, it)
         if found is None or not found.standstill.is_empty:
             return found
     return None
 
 
 def list_sizes(groups: Sequence[str], said: Settled) -> Iterator[list[tuple[str, int]]]:
-    """The sizes of the groups, those with the fewest ranks first."""
+    """The sizes of the groups that are judged, those with the fewest ranks first."""
     least = {name: count for count, name in said.least}
     ranges = [range(least.get(it, 0), max(LARGEST, least.get(it, 0)) + 1) for it in groups]
     for counts in sorted(itertools.product(*ranges), key=lambda it: (sum(it), it)):
         yield [*zip(groups, counts)]
+
+
+def list_later_sizes(groups: Sequence[str], said: Settled) -> Iterator[list[tuple[str, int]]]:
+    """Larger sizes: as many ranks of each group."""
+    first = max([LARGEST, *(count for count, _ in said.least)]) + 1
+    for size in range(first, LATER + 1) if groups else ():
+        yield [(it, size) for it in groups]
 
 
 def look_at_size(asker: Asker, sizes: Sequence[tuple[str, int]]) -> Optional[Sized]:
