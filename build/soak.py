@@ -1,10 +1,11 @@
 """Runs the program on random plans and patterns, most of them damaged, and holds it to itself, to
 second readers, and to a model of plans and a reference for patterns: tests/soaking.py says what it
-holds for each plan, and tests/pattern_soaking.py for each pattern.
+holds for each plan, and tests/pattern_soaking.py for each pattern. With --waits it holds patterns,
+most of which wait, to plans of them: tests/answer_soaking.py.
 
-Usage: make soak [MINUTES=N] [SEED=N]
+Usage: make soak [MINUTES=N] [SEED=N], or make waits for --waits
        PYTHONPATH=tests python3 -m build.soak [PROGRAM] [--minutes N | --seconds N] [--seed N]
-                                              [--keep FOLDER] [--patterns]
+                                              [--keep FOLDER] [--patterns | --waits]
        PYTHONPATH=tests python3 -m build.soak [PROGRAM] --again FILE     looks at one file once more
 Without PROGRAM it takes ./wire_up. If it checks patterns, one file of five is a pattern, and with
 --patterns each is. FILE is looked at as a pattern if its name ends with `.pattern`. It ends by
@@ -24,6 +25,7 @@ from collections import Counter
 from collections.abc import Callable
 from typing import NamedTuple, Optional
 
+import answer_soaking
 import pattern_soaking
 import random_patterns
 import random_plans
@@ -55,6 +57,7 @@ class Files(NamedTuple):
 
 PLANS = Files(".plan", random_plans.random_file, soaking.difference_of)
 PATTERNS = Files(".pattern", random_patterns.random_file, pattern_soaking.difference_of)
+WAITS = Files(".pattern", answer_soaking.random_file, answer_soaking.difference_of)
 
 
 class Reducer:
@@ -106,6 +109,7 @@ class Soak:
         self.runner = runner_of(args, room)
         takes_patterns = pattern_soaking.has_patterns(self.runner.program)
         self.one_in = 1 if args.patterns else PATTERNS_ONE_IN if takes_patterns else 0
+        self.waits: bool = args.waits
         self.kinds: Counter[str] = Counter()
         self.damaged, self.bytes = 0, 0
         self.differences: list[str] = []
@@ -122,9 +126,15 @@ class Soak:
                 self.next_told += 60
                 print(self.told(), flush=True)
 
+    def files_of(self, seed: int) -> Files:
+        """Of which files that of a seed is."""
+        if self.waits:
+            return WAITS
+        return PATTERNS if self.one_in and seed % self.one_in == 0 else PLANS
+
     def try_file(self, seed: int) -> None:
         """Tries the file of a seed."""
-        files = PATTERNS if self.one_in and seed % self.one_in == 0 else PLANS
+        files = self.files_of(seed)
         text, damages = files.random_file(random.Random(seed))
         found, kind = files.difference_of(self.runner, text, seed)
         self.damaged += bool(damages)
@@ -188,6 +198,7 @@ def look_again(args: argparse.Namespace, room: str) -> int:
     with open(args.again, "rb") as it:
         text = it.read()
     files = PATTERNS if args.again.endswith(PATTERNS.ending) else PLANS
+    files = WAITS if args.waits else files
     runner, found = runner_of(args, room), None
     for n in range(10):
         found, kind = files.difference_of(runner, text, args.seed + n)
@@ -206,7 +217,9 @@ def arguments() -> argparse.Namespace:
     parser.add_argument("--seed", type=int)
     parser.add_argument("--keep", default=os.path.join(LOGS, "soak"))
     parser.add_argument("--again")
-    parser.add_argument("--patterns", action="store_true")
+    kinds = parser.add_mutually_exclusive_group()
+    kinds.add_argument("--patterns", action="store_true")
+    kinds.add_argument("--waits", action="store_true")
     args = parser.parse_args()
     args.seconds = args.seconds if args.seconds is not None else 60 * args.minutes
     args.seed = args.seed if args.seed is not None else int(time.time())

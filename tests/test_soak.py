@@ -12,19 +12,10 @@ TESTS = os.path.dirname(os.path.abspath(__file__))
 class Soak(unittest.TestCase):
     """The tool that `make soak` runs."""
 
-    def test_soak(self) -> None:
-        """It finds no difference, refuses some files, and holds some answers to the model."""
+    def soak(self, *words: str) -> str:
+        """What a soak without differences writes."""
         ran = subprocess.run(
-            [
-                sys.executable,
-                "-m",
-                "build.soak",
-                support.program(),
-                "--seconds",
-                "6",
-                "--seed",
-                "1",
-            ],
+            [sys.executable, "-m", "build.soak", support.program(), *words, "--seed", "1"],
             cwd=support.TOP,
             env={**os.environ, "PYTHONPATH": TESTS},
             stdin=subprocess.DEVNULL,
@@ -34,8 +25,20 @@ class Soak(unittest.TestCase):
         )
         self.assertEqual(0, ran.returncode, f"{ran.stdout}{ran.stderr}")
         self.assertTrue(ran.stdout.endswith("\n0 differences\n"), ran.stdout)
-        self.assertNotIn("(0 refused", ran.stdout)
-        self.assertNotIn("held to the model: \n", ran.stdout)
+        return ran.stdout
+
+    def test_soak(self) -> None:
+        """It finds no difference, refuses some files, and holds some answers to the model."""
+        wrote = self.soak("--seconds", "6")
+        self.assertNotIn("(0 refused", wrote)
+        self.assertNotIn("held to the model: \n", wrote)
+
+    def test_waits(self) -> None:
+        """Of patterns that wait for each other it says of some that every call is answered, and of
+        some that one waits."""
+        wrote = self.soak("--waits", "--seconds", "6")
+        self.assertRegex(wrote, r"\d every call answered")
+        self.assertRegex(wrote, r"\d waits\b")
 
 
 if __name__ == "__main__":

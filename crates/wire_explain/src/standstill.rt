@@ -1,4 +1,4 @@
-//! What is told where no rank can take a step: who waits in a circle, and who for what never comes.
+//! What is told where no rank can take a step: who waits in a circle, and who for no rank.
 
 ghost use Rattle.std.specs.Prelude.{◌≡◌, ◌<◌, ◌^◌, ◌++◌, ◌∷◌, [], ◌&&◌, ◌==◌, suc, map, codes, length, is_some, take, OnOk, IfOk, IfErr, Err, ◌⊎◌, true};
 ghost use Rattle.std.specs.Prelude.{nat_lt};

@@ -20,6 +20,7 @@ from wire_up_tools.report.placements import Elsewhere, find_elsewhere
 from wire_up_tools.report.race_diagram import make_race_diagram
 from wire_up_tools.report.replies import Failure, find_replies
 from wire_up_tools.report.runs import Runs, Search, begin_search, find_runs
+from wire_up_tools.report.standstill import find_standstill
 from wire_up_tools.report.strict import find_strict
 from wire_up_tools.report.waits import Wait, find_circle, find_waits
 from wire_up_tools.report.wire_up_diagram import make_wire_up_diagram
@@ -41,11 +42,12 @@ class Detail:
 
 @dataclass(frozen=True, eq=False)
 class WireUp:
-    """What becomes of a plan without findings: who waits for ever, how many calls fail and the
-    first of these, and its diagram."""
+    """What becomes of a plan without findings: who waits for ever, which of these in a circle and
+    which for what never comes, how many calls fail and the first of these, and its diagram."""
 
     waits: Sequence[Wait]
     circle: Sequence[str]
+    never: Sequence[str]
     failed: int
     failures: Sequence[Failure]
     diagram: Diagram
@@ -174,4 +176,14 @@ def find_wire_up(asker: Asker, order: Order) -> WireUp:
     replies = find_replies(asker, order.plan)
     waits = find_waits(order, replies.waiting_at)
     diagram = make_wire_up_diagram(order, replies.waiting_at)
-    return WireUp(waits, find_circle(waits), replies.failed, replies.failures, diagram)
+    circle, never = find_stuck(asker, waits)
+    return WireUp(waits, circle, never, replies.failed, replies.failures, diagram)
+
+
+def find_stuck(asker: Asker, waits: Sequence[Wait]) -> tuple[Sequence[str], Sequence[str]]:
+    """The ranks that wait in a circle, and those that wait for no other rank, as the checker tells
+    them; where it doesn't, as the calls that wait tell."""
+    told = find_standstill(asker) if waits else None
+    if told:
+        return [it.rank for it in told.circle], [it.rank for it in told.never]
+    return find_circle(waits), [it.call.rank.name for it in waits if not it.ranks]

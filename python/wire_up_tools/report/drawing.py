@@ -99,7 +99,12 @@ def split_bar(layout: Layout, bar: Bar) -> list[tuple[float, float]]:
 
 
 def draw_arrow(link: Link, line: Way) -> str:
-    """An arrow along a line, which ends a little before its target."""
+    """An arrow along a line."""
+    return draw_way(line, "arrow never" if link.source.style is Style.UNREACHED else "arrow")
+
+
+def draw_way(line: Way, kind: str) -> str:
+    """An arrow of a kind along a line, which ends a little before its target."""
     *way, last, target = line
     width, height = target.x - last.x, target.y - last.y
     length = (width**2 + height**2) ** 0.5 or 1
@@ -111,7 +116,6 @@ def draw_arrow(link: Link, line: Way) -> str:
         Point(end.x + back.x + aside.x, end.y + back.y + aside.y),
         Point(end.x + back.x - aside.x, end.y + back.y - aside.y),
     )
-    kind = "arrow never" if link.source.style is Style.UNREACHED else "arrow"
     drawn = f'<polyline class="{kind}" points="{write_points([*way, last, end])}"/>'
     return f'{drawn}<polygon class="tip" points="{write_points(corners)}"/>'
 

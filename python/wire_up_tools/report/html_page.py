@@ -10,6 +10,7 @@ from wire_up_tools.plan import Call, Plan
 from wire_up_tools.report import explaining, strict, verdict
 from wire_up_tools.report.causes import Cause
 from wire_up_tools.report.contents import ENDINGS, MORE_CAUSES, Detail, Report, WireUp
+from wire_up_tools.report.diagram import label_call
 from wire_up_tools.report.drawing import draw_figure
 from wire_up_tools.report.findings import PAIRS, Finding, Group, Kind
 from wire_up_tools.report.language import name_kind
@@ -18,11 +19,19 @@ from wire_up_tools.report.markup import escape, escape_lines
 from wire_up_tools.report.messages import explain_late, find_late
 from wire_up_tools.report.page_style import STYLE
 from wire_up_tools.report.pattern_text import write_pattern
-from wire_up_tools.report.phrases import VALUE_WIDTH, count_of, cut, describe_circle, pick
+from wire_up_tools.report.phrases import (
+    VALUE_WIDTH,
+    count_of,
+    cut,
+    describe_circle,
+    pick,
+    say_never,
+)
 from wire_up_tools.report.placements import Placed
 from wire_up_tools.report.places import list_places, say_place
 from wire_up_tools.report.plan_page import write_plan
 from wire_up_tools.report.readers import list_told
+from wire_up_tools.report.ring import Label, draw_ring, say_circle
 from wire_up_tools.report.runs import Outcome, Run, Runs
 from wire_up_tools.report.tried import write_tried
 
@@ -376,7 +385,16 @@ def write_waits(plan: Plan, wire_up: WireUp) -> str:
     said = ((link_with_place(plan, it.call), escape(it.reason)) for it in shown)
     rows = "".join(f"<li>{call}: {reason}</li>" for call, reason in said)
     more = f"<p>And {count_of(count - PAIRS, 'other rank')}.</p>" if count > PAIRS else ""
-    circle = escape(describe_circle(wire_up.circle)) if wire_up.circle else ""
     parts = [f"<section><h2>{title}</h2>"]
-    parts += [f'<p class="part">In a circle: {circle}.</p>'] if circle else []
+    parts += write_circle(plan, wire_up) if wire_up.circle else []
+    parts += [f'<p class="part">{escape(say_never(wire_up.never))}</p>'] if wire_up.never else []
     return "\n".join([*parts, f"<ul>{rows}</ul>{more}</section>"])
+
+
+def write_circle(plan: Plan, wire_up: WireUp) -> list[str]:
+    """The ranks that wait in a circle: in words, and drawn."""
+    call_of = {it.call.rank.name: it.call for it in wire_up.waits}
+    calls = [call_of[it] for it in wire_up.circle]
+    ranks = [Label(it.rank.name, label_call(it), it.line) for it in calls]
+    title, circle = say_circle(len(ranks)), describe_circle(wire_up.circle)
+    return [f'<p class="part">{escape(f"{title}. {circle}.")}</p>', draw_ring(ranks)]

@@ -1,5 +1,6 @@
 """Writes what is told of a pattern without findings: as a page of HTML, and as text."""
 import datetime
+from collections.abc import Sequence
 from dataclasses import replace
 
 from wire_up_tools.report.html_page import FOOT, HEAD
@@ -15,7 +16,12 @@ from wire_up_tools.report.pattern_text import write_pattern
 from wire_up_tools.report.patterns import IN_PART, WITHOUT_CALLS, CleanPattern
 from wire_up_tools.report.phrases import count_of, cut
 from wire_up_tools.report.plan_page import LINE_WIDTH
+from wire_up_tools.report.ring import Label, draw_ring, say_circle
+from wire_up_tools.report.standstill import Sized, Standing
 from wire_up_tools.report.terminal_text import write_lines
+
+# How many of the ranks that wait are listed.
+SHOWN = 16
 
 
 def say_title(found: CleanPattern) -> str:
@@ -48,10 +54,45 @@ def write_pattern_page(found: CleanPattern) -> str:
         f'<header class="{kind}"><div class="top"><h1>{title}</h1>',
         f'<span class="badge">{badge}</span></div><p>{escape(explain(found))}</p>'
         f'<p class="meta">{escape(meta)}</p></header>',
+        *write_sized(found),
         *write_ends(found),
         write_pattern(found.pattern, find_named(found), "line"),
     ]
     return HEAD.format(title=title, style=STYLE) + "\n".join(parts) + FOOT
+
+
+def say_sized(sized: Sized) -> str:
+    """Of which plan it is said who waits for ever."""
+    of = f" ({sized.words})" if sized.sizes else ""
+    return f"Who waits for ever with {count_of(sized.ranks, 'rank')}{of}"
+
+
+def write_sized(found: CleanPattern) -> list[str]:
+    """Who waits for ever in the smallest plan in which a rank does."""
+    if not found.sized:
+        return []
+    stuck = found.sized.standstill
+    parts = [f"<section><h2>{escape(say_sized(found.sized))}</h2>"]
+    if stuck.circle:
+        ranks = [Label(it.rank, f"{it.number} {it.verb}") for it in stuck.circle]
+        parts += [f'<p class="part">{escape(say_circle(len(ranks)))}.</p>', draw_ring(ranks)]
+    parts += list_standing(stuck.circle)
+    if stuck.never:
+        parts += ['<p class="part">For what never comes:</p>', *list_standing(stuck.never)]
+    return ["\n".join([*parts, "</section>"])]
+
+
+def list_standing(ranks: Sequence[Standing]) -> list[str]:
+    """The calls at which ranks wait, and what for."""
+    rows = [f"<li>{escape(it)}</li>" for it in describe_standing(ranks)]
+    return [f"<ul>{''.join(rows)}</ul>"] if rows else []
+
+
+def describe_standing(ranks: Sequence[Standing]) -> list[str]:
+    """The first of the calls at which ranks wait, what for, and how many more there are."""
+    rows = [f"{it.rank} {it.number} {it.verb} waits for {it.waits_for}" for it in ranks[:SHOWN]]
+    rest = len(ranks) - len(rows)
+    return [*rows, f"and {count_of(rest, 'other rank')}"] if rest else rows
 
 
 def write_ends(found: CleanPattern) -> list[str]:
@@ -91,9 +132,22 @@ def write_pattern_text(found: CleanPattern) -> str:
         say_title(found), explain(found), f"checked by wire_up {found.version}"
     ]
     lines += [describe_call(found, it) for it in found.said.waits]
+    lines += describe_sized(found.sized) if found.sized else []
     for it in found.said.fails:
         lines.append(f"{describe_call(found, it.call)}, {', '.join(it.statuses)}")
     return write_lines(lines)
+
+
+def describe_sized(sized: Sized) -> list[str]:
+    """Who waits for ever in the smallest plan in which a rank does, as lines."""
+    stuck, lines = sized.standstill, ["", f"{say_sized(sized)}:"]
+    if stuck.circle:
+        lines.append(f"   {say_circle(len(stuck.circle))}:")
+        lines += [f"      {it}" for it in describe_standing(stuck.circle)]
+    if stuck.never:
+        lines += ["   For what never comes:"]
+        lines += [f"      {it}" for it in describe_standing(stuck.never)]
+    return lines
 
 
 def describe_call(found: CleanPattern, call: CallLine) -> str:

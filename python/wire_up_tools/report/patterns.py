@@ -20,6 +20,7 @@ from wire_up_tools.report.partial import find_in_head
 from wire_up_tools.report.pattern_answers import CallLine, Settled, read_settled
 from wire_up_tools.report.pattern_lines import Lines, find_lines
 from wire_up_tools.report.phrases import count_of
+from wire_up_tools.report.standstill import Sized, find_sized
 
 OPTION = "--pattern"
 # Lines that are skipped, and the first word after them.
@@ -62,12 +63,13 @@ class Pattern:
 
 @dataclass(frozen=True, eq=False)
 class CleanPattern:
-    """A pattern without findings, and what is said of its calls. `version` is that of the
-    checker."""
+    """A pattern without findings, what is said of its calls, and who waits for ever in its smallest
+    plan in which a rank does. `version` is that of the checker."""
 
     pattern: Pattern
     version: str
     said: Settled
+    sized: Optional[Sized] = None
 
     def find_line(self, line: CallLine) -> Optional[int]:
         """The line of the file where a call stands, if it is found there."""
@@ -123,7 +125,8 @@ def judge_pattern(path: str, asker: Asker) -> Union[CleanPattern, Counterexample
     said = read_settled(answer.stdout.splitlines(), answer.status == CLEAN)
     if not said:
         raise asker.refuse("verdict on a pattern")
-    return CleanPattern(pattern, asker.version(), said)
+    sized = None if said.is_answered else find_sized(small, list_groups(pattern), said)
+    return CleanPattern(pattern, asker.version(), said, sized)
 
 
 def list_calls(pattern: Pattern) -> Iterator[tuple[str, int, int]]:
@@ -138,6 +141,12 @@ def list_calls(pattern: Pattern) -> Iterator[tuple[str, int, int]]:
         elif role and said[0] not in NO_CALLS:
             count += 1
             yield role, count, number
+
+
+def list_groups(pattern: Pattern) -> list[str]:
+    """The names of the groups of a pattern."""
+    said = (line.split() for line in pattern.lines)
+    return [it[1] for it in said if len(it) > 1 and it[0] == MANY]
 
 
 def find_groups(pattern: Pattern) -> list[str]:

@@ -42,6 +42,11 @@ def name_all(names: Sequence[str]) -> str:
     return " and ".join(names) if len(names) == 2 else list_names(names)
 
 
+def say_never(ranks: Sequence[str]) -> str:
+    """Which ranks wait for what never comes."""
+    return f"For what never comes {pick(len(ranks), 'waits', 'wait')}: {list_names(ranks)}."
+
+
 def describe_circle(circle: Sequence[str]) -> str:
     """Names of ranks that wait for each other in a circle, in words."""
     shown = [*circle[1:9], *([".."] if len(circle) > 9 else []), circle[0]]

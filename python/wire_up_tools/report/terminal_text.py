@@ -10,7 +10,8 @@ from wire_up_tools.report.language import name_kind
 from wire_up_tools.report.library_page import say_library, write_library_text
 from wire_up_tools.report.markup import REPLACEMENT
 from wire_up_tools.report.messages import explain_late, find_late
-from wire_up_tools.report.phrases import VALUE_WIDTH, count_of, cut, describe_circle
+from wire_up_tools.report.phrases import VALUE_WIDTH, count_of, cut, describe_circle, say_never
+from wire_up_tools.report.ring import say_circle
 from wire_up_tools.report.placements import Placed
 from wire_up_tools.report.places import say_place
 from wire_up_tools.report.readers import list_told
@@ -147,8 +148,9 @@ def write_wire_up(report: Report, wire_up: WireUp) -> list[str]:
     shown = wire_up.waits[:PAIRS]
     lines += [f"   {describe_call(report, it.call)}: {it.reason}" for it in shown]
     lines += [f"   And {count_of(count - PAIRS, 'other rank')}."] if count > PAIRS else []
-    circle = wire_up.circle
-    return lines + ([f"   In a circle: {describe_circle(circle)}."] if circle else [])
+    circle, never = wire_up.circle, wire_up.never
+    lines += [f"   {say_circle(len(circle))}. {describe_circle(circle)}."] if circle else []
+    return lines + ([f"   {say_never(never)}"] if never else [])
 
 
 def write_failures(report: Report, wire_up: WireUp) -> list[str]:
