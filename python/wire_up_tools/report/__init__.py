@@ -12,8 +12,8 @@
   `standstill` which of them in a circle, and `places` where in the program calls come from.
 - `race_diagram`, `wire_up_diagram` and `node_diagram` choose what stands in a `diagram`.
 - `layout` finds where everything of a diagram stands, and `race_line` the line of a race. `drawing`
-  draws them as SVG, with `hovering` for what is pointed at, and `text_drawing` as text. `ring` draws
-  ranks that wait in a circle.
+  draws them as SVG, with `hovering` for what is pointed at, and `text_drawing` as text; `ring`
+  draws ranks that wait in a circle.
 - `explaining` and `verdict` have the words, with `phrases` for numbers and names; `partial` says
   why a verdict holds only in part.
 - `html_page` writes a page, with `plan_page`, `markup` and `page_style`, and `pattern_page` that of
