@@ -71,7 +71,7 @@ class PlanTest(CircleCase):
     def test_a_circle_and_what_never_comes(self) -> None:
         text, page = self.report("both.plan", BOTH)
         said = "2 ranks wait in a circle: a deadlock. a:0 waits for a:1, which waits for a:0."
-        never = "For what never comes waits: a:2."
+        never = "a:2 waits for what never comes."
         for it in (text, page):
             self.assertIn(said, it)
             self.assertIn(never, it)
@@ -81,7 +81,7 @@ class PlanTest(CircleCase):
         """There is none where each that waits does so for what never comes."""
         text, page = self.report("never.plan", "rehearsal 1\nnode n\njob a\nrank n\nget a:0 k\n")
         for it in (text, page):
-            self.assertIn("For what never comes waits: a:0.", it)
+            self.assertIn("a:0 waits for what never comes.", it)
             self.assertNotIn("in a circle", it)
         self.assertNotIn('<svg role="img"', page)
 

@@ -8,11 +8,12 @@
 - `causes` puts the groups of the checker that have one cause into one mistake.
 - `placements` tells what is found on other placements of the ranks, `patterns` what is found for
   every number of ranks, and `library_page` what a library is known to answer otherwise.
-- `uses` says who puts which key, `orders` what waits for what, `waits` why ranks wait for ever, and
-  `places` where in the program calls come from.
+- `uses` says who puts which key, `orders` what waits for what, `waits` why ranks wait for ever,
+  `standstill` which of them in a circle, and `places` where in the program calls come from.
 - `race_diagram`, `wire_up_diagram` and `node_diagram` choose what stands in a `diagram`.
 - `layout` finds where everything of a diagram stands, and `race_line` the line of a race. `drawing`
-  draws them as SVG, with `hovering` for what is pointed at, and `text_drawing` as text.
+  draws them as SVG, with `hovering` for what is pointed at, and `text_drawing` as text; `ring`
+  draws ranks that wait in a circle.
 - `explaining` and `verdict` have the words, with `phrases` for numbers and names; `partial` says
   why a verdict holds only in part.
 - `html_page` writes a page, with `plan_page`, `markup` and `page_style`, and `pattern_page` that of

@@ -44,7 +44,7 @@ def name_all(names: Sequence[str]) -> str:
 
 def say_never(ranks: Sequence[str]) -> str:
     """Which ranks wait for what never comes."""
-    return f"For what never comes {pick(len(ranks), 'waits', 'wait')}: {list_names(ranks)}."
+    return f"{name_all(ranks)} {pick(len(ranks), 'waits', 'wait')} for what never comes."
 
 
 def describe_circle(circle: Sequence[str]) -> str:
