@@ -87,8 +87,9 @@ class Finder:
         """The claims that say something new and that matter, without those that are refused. Each
         is true with the waits of all."""
         while True:
-            found = [it for role in self.names for it in self.list_new(role, refused)]
-            found = self.leave_idle(found)
+            found = self.leave_idle([
+                it for role in self.names for it in self.list_new(role, refused)
+            ])
             waits = find_waits(found)
             if waits <= self.waits:
                 return found
