@@ -18,6 +18,8 @@ SAID = {
     "began",
     "1 names that go away by themselves (pmix.persist): in the plan they stay":
         "1 name that goes away by itself (pmix.persist): in the plan it stays",
+    "1 names that go away with their application, and that another looks up: in the plan they stay":
+        "1 name that goes away with its application, and that another looks up: in the plan it stays",
     "1 values that aren't text: their size in bytes stands for them, where it is known":
         "1 value that isn't text: its size in bytes stands for it, where it is known",
 }

@@ -314,16 +314,7 @@ fn serve_with_line<R: Files + Input + Print + Eprint + AllocGlobal + Clock + Thr
     )
 }
 
-/// Whether a fault is explained: where the request says so; and that a file couldn't be opened or read, where standard
-/// error is a terminal.
-fn is_explained(fault: Fault, request: Request<'_>, progress: &Progress) -> bool {
-    match fault {
-        Fault::Read => request.explain || progress.is_seen(),
-        _ => request.explain,
-    }
-}
-
-/// Runs the command that was requested, and answers the exit status. A fault is explained where that is wanted.
+/// Runs the command that was requested, and answers the exit status. A fault is explained where the request says so.
 fn serve_explained(
     rt: &(impl Files + Input + Print + Eprint + AllocGlobal + Threads + Wait + Sync),
     request: Request<'_>,
@@ -342,7 +333,7 @@ fn serve_explained(
             Ok(status)
         }
         Err(fault) => {
-            if is_explained(fault, request, progress) {
+            if request.explain {
                 Err(explain_failure(rt.alloc(), fault, &watch))
             } else {
                 Err(fault.into())

@@ -6,6 +6,8 @@ from wire_up_tools.record.notes import STARTING, Notes, count_starts
 from wire_up_tools.record.processes import Processes
 
 CONNECTING = ("PMIx_Connect", "PMIx_Connect_nb")
+# They tell where the processes of a job are, which is known at its start.
+ASKING = ("PMIx_Resolve_peers", "PMIx_Resolve_nodes")
 SETTLED = "since they can't change a finding"
 
 
@@ -15,11 +17,13 @@ def has_early_gets(draft: Draft) -> bool:
 
 
 def settle_connecting(processes: Processes, draft: Draft, notes: Notes) -> None:
-    """Says of the calls that start or connect the jobs of a draft that they change no finding, if
-    that is so: each start made a job that is recorded, or no get asks at once."""
+    """Says of the calls that start, connect or ask about the jobs of a draft that they change no
+    finding, if that is so: each start made a job that is recorded; no get asks at once; there is
+    one job."""
     starts = count_starts(it.recording for it in processes.all)
     settled = STARTING if starts < len(processes.jobs) else ()
     settled += CONNECTING if not has_early_gets(draft) else ()
+    settled += ASKING if len(processes.jobs) == 1 and not starts else ()
     for name in settled:
         count = notes.left_out.pop(f"calls of {name}", 0)
         notes.left_out[f"calls of {name}, {SETTLED}"] += count

@@ -23,6 +23,9 @@ from wire_up_tools.record.notes import Notes
 from wire_up_tools.record.processes import NEVER_BEGAN, Process
 from wire_up_tools.words import show
 
+REFUSED_GROUPS = (
+    "calls that make or end groups, and that the library refused, since they can't change a finding"
+)
 OTHER_GROUPS = "calls that make or end groups, and aren't known to be fences of their processes"
 
 
@@ -106,7 +109,8 @@ def find_fences(sets: Sets, notes: Notes) -> CallsBySet:
             names = groups.find(call)
             members = sets.find_members(process, names) if names else None
             if members is None and isinstance(call.action, Group):
-                notes.left_out[OTHER_GROUPS] += 1
+                is_refused = call.status in NEVER_BEGAN
+                notes.left_out[REFUSED_GROUPS if is_refused else OTHER_GROUPS] += 1
             elif members is None:
                 notes.left_out[
                     "fences with processes that aren't recorded, or without the caller"

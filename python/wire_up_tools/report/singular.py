@@ -12,6 +12,7 @@ BEHIND = (
     ("that were", "that was"),
     ("or were", "or was"),
     ("that go away by themselves", "that goes away by itself"),
+    ("that go away with their application", "that goes away with its application"),
     ("whose recordings end", "whose recording ends"),
     ("their calls", "its calls"),
     ("their size in bytes stands for them", "its size in bytes stands for it"),

@@ -1,6 +1,7 @@
 """The verdict of a report in words: what was found, what it means, and how large the plan is."""
 from collections.abc import Sequence
 
+from wire_up_tools.left_out import can_order
 from wire_up_tools.report.causes import Cause
 from wire_up_tools.report.contents import Report
 from wire_up_tools.report.findings import MOST_GROUPS, Kind
@@ -126,6 +127,12 @@ def say_line(report: Report) -> str:
     return " ".join(filter(None, [say_found(report), say_reasons(report)]))
 
 
+def may_be_ordered(report: Report) -> bool:
+    """Whether what was left out can order the calls of a race that was found."""
+    is_race = any(it.first.kind is not Kind.REWRITE for it in report.causes)
+    return is_race and any(can_order(it.partition(" ")[2]) for it in report.left_out)
+
+
 def say_recording(report: Report) -> str:
     """That the plan is recorded, and whether what was left out can hide a race."""
     if not report.left_out:
@@ -133,7 +140,8 @@ def say_recording(report: Report) -> str:
     if hides_race(report.plan):
         return "A recording, with calls left out that can hide a race"
     besides = "apart from that, " if report.reasons else ""
-    return f"A recording; {besides}what is left out can hide no race"
+    ordered = ", but can order the calls of one" if may_be_ordered(report) else ""
+    return f"A recording; {besides}what is left out can hide no race{ordered}"
 
 
 def say_races(report: Report) -> str:
