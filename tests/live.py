@@ -24,6 +24,7 @@ ENVIRONMENT = {
 COMPILED = {
     "alone": ("cc", "alone.c"),
     "calls": ("cc", "-pthread", "calls.c"),
+    "cards": ("cc", "cards.c"),
     "direct": ("mpicc", "-pthread", "direct.c"),
     "luck": ("mpicc", "luck.c"),
     "sessions": ("mpicc", "-pthread", "sessions.c"),
@@ -75,7 +76,8 @@ COMPILED = {
 SOURCES = (".c", ".f90")
 # The programs that call PMIx themselves.
 WITH_PMIX = (
-    "alone", "calls", "direct", "hidden", "luck", "own-function", "sessions", "pmix_plugin.so"
+    "alone", "calls", "cards", "direct", "hidden", "luck", "own-function", "sessions",
+    "pmix_plugin.so"
 )
 NEEDED = ("mpicc", "mpirun", "make", "cc", "pkg-config")
 # `mpirun` may mix the lines of two processes where one is long, in about one run of six.

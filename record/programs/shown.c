@@ -9,12 +9,15 @@
  *   unpublished the name goes away after a barrier, where another process looks it up and a third publishes it
  *   value       two publish the name with other values, and a third looks it up later
  *   stop        a lookup that fails leaves a publish out, and so the lookup of a third process fails
+ *   random      as third, but one takes the name away that another published with another value in each run: both orders do the same
+ *   alarm       process 0 may take a second to publish, and process 1 looks up after two
  *   input       writes what it has read, and is `branch` without the death
  */
 #include <mpi.h>
 #include <stdio.h>
 #include <string.h>
 #include <sys/stat.h>
+#include <time.h>
 #include <unistd.h>
 
 #define MILLISECONDS 1000
@@ -143,6 +146,35 @@ static void stop(void)
         look_up("second");
 }
 
+static void change(void)
+{
+    struct timespec now;
+    char value[32];
+    clock_gettime(CLOCK_REALTIME, &now);
+    snprintf(value, sizeof value, "v%ld", now.tv_nsec / 1000 % 100000);
+    usleep((unsigned)(150 * rank) * MILLISECONDS);
+    if (rank == 0)
+        publish("port", value);
+    if (rank == 1)
+        MPI_Unpublish_name("port", MPI_INFO_NULL, "value");
+    MPI_Barrier(MPI_COMM_WORLD);
+    if (rank == 2)
+        look_up("port");
+}
+
+static void be_in_time(void)
+{
+    if (rank == 0) {
+        alarm(1);
+        publish("port", "value");
+        alarm(0);
+    }
+    if (rank == 1) {
+        sleep(2);
+        look_up("port");
+    }
+}
+
 static void read_all(void)
 {
     char line[256];
@@ -174,6 +206,10 @@ int main(int count, char **words)
         differ();
     if (!strcmp(word, "stop"))
         stop();
+    if (!strcmp(word, "random"))
+        change();
+    if (!strcmp(word, "alarm"))
+        be_in_time();
     MPI_Finalize();
     return 0;
 }

@@ -19,8 +19,8 @@ SHOWN, SHOWN_LATER, ALIKE, NOT_MADE = "shown", "shown-later", "alike", "not-made
 FIRST, SECOND = "first", "second"
 # How many other orders of messages are tried for each order of two calls.
 MOST_SWAPS = 8
-# The statuses with which `witness` answers.
-ANSWERED = (0, 1)
+# The status with which `witness` answers where it shows a race.
+OF_SHOWN = 1
 
 
 @dataclass(frozen=True, eq=False)
@@ -135,7 +135,7 @@ def order_by_witness(trial: Trial, race: Race, which: str) -> Sequence[Target]:
     if trial.checker is None:
         return ()
     answer = trial.checker.ask("witness", f"--{which}", *race.words, plan=trial.text.encode())
-    if answer.status not in ANSWERED or not answer.stdout:
+    if answer.status != OF_SHOWN:
         return ()
     racing = [trial.plan.find_call(it.process, it.number) for it in race.targets]
     owner = next((it.target for it in racing if it.verb.startswith("get")), None)

@@ -51,9 +51,9 @@ def say_doubts(compared: Compared, strikes: Sequence[str]) -> Iterator[str]:
 
 def sum_up_doubts(compared: Compared, strikes: Sequence[str]) -> str:
     """The same in a few words."""
-    doubts = [PLAIN_TOO.removesuffix(":")] * bool(compared.plain) + [
-        f"{STRUCK} {it}" for it in strikes[:1]
-    ]
+    doubts = [f"{ANOTHER} {it.process} {it.what}" for it in compared.own[:1]]
+    doubts += [f"{PLAIN_TOO} {it.process} {it.what}" for it in compared.plain[:1]]
+    doubts += [f"{STRUCK} {it}" for it in strikes[:1]]
     return "".join(f"; {it}" for it in doubts)
 
 
@@ -87,6 +87,7 @@ def say_shown(shown: Shown) -> Iterator[str]:
             yield f"    not made: {missed}"
     yield from (f"  {it}" for it in shown.means)
     if shown.word == NOT_MADE:
+        yield from (f"  {STRUCK} {it}" for it in list_strikes(shown))
         return
     yield from say_differences("replies", shown.compared.others)
     yield from say_differences("parts", shown.compared.partings)
@@ -98,15 +99,16 @@ def say_shown(shown: Shown) -> Iterator[str]:
 def sum_up(shown: Shown) -> str:
     """What came of a race, in one line."""
     if shown.word == NOT_MADE:
-        return "; ".join(str(it) for it in dict.fromkeys(shown.missed) if it)
+        why = "; ".join(str(it) for it in dict.fromkeys(shown.missed) if it)
+        return "".join([why, *(f"; {STRUCK} {it}" for it in list_strikes(shown)[:1])])
     compared = shown.compared
     asking = [it for it in compared.targets if it.what.endswith(ASKING)]
     told = asking or compared.targets or [*compared.others, *compared.partings]
     replies = [f"{it.process} {it.what}: {it.first} and {it.second}" for it in told[:1]]
     if not compared.is_alike:
-        doubts = sum_up_doubts(compared, list_strikes(shown))
-        replies.append(f'{say_ending(shown).replace(" | ", " and ")}{doubts}')
-    return "; ".join(replies) or "both orders were made, and nothing differs"
+        replies.append(say_ending(shown).replace(" | ", " and "))
+    said = "; ".join(replies) or "both orders were made, and nothing differs"
+    return f"{said}{sum_up_doubts(compared, list_strikes(shown))}"
 
 
 def say_in_head(shown: Shown, day: str) -> str:

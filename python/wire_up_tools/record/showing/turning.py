@@ -134,10 +134,12 @@ def say_turn(turn: Turn) -> Iterator[str]:
 def sum_up_turn(turn: Turn) -> str:
     """What came of a pair that was turned, in one line."""
     compared = turn.compared
-    if compared is None or not turn.is_alarm or not compared.differences:
+    if compared is None:
         return f"{turn.name}: {turn.why}"
-    one = compared.differences[0]
     doubts = sum_up_doubts(compared, turn.strikes)
+    if not turn.is_alarm or not compared.differences:
+        return f"{turn.name}: {turn.why}{doubts}"
+    one = compared.differences[0]
     return f"{turn.name}: {one.process} {one.what}: {one.first} and {one.second}{doubts}"
 
 
