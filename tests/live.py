@@ -1,10 +1,13 @@
 """Programs that tests run and record: what that needs, and how it is done."""
+import contextlib
 import os
 import re
 import shutil
 import subprocess
+import sys
 import tempfile
 import unittest
+from collections.abc import Iterator
 from typing import Optional
 
 import support
@@ -96,6 +99,28 @@ def run_plainly(words: list[str]) -> Ran:
     return subprocess.run(
         words, capture_output=True, text=True, timeout=PATIENCE, env=ENVIRONMENT, check=False
     )
+
+
+def find_python() -> Optional[str]:
+    """A Python that has mpi4py; None where there is none."""
+    for it in (sys.executable, shutil.which("python3", path=os.defpath)):
+        asked = [it or "false", "-c", "import mpi4py"]
+        if it and not subprocess.run(asked, capture_output=True, check=False).returncode:
+            return it
+    return None
+
+
+@contextlib.contextmanager
+def small_disk(case: unittest.TestCase, room: str, kibibytes: int) -> Iterator[str]:
+    """A folder in a room, with space for so much. Leaves the test out where there can't be one."""
+    folder = tempfile.mkdtemp(dir=room)
+    mount = ("mount", "-t", "tmpfs", "-o", f"size={kibibytes}k", "none", folder)
+    if subprocess.run(mount, capture_output=True, check=False).returncode:
+        case.skipTest("no file system can be mounted here")
+    try:
+        yield folder
+    finally:
+        subprocess.run(["umount", folder], check=True)
 
 
 def can_launch() -> bool:

@@ -30,36 +30,39 @@ WORDS = (
     "shown", "shown-later", "alike", "not-made", "kept", "turned", "turned-alike", "gave-up"
 )
 SHOW, TURN = "--show", "--turn"
+# Slurm publishes no names. PRRTE answers as if a name was published once, and brings nothing to a
+# node of which a process isn't in the fence.
+OPEN_MPI_4, WITH_NAMES, EVERY = (Kind.OPEN_MPI_4,), (Kind.OPEN_MPI_4, Kind.PRRTE), tuple(Kind)
 # How long a hold lasts where nothing moves, in seconds.
 HOLD = "4"
 
 
 @dataclass(frozen=True)
 class Case:
-    """A program with its words, on so many processes; what it is asked for, and the words that its
-    races or orders must have."""
+    """A program with its words, on so many processes; what it is asked for, the words that its
+    races or orders must have, and the launchers under which they have them."""
 
     processes: int
     words: Sequence[str]
     task: str
     expected: Sequence[str]
+    kinds: Sequence[Kind] = WITH_NAMES
 
 
 CASES = (
     Case(2, ("shown", "branch"), SHOW, ["shown"]),
     Case(2, ("shown", "bigsend"), SHOW, ["shown"]),
     Case(3, ("shown", "third"), SHOW, ["shown", "shown-later"]),
-    Case(3, ("shown", "value"), SHOW, ["shown-later"]),
+    Case(3, ("shown", "value"), SHOW, ["shown-later"], OPEN_MPI_4),
     Case(2, ("unseen", "barrier"), SHOW, ["shown"]),
     Case(3, ("cases", "wild1"), SHOW, ["shown"]),
     Case(2, ("told",), TURN, ["kept"]),
     Case(3, ("luck", "several"), TURN, ["turned"]),
     Case(4, ("names",), TURN, ["kept", "kept"]),
-    Case(4, ("cards", "carried"), SHOW, ["shown"]),
-    Case(2, ("cards", "fenced"), TURN, ["kept"]),
+    Case(3, ("cards", "at-once"), SHOW, ["shown"], EVERY),
+    Case(4, ("cards", "carried"), SHOW, ["shown"], OPEN_MPI_4),
+    Case(2, ("cards", "fenced"), TURN, ["kept"], EVERY),
 )
-# What Slurm has no names for: programs on keys alone.
-OF_KEYS = "cards"
 
 
 def find_words(said: str) -> list[str]:
@@ -93,7 +96,7 @@ def hold_launcher(folder: str, name: str, least: str) -> int:
     """Runs all programs under a launcher, on this count of nodes at least, and answers the
     status."""
     launcher, status = find_launcher(name), 0
-    cases = [it for it in CASES if launcher.kind is not Kind.SLURM or it.words[0] == OF_KEYS]
+    cases = [it for it in CASES if launcher.kind in it.kinds]
     every = list(itertools.product(range(int(least), len(NODES) + 1), cases))
     with concurrent.futures.ThreadPoolExecutor(AT_A_TIME) as pool:
         found = pool.map(lambda it: hold(Place(launcher, it[0], folder), it[1]), every)

@@ -11,6 +11,7 @@
  *   stop        a lookup that fails leaves a publish out, and so the lookup of a third process fails
  *   random      as third, but one takes the name away that another published with another value in each run: both orders do the same
  *   alarm       process 0 may take a second to publish, and process 1 looks up after two
+ *   children    each process starts another, which looks the name up while it is published; heirs: once it is, which is no race
  *   input       writes what it has read, and is `branch` without the death
  */
 #include <mpi.h>
@@ -175,6 +176,30 @@ static void be_in_time(void)
     }
 }
 
+/* A process that was started looks up; answers whether this is one. */
+static int is_child(void)
+{
+    MPI_Comm parents;
+    MPI_Comm_get_parent(&parents);
+    if (parents == MPI_COMM_NULL)
+        return 0;
+    usleep(300 * MILLISECONDS);
+    printf("child: %d\n", look_up("port"));
+    MPI_Comm_disconnect(&parents);
+    return 1;
+}
+
+static void start_child(const char *program, int is_early)
+{
+    MPI_Comm child;
+    if (is_early)
+        publish("port", "value");
+    MPI_Comm_spawn(program, MPI_ARGV_NULL, 1, MPI_INFO_NULL, 0, MPI_COMM_WORLD, &child, MPI_ERRCODES_IGNORE);
+    if (!is_early)
+        publish("port", "value");
+    MPI_Comm_disconnect(&child);
+}
+
 static void read_all(void)
 {
     char line[256];
@@ -188,6 +213,9 @@ int main(int count, char **words)
     MPI_Comm_rank(MPI_COMM_WORLD, &rank);
     MPI_Comm_set_errhandler(MPI_COMM_WORLD, MPI_ERRORS_RETURN);
     const char *word = count > 1 ? words[1] : "";
+    int is_started = is_child();
+    if (!is_started && (!strcmp(word, "children") || !strcmp(word, "heirs")))
+        start_child(words[0], word[0] == 'h');
     if (!strcmp(word, "input"))
         read_all();
     if (!strcmp(word, "branch") || !strcmp(word, "abort") || !strcmp(word, "input"))
