@@ -132,10 +132,12 @@ record/record-mpi.so: $(RECORD_MPI) record/record.h $(wildcard record/mpi/*.h)
 	$(MPICC) $(SHARED) -Wl,--as-needed -o $@.new $(filter %.c,$^) -ldl
 	@mv $@.new $@
 
-# Records MPICH's test suite, or some parts of it: `make record-suite PARTS="pt2pt f77/coll"`.
+# Records MPICH's test suite, or some parts of it: `make record-suite PARTS="pt2pt f77/coll"`; with
+# TURN=1 turns the orders round of programs that call PMIx.
 record-suite:
 	@PYTHONPATH=tests python3 -m build.record_suite "$(PROGRAM)" --parts $(PARTS) \
-		$(if $(ROOM),--room "$(ROOM)") $(if $(SECONDS),--seconds $(SECONDS)) $(if $(JOBS),--jobs $(JOBS))
+		$(if $(ROOM),--room "$(ROOM)") $(if $(SECONDS),--seconds $(SECONDS)) $(if $(JOBS),--jobs $(JOBS)) \
+		$(if $(TURN),--turn)
 
 # A folder with a newer Debian, whose MPI the gate's live tests then run with too; needs debootstrap.
 newer-root:

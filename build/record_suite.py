@@ -2,13 +2,15 @@
 
 Usage: make record-suite [PARTS="pt2pt f77/coll"] [ROOM=FOLDER] [SECONDS=N] [JOBS=N]
        PYTHONPATH=tests python3 -m build.record_suite [PROGRAM] [--parts PART..] [--room FOLDER]
-                                                      [--seconds N] [--jobs N]
+                                                      [--seconds N] [--jobs N] [--turn]
 It fetches the suite as Debian's source package (with lists of apt of its own), builds it for the
 MPI that is here, and runs each program without the recorder and with it, JOBS parts side by side. A
 program that takes more than N seconds by itself is left out. ROOM (`wire-up-suite` where temporary
 files go) keeps the suite, and what came of each program in `outcomes`: who runs the command again,
 or was interrupted, goes on behind that. The last lines are a table; above it stands what went
-another way. PROGRAM is the checker, or else ./wire_up.
+another way. PROGRAM is the checker, or else ./wire_up. With --turn only programs are taken that
+call PMIx, or have MPI call it for names and other jobs, and the orders of their plans are turned
+round; what came of them is in `turned`.
 """
 import argparse
 import json
@@ -26,6 +28,7 @@ from build.suite.source import (
     SuiteProgram,
     build,
     build_common,
+    calls_pmix,
     configure,
     fetch,
     find_programs,
@@ -33,7 +36,8 @@ from build.suite.source import (
 from build.suite.trying import Bench, Outcome
 
 COLUMNS = (
-    "part", "programs", "left out", "plans", "in part", "racy", "differ", "as answered", "not so"
+    "part", "programs", "left out", "plans", "in part", "racy", "differ", "as answered", "not so",
+    "kept", "turned",
 )
 
 
@@ -49,6 +53,8 @@ def count_row(name: str, outcomes: Sequence[Outcome]) -> Sequence[str]:
         sum(bool(it.differs) for it in outcomes),
         sum(it.is_replayed and not it.replay for it in plans),
         sum(bool(it.replay) for it in plans),
+        sum(it.kept for it in plans),
+        sum(bool(it.turned) for it in plans),
     )
     return [name, *map(str, counts)]
 
@@ -73,6 +79,7 @@ def tell(it: Outcome) -> Iterable[str]:
         ("differs", it.differs),
         ("findings", str(it.findings or "")),
         ("replay", it.replay),
+        ("turned round", it.turned),
     )
     return [f"{it.program.title}: {what}: {why}" for what, why in found if why]
 
@@ -80,8 +87,10 @@ def tell(it: Outcome) -> Iterable[str]:
 class Tried:
     """What came of programs, kept in a file as it comes."""
 
-    def __init__(self, room: str) -> None:
-        self.path, self.log = os.path.join(room, "outcomes"), os.path.join(room, "build.log")
+    def __init__(self, room: str, does_turn: bool = False) -> None:
+        self.does_turn = does_turn
+        self.path = os.path.join(room, "turned" if does_turn else "outcomes")
+        self.log = os.path.join(room, "build.log")
         self.found: dict[str, Outcome] = {}
         self.is_over = False
         if os.path.exists(self.path):
@@ -97,7 +106,8 @@ class Tried:
         with open(self.path, "a", encoding="utf-8") as to:
             to.write(json.dumps(asdict(outcome)) + "\n")
         seconds = f"{outcome.seconds:.1f} s recorded"
-        print(f"{'; '.join(tell(outcome)) or f'{title}: as without'} ({seconds})", flush=True)
+        well = f"{title}: {f'kept {outcome.kept}' if self.does_turn else 'as without'}"
+        print(f"{'; '.join(tell(outcome)) or well} ({seconds})", flush=True)
 
     def try_part(self, bench: Bench, programs: Sequence[SuiteProgram]) -> None:
         """Builds and tries the programs of one part, one after another: they share its folder."""
@@ -105,7 +115,8 @@ class Tried:
             if self.is_over or it.title in self.found:
                 continue
             is_built = build(bench.built, it, self.log)
-            self.keep(bench.try_program(it) if is_built else Outcome(it, "isn't built"))
+            how = bench.turn_program if self.does_turn else bench.try_program
+            self.keep(how(it) if is_built else Outcome(it, "isn't built"))
 
 
 def try_all(bench: Bench, programs: Sequence[SuiteProgram], tried: Tried, jobs: int) -> None:
@@ -133,6 +144,8 @@ def prepare(words: argparse.Namespace) -> tuple[str, list[SuiteProgram]]:
     source = fetch(words.room)
     built = configure(words.room, source)
     programs = find_programs(built, source, words.parts)
+    if words.turn:
+        programs = [it for it in programs if calls_pmix(it, built, source)]
     build_common(built, words.room)
     return built, programs
 
@@ -145,6 +158,7 @@ def read_words() -> argparse.Namespace:
     parser.add_argument("--room", default=os.path.join(tempfile.gettempdir(), "wire-up-suite"))
     parser.add_argument("--seconds", type=float, default=60.0)
     parser.add_argument("--jobs", type=int, default=1)
+    parser.add_argument("--turn", action="store_true")
     return parser.parse_args()
 
 
@@ -161,13 +175,13 @@ def main() -> int:
         print(f"there is no suite: {why}", file=sys.stderr)
         return 2
     bench = Bench(built, os.path.abspath(words.program), words.seconds)
-    tried = Tried(words.room)
+    tried = Tried(words.room, words.turn)
     try_all(bench, programs, tried, words.jobs)
     outcomes = [tried.found[it.title] for it in programs if it.title in tried.found]
     print(f"\n{len(outcomes)} programs of {len(programs)}; what went another way:")
     print(*(line for it in outcomes for line in tell(it)), "", sep="\n")
     print(*make_table(outcomes), sep="\n")
-    return 1 if any(it.differs or it.replay for it in outcomes) else 0
+    return 1 if any(it.differs or it.replay or it.turned for it in outcomes) else 0
 
 
 if __name__ == "__main__":

@@ -134,8 +134,12 @@ def run_words(words: Sequence[str], hosts: str) -> Ran:
 
 def run(place: Place, name: str, before: Sequence[str] = ()) -> Ran:
     """Runs a program, with words before the command line of its launcher."""
-    count, kind = OTHERS[name].processes, place.launcher.kind
-    program = ["-n", str(count), name_built(place.folder, name)]
+    return launch(place, OTHERS[name].processes, [name_built(place.folder, name)], before)
+
+
+def launch(place: Place, count: int, words: Sequence[str], before: Sequence[str]) -> Ran:
+    """Runs so many processes of a program with its words."""
+    kind, program = place.launcher.kind, ["-n", str(count), *words]
     before = [*before, "timeout", "-k", "5", str(PATIENCE), *place.launcher.words]
     with tempfile.TemporaryDirectory(dir=place.folder) as room:
         hosts = os.path.join(room, "hosts")

@@ -1,10 +1,13 @@
 """Programs that tests run and record: what that needs, and how it is done."""
+import contextlib
 import os
 import re
 import shutil
 import subprocess
+import sys
 import tempfile
 import unittest
+from collections.abc import Iterator
 from typing import Optional
 
 import support
@@ -24,6 +27,7 @@ ENVIRONMENT = {
 COMPILED = {
     "alone": ("cc", "alone.c"),
     "calls": ("cc", "-pthread", "calls.c"),
+    "cards": ("cc", "cards.c"),
     "direct": ("mpicc", "-pthread", "direct.c"),
     "luck": ("mpicc", "luck.c"),
     "sessions": ("mpicc", "-pthread", "sessions.c"),
@@ -75,7 +79,8 @@ COMPILED = {
 SOURCES = (".c", ".f90")
 # The programs that call PMIx themselves.
 WITH_PMIX = (
-    "alone", "calls", "direct", "hidden", "luck", "own-function", "sessions", "pmix_plugin.so"
+    "alone", "calls", "cards", "direct", "hidden", "luck", "own-function", "sessions",
+    "pmix_plugin.so"
 )
 NEEDED = ("mpicc", "mpirun", "make", "cc", "pkg-config")
 # `mpirun` may mix the lines of two processes where one is long, in about one run of six.
@@ -94,6 +99,28 @@ def run_plainly(words: list[str]) -> Ran:
     return subprocess.run(
         words, capture_output=True, text=True, timeout=PATIENCE, env=ENVIRONMENT, check=False
     )
+
+
+def find_python() -> Optional[str]:
+    """A Python that has mpi4py; None where there is none."""
+    for it in (sys.executable, shutil.which("python3", path=os.defpath)):
+        asked = [it or "false", "-c", "import mpi4py"]
+        if it and not subprocess.run(asked, capture_output=True, check=False).returncode:
+            return it
+    return None
+
+
+@contextlib.contextmanager
+def small_disk(case: unittest.TestCase, room: str, kibibytes: int) -> Iterator[str]:
+    """A folder in a room, with space for so much. Leaves the test out where there can't be one."""
+    folder = tempfile.mkdtemp(dir=room)
+    mount = ("mount", "-t", "tmpfs", "-o", f"size={kibibytes}k", "none", folder)
+    if subprocess.run(mount, capture_output=True, check=False).returncode:
+        case.skipTest("no file system can be mounted here")
+    try:
+        yield folder
+    finally:
+        subprocess.run(["umount", folder], check=True)
 
 
 def can_launch() -> bool:

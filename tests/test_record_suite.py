@@ -62,7 +62,7 @@ class SuiteTest(unittest.TestCase):
             Outcome(PROGRAM, findings=2, differs="status 1, not 0"),
             Outcome(PROGRAM, "isn't built"),
         ]
-        row = ["pt2pt", "3", "1", "2", "0", "1", "1", "1", "0"]
+        row = ["pt2pt", "3", "1", "2", "0", "1", "1", "1", "0", "0", "0"]
         self.assertEqual(count_row("pt2pt", outcomes), row)
         self.assertEqual([it.split() for it in make_table(outcomes)][1], row)
         self.assertEqual(

@@ -14,9 +14,9 @@ import tempfile
 import time
 import unittest
 from collections.abc import Iterator, Mapping, Sequence
-from typing import Optional, Union
+from typing import Union
 
-from live import ENVIRONMENT, LiveTest, mpirun, run_plainly
+from live import ENVIRONMENT, LiveTest, find_python, mpirun, run_plainly
 from recorded import (
     CASES,
     DIRECT,
@@ -70,15 +70,6 @@ SOURCES: Mapping[str, Sequence[Union[Sources, tuple[int, ...]]]] = {
 }
 # How many steps `messages` has.
 STEPS = 20
-
-
-def find_python() -> Optional[str]:
-    """A Python that has mpi4py; None where there is none."""
-    for it in (sys.executable, shutil.which("python3", path=os.defpath)):
-        asked = [it or "false", "-c", "import mpi4py"]
-        if it and not subprocess.run(asked, capture_output=True, check=False).returncode:
-            return it
-    return None
 
 
 def wait_for_recordings(folder: str, count: int) -> None:

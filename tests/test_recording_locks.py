@@ -9,9 +9,8 @@ import subprocess
 import unittest
 from collections.abc import Sequence
 
-from live import LiveTest, mpirun
+from live import LiveTest, find_python, mpirun
 from recorded import IN_PART, THREADS, why_other_findings
-from test_recording_live import find_python
 
 # Prints the folder and the name of Python's library, and where Python is.
 ASK = """\

@@ -35,8 +35,12 @@ class NewerTest(NewerCase):
         self.assertEqual(ran.returncode, 0, ran.stdout[-6000:] + ran.stderr[-3000:])
 
     def test_shown(self) -> None:
-        """Races are shown, orders are turned round, and signals end it, there too."""
+        """Races are shown, orders are turned round, and signals end it, there too; and under other
+        launchers, on two nodes."""
         support.program()
+        under = ["python3", "-m", "tests.show_launchers", "mpirun:2", "prterun:2", "srun"]
+        ran = self.run_inside("prterun", under)
+        self.assertEqual(ran.returncode, 0, ran.stdout[-6000:] + ran.stderr[-3000:])
         tests = [f"tests.test_recording_showing.{it}" for it in SHOWN]
         ran = self.run_inside("prterun", ["python3", "-m", "unittest", "-v", *tests])
         self.assertEqual(ran.returncode, 0, ran.stderr[-3000:])

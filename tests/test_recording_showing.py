@@ -18,17 +18,17 @@ import time
 import unittest
 from typing import Optional
 
-from live import ENVIRONMENT, LiveTest, Ran, mpirun
+from live import ENVIRONMENT, LiveTest, Ran, find_python, mpirun, small_disk
 from live_runs import read_words
+from show_launchers import find_words
 from support import TOP
-from tapes import COMMAND, PATIENCE, read_file, run_recorder
+from tapes import COMMAND, PATIENCE, PROGRAMS, read_file, run_recorder
 from wire_up_tools.record.running import find_libraries, make_environment
 
 COMPILED_WITH_LIBRARY = {"hidden": "liblookups.so"}
 # How long a hold lasts where nothing moves, in seconds: longer than on a slow machine a process
 # takes between two calls; and than a program polls.
 HOLD, LONG_HOLD = "4", "30"
-SAID = re.compile(r"^wire_up-record: ", re.MULTILINE)
 # How long a signal may take to end all, in seconds.
 SOON = 20
 
@@ -72,9 +72,7 @@ class ShowingCase(LiveTest):
 
     def find_words(self, ran: Ran) -> list[str]:
         """What was said of each race or pair, by its first word."""
-        lines = [it for it in SAID.sub("", ran.stderr).splitlines() if " app:" in it]
-        known = ("shown", "shown-later", "alike", "not-made", "kept", "turned", "turned-alike")
-        return [word for word in (it.split(" ")[0] for it in lines) if word in known]
+        return find_words(ran.stderr)
 
 
 class ShownTest(ShowingCase):
@@ -147,6 +145,21 @@ class ShownTest(ShowingCase):
         three = ["shown", "shown-later", "shown"]
         self.hold(three, "witness's orders", 3, "shown", "unpublished")
 
+    def test_a_job_that_another_started(self) -> None:
+        """Both processes have the rank 0."""
+        said = "race app0:0 [0-9]+ app1:0 [0-9]+ name port"
+        self.hold(["shown"], said, 1, "shown", "children")
+
+    def test_a_value_that_is_another_in_each_run(self) -> None:
+        said = r"another in each run: app:2 lookup port: PMIX_SUCCESS v\d+ \| PMIX_SUCCESS v\d+"
+        self.hold(["alike"], said, 3, "shown", "random")
+        self.assertIn("nothing differs; another in each run: app:2 lookup", read_file(self.plan))
+
+    def test_a_limit_of_time_that_strikes(self) -> None:
+        said = "a limit of time can have struck: an alarm ended a process"
+        self.hold(["not-made"], said, 2, "shown", "alarm")
+        self.assertIn(said, read_file(self.plan))
+
     def test_what_is_seen_later(self) -> None:
         self.hold(["shown-later"], r"replies app:2 lookup port: ", 3, "shown", "value")
         said = self.hold(["shown", "shown"], r"replies app:2 lookup second", 3, "shown", "stop")
@@ -168,6 +181,23 @@ class TurnedTest(ShowingCase):
         said = r"(?m)^# Turned round in vain on \S+: 1 of 1 pairs, all that the plan orders$"
         self.assertRegex(read_file(self.plan), said)
         self.hold("kept", "orders that .*: 2 of 2", 4, "names")
+
+    def test_a_job_that_another_started(self) -> None:
+        self.hold("kept", "app1:0 had called nothing yet", 1, "shown", "heirs")
+
+    def test_a_program_of_python(self) -> None:
+        python = find_python()
+        if not python:
+            self.skipTest("there is no mpi4py")
+        ran = self.show(["--turn"], mpirun(2, python, os.path.join(PROGRAMS, "cases.py")))
+        self.assertEqual({"kept"}, set(self.find_words(ran)), ran.stderr)
+
+    def test_a_get_that_is_given_up(self) -> None:
+        """It waits by the rules, and so isn't among the orders that are turned round at first."""
+        ran = self.show(["--turn", "--turn-waits", "2"], self.words(2, "cards", "brief"))
+        self.assertEqual(["gave-up"], self.find_words(ran), ran.stderr)
+        said = r"gave-up app:0 2 commit, app:1 1 get: PMIX_ERR_TIMEOUT after 1\.\d s"
+        self.assertRegex(ran.stderr, said)
 
     def test_orders_by_luck(self) -> None:
         said = r"app:0 \d+ lookup: PMIX_SUCCESS port \| PMIX_ERR_NOT_FOUND"
@@ -208,6 +238,60 @@ class CommandTest(ShowingCase):
         assert self.program is not None
         words = [self.program, "check", self.plan]
         return subprocess.run(words, capture_output=True, text=True, check=False).stdout
+
+    def test_a_plan_of_another_program(self) -> None:
+        """What its head has stays."""
+        ran = self.show(["--show"], self.words(2, "shown", "branch"))
+        before = read_file(self.plan)
+        self.assertIn("# Shown in this program", before)
+        others = (
+            (self.words(2, "told"), "a run never called app:0 publish port, app:1 lookup port"),
+            (self.words(3, "shown", "branch"), "it has the processes app:0, app:1, and the run"),
+            (["true"], "it has the processes app:0, app:1, and the run had none"),
+        )
+        for words, said in others:
+            ran = self.try_plan("--show", words)
+            self.assertEqual(125, ran.returncode, ran.stderr)
+            self.assertIn(f"the plan isn't of this command: {said}", ran.stderr)
+            self.assertEqual(before, read_file(self.plan))
+
+    def test_what_was_tried_before_stays(self) -> None:
+        """Where other races or orders are tried, each with its command."""
+        words = self.words(3, "shown", "stop")
+        self.assertEqual(0, self.record(*words).returncode)
+        races = re.findall(r"race (app:\d \d+ app:\d \d+) ", self.ask_checker())
+        for it in races[:2]:
+            ran = self.try_plan("--show-race", it, words)
+            self.assertEqual(["shown"], self.find_words(ran), ran.stderr)
+        head = read_file(self.plan)
+        found = re.findall(r"(?m)^# Shown .*: race (app:\S+ \S+ \S+ \S+)", head)
+        self.assertEqual(races[:2], found)
+        self.assertEqual(2, head.count("\n# Tried by: "))
+
+    def try_plan(self, *task: object) -> Ran:
+        """Tries races of the plan that is there; the words of a command come last."""
+        *options, words = task
+        assert isinstance(words, list)
+        all_words = ["--of", self.plan, *self.options(), *map(str, options), *words]
+        return run_recorder(*all_words, environment=ENVIRONMENT)
+
+    def test_a_full_disk(self) -> None:
+        """The plan of the first run is there where there is room for that, and nothing else."""
+        words, refused = self.words(2, "shown", "branch"), 0
+        for size in (64, 80, 96):
+            with small_disk(self, self.room, size) as folder:
+                plan = os.path.join(folder, "plan")
+                options = ["-o", plan, *self.options(), "--show"]
+                ran = run_recorder(*options, *words, environment=ENVIRONMENT)
+                if ran.returncode:
+                    refused += 1
+                    self.assertEqual(125, ran.returncode)
+                    full = "No space left|no room|room for|is empty, and no recording"
+                    self.assertRegex(ran.stderr.splitlines()[-1], full)
+                    self.assertIn(os.listdir(folder), (["plan"], []))
+                    said = read_file(plan) if os.path.exists(plan) else ""
+                    self.assertNotIn("# Shown", said)
+        self.assertTrue(refused)
 
     def test_calls_that_are_none(self) -> None:
         words = self.words(2, "told")
@@ -305,6 +389,17 @@ class CommandTest(ShowingCase):
         ran = self.show(["--show"], [*words, "branch"])
         self.assertEqual(["shown"], self.find_words(ran), ran.stderr)
         self.assertRegex(ran.stderr, r"ended status 0 \| s(tatus|ignal) \d+")
+
+
+class TwoNodesTest(ShowingCase):
+    """Programs on two nodes that are none."""
+
+    def test_words(self) -> None:
+        if os.geteuid():
+            self.skipTest("only root can make nodes")
+        words = [sys.executable, "-m", "tests.show_launchers", "mpirun:2"]
+        ran = subprocess.run(words, cwd=TOP, capture_output=True, text=True, check=False)
+        self.assertEqual(0, ran.returncode, ran.stdout[-3000:] + ran.stderr[-3000:])
 
 
 class WithoutServerTest(ShowingCase):

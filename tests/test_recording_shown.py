@@ -27,6 +27,7 @@ from wire_up_tools.record.showing.motion import Motion
 from wire_up_tools.record.showing.naming import Naming, Target, name_call, number_job
 from wire_up_tools.record.showing.orders import Trial
 from wire_up_tools.record.showing.pairs import ASK, WAIT, find_pairs
+from wire_up_tools.record.showing.plain_runs import PlainRuns
 from wire_up_tools.record.showing.server import Patience, Server, open_hall_for
 from wire_up_tools.record.showing.traces import Traces, read_traces
 from wire_up_tools.record.writing import write_plan
@@ -64,7 +65,7 @@ def make_run(
         for what, end in calls:
             tapes[-1].call(what, end)
     found = dict(enumerate(courses, 1))
-    return HeldRun(Holds(BOTH), "", status, 1.0, found, make_traces(tapes), output)
+    return HeldRun(Holds(BOTH), "", status, 0.0, 1.0, found, make_traces(tapes), output)
 
 
 class NamesTest(unittest.TestCase):
@@ -244,7 +245,9 @@ class PairsTest(ProgramCase):
         """The pairs, by their calls."""
         plan = read_plan(self.text.encode())
         session = Session((), (), "", None, None, Patience(1, 1))
-        trial = Trial(session, Checker(self.program), plan, self.text, Naming(plan), {})
+        trial = Trial(
+            session, Checker(self.program), plan, self.text, Naming(plan), {}, PlainRuns(session)
+        )
         return [(one.place, other.place) for one, other in find_pairs(trial, verbs)]
 
     def test_those_that_ask_at_once(self) -> None:

@@ -8,13 +8,11 @@ import resource
 import shutil
 import signal
 import subprocess
-import tempfile
 import time
 import unittest
-from collections.abc import Iterator
-from contextlib import contextmanager
 
 import support
+from live import small_disk
 from live_runs import SECONDS, WAITS, LiveRuns, Ran, read_words
 from support import TOP
 
@@ -237,21 +235,8 @@ class NotStarted(LiveRuns):
 class FullDisk(LiveRuns):
     """Where something can't be written."""
 
-    @contextmanager
-    def small_disk(self, kibibytes: int) -> Iterator[str]:
-        """A folder with room for so much. Leaves the test out where there can't be one."""
-        folder = tempfile.mkdtemp(dir=self.room)
-        size = f"size={kibibytes}k"
-        mount = ("mount", "-t", "tmpfs", "-o", size, "none", folder)
-        if subprocess.run(mount, capture_output=True, check=False).returncode:
-            self.skipTest("no file system can be mounted here")
-        try:
-            yield folder
-        finally:
-            subprocess.run(["umount", folder], check=True)
-
     def test_no_room_for_the_run(self) -> None:
-        with self.small_disk(4) as folder:
+        with small_disk(self, self.room, 4) as folder:
             ran = self.run_it(ENDS, temporary=folder)
             self.hold_refused(ran, "No space left on device")
             self.assertIn(f"wire_up-run: {folder}/wire_up-run-", ran.stderr)
@@ -261,7 +246,7 @@ class FullDisk(LiveRuns):
         less room, or do without what they have no room for."""
         refused = 0
         for size in (64, 1024):
-            with self.small_disk(size) as folder:
+            with small_disk(self, self.room, size) as folder:
                 ran = self.run_it("--start", "15", ENDS, temporary=folder)
             if ran.returncode:
                 refused += 1

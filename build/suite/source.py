@@ -37,6 +37,12 @@ OTHER_NAMES = {
 IN_FILES = ("util/mtest_cxx.cxx", "cxx/rma/fkeyvalwinx.cxx")
 # The list of programs that each part has.
 LIST = "testlist"
+# How the source of a program shows that it calls PMIx, or has MPI call it for names and for other
+# jobs, in each language; and how sources end.
+CALLING = re.compile(
+    rb"(?i)(publish|unpublish|lookup)_name|comm_(spawn|accept|connect|join)|pmix_"
+)
+SOURCES = (".c", ".cxx", ".f", ".f90")
 # Parts that aren't tests of what MPI does between processes.
 NOT_PARTS = ("maint", "perf", "manual", "ft", "ckpoint", "impls")
 
@@ -172,6 +178,18 @@ def read_list(part: str, text: str) -> Iterator[SuiteProgram]:
         variables = dict(value.split("=", 1) for key, _, value in settings if key == "env")
         words = [value for key, _, value in settings if key == "arg"]
         yield SuiteProgram(part, name, int(more[0]), words, variables)
+
+
+def calls_pmix(it: SuiteProgram, built: str, source: str) -> bool:
+    """Whether the source of a program shows that it calls PMIx, or has MPI call it for names or
+    other jobs."""
+    for top in (built, os.path.join(source, SUITE)):
+        for end in SOURCES:
+            path = os.path.join(top, it.part, f"{it.name}{end}")
+            if os.path.isfile(path):
+                with open(path, "rb") as text:
+                    return CALLING.search(text.read()) is not None
+    return False
 
 
 def find_parts(built: str, source: str) -> dict[str, str]:

@@ -1,4 +1,5 @@
 """One program of the suite: run without the recorder and with it, its plan checked and replayed."""
+import json
 import os
 import re
 import signal
@@ -32,6 +33,10 @@ NO_PLAN = 125
 OWN_LINE = re.compile(r"^wire_up-record: (.*)$", re.M)
 ENDED = re.compile(r"the command ended (?:with status|by signal) (\d+)")
 IN_PART = "holds only in part"
+FINDINGS = re.compile(r"^findings (\d+)$", re.M)
+# How many orders of a plan are turned round, and how many times as long as a program by itself that
+# may take. And the word of those that the program keeps.
+MOST_TURNED, TURNED_TIMES, KEPT = "40", 10, "kept"
 # How Open MPI begins to say where a process crashed. The functions of the recorder are named too,
 # and what several processes say is mixed.
 CRASHED = "*** Process received signal ***"
@@ -99,7 +104,8 @@ def end(process: "subprocess.Popen[str]") -> tuple[str, str]:
 class Outcome:
     """What came of a program. `lacks` says why it wasn't compared: it isn't built, or takes too
     long without the recorder. `no_plan`, `differs` and `replay` are what went another way than
-    wanted, empty where nothing did. `seconds` are those of the recorded run."""
+    wanted, empty where nothing did. `seconds` are those of the recorded run. Where the orders of
+    its plan are turned round, `kept` is how many it kept, and `turned` tells the others."""
 
     program: SuiteProgram
     lacks: str = ""
@@ -110,6 +116,8 @@ class Outcome:
     is_replayed: bool = False
     replay: str = ""
     seconds: float = 0.0
+    kept: int = 0
+    turned: str = ""
 
 
 def why_different(plain: Ran, recorded: Ran) -> str:
@@ -172,6 +180,33 @@ class Bench:
                 return Outcome(it, no_plan=why, differs=differs, seconds=ran.seconds)
             return self.judge(it, ran, differs, room)
 
+    def turn_program(self, it: SuiteProgram) -> Outcome:
+        """Runs a program, and turns each order of its plan round."""
+        folder = os.path.join(self.built, it.part)
+        with tempfile.TemporaryDirectory(prefix="wire-up-suite-") as room:
+            plan, shown = os.path.join(room, "plan"), os.path.join(room, "shown")
+            words = [sys.executable, RECORDER, "-o", plan, "--checker", self.checker, "--turn"]
+            words += ["--most", MOST_TURNED, "--shown", shown, *self.start(it)]
+            patience = TURNED_TIMES * self.patience
+            ran = run(words, folder, it.variables, patience)
+            if ran.status is None:
+                return Outcome(it, f"takes longer than {patience:.0f} s")
+            if not os.path.exists(shown):
+                why = (OWN_LINE.findall(ran.said) or ["nothing was said"])[-1]
+                return Outcome(it, no_plan=why, seconds=ran.seconds)
+            found = FINDINGS.search(self.ask("check", plan).stdout)
+            with open(shown, encoding="utf-8") as text:
+                turns = json.load(text)["turned"]
+        others = [f"{one['word']} {one['pair']}" for one in turns if one["word"] != KEPT]
+        return Outcome(
+            it,
+            is_in_part=IN_PART in ran.said,
+            findings=int(found[1]) if found else None,
+            seconds=ran.seconds,
+            kept=len(turns) - len(others),
+            turned="; ".join(others),
+        )
+
     def judge(self, it: SuiteProgram, ran: Ran, differs: str, room: str) -> Outcome:
         """Judges a plan: its findings, and its replay beside how the calls ended."""
         plan, answers = os.path.join(room, "plan"), os.path.join(room, "answers")
@@ -179,7 +214,7 @@ class Bench:
             is_large = any(line.startswith("# Larger than") for line in text)
         words = ["--large", plan] if is_large else [plan]
         checked = self.ask("check", *words)
-        found = re.search(r"^findings (\d+)$", checked.stdout, re.M)
+        found = FINDINGS.search(checked.stdout)
         count = int(found[1]) if found else None
         replay = "check failed: " + checked.stderr[:80] if count is None else ""
         if count == 0:

@@ -9,12 +9,16 @@
  *   unpublished the name goes away after a barrier, where another process looks it up and a third publishes it
  *   value       two publish the name with other values, and a third looks it up later
  *   stop        a lookup that fails leaves a publish out, and so the lookup of a third process fails
+ *   random      as third, but one takes the name away that another published with another value in each run: both orders do the same
+ *   alarm       process 0 may take a second to publish, and process 1 looks up after two
+ *   children    each process starts another, which looks the name up while it is published; heirs: once it is, which is no race
  *   input       writes what it has read, and is `branch` without the death
  */
 #include <mpi.h>
 #include <stdio.h>
 #include <string.h>
 #include <sys/stat.h>
+#include <time.h>
 #include <unistd.h>
 
 #define MILLISECONDS 1000
@@ -143,6 +147,59 @@ static void stop(void)
         look_up("second");
 }
 
+static void change(void)
+{
+    struct timespec now;
+    char value[32];
+    clock_gettime(CLOCK_REALTIME, &now);
+    snprintf(value, sizeof value, "v%ld", now.tv_nsec / 1000 % 100000);
+    usleep((unsigned)(150 * rank) * MILLISECONDS);
+    if (rank == 0)
+        publish("port", value);
+    if (rank == 1)
+        MPI_Unpublish_name("port", MPI_INFO_NULL, "value");
+    MPI_Barrier(MPI_COMM_WORLD);
+    if (rank == 2)
+        look_up("port");
+}
+
+static void be_in_time(void)
+{
+    if (rank == 0) {
+        alarm(1);
+        publish("port", "value");
+        alarm(0);
+    }
+    if (rank == 1) {
+        sleep(2);
+        look_up("port");
+    }
+}
+
+/* A process that was started looks up; answers whether this is one. */
+static int is_child(void)
+{
+    MPI_Comm parents;
+    MPI_Comm_get_parent(&parents);
+    if (parents == MPI_COMM_NULL)
+        return 0;
+    usleep(300 * MILLISECONDS);
+    printf("child: %d\n", look_up("port"));
+    MPI_Comm_disconnect(&parents);
+    return 1;
+}
+
+static void start_child(const char *program, int is_early)
+{
+    MPI_Comm child;
+    if (is_early)
+        publish("port", "value");
+    MPI_Comm_spawn(program, MPI_ARGV_NULL, 1, MPI_INFO_NULL, 0, MPI_COMM_WORLD, &child, MPI_ERRCODES_IGNORE);
+    if (!is_early)
+        publish("port", "value");
+    MPI_Comm_disconnect(&child);
+}
+
 static void read_all(void)
 {
     char line[256];
@@ -156,6 +213,9 @@ int main(int count, char **words)
     MPI_Comm_rank(MPI_COMM_WORLD, &rank);
     MPI_Comm_set_errhandler(MPI_COMM_WORLD, MPI_ERRORS_RETURN);
     const char *word = count > 1 ? words[1] : "";
+    int is_started = is_child();
+    if (!is_started && (!strcmp(word, "children") || !strcmp(word, "heirs")))
+        start_child(words[0], word[0] == 'h');
     if (!strcmp(word, "input"))
         read_all();
     if (!strcmp(word, "branch") || !strcmp(word, "abort") || !strcmp(word, "input"))
@@ -174,6 +234,10 @@ int main(int count, char **words)
         differ();
     if (!strcmp(word, "stop"))
         stop();
+    if (!strcmp(word, "random"))
+        change();
+    if (!strcmp(word, "alarm"))
+        be_in_time();
     MPI_Finalize();
     return 0;
 }

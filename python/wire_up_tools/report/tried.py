@@ -56,10 +56,15 @@ def find_tried(plan: Plan, finding: Finding) -> Optional[Tried]:
     return None
 
 
-def find_command(plan: Plan) -> Optional[str]:
-    """The command that tries it again."""
-    said = (it for it in plan.declared.head if it.startswith(words.TRIED_BY))
-    return next((it.removeprefix(words.TRIED_BY) for it in said), None)
+def find_command(plan: Plan, finding: Finding) -> Optional[str]:
+    """The command that tries a finding again: it stands below what came of that."""
+    names, is_found = {it.name for it in finding.calls}, False
+    for line in plan.declared.head:
+        read = TRIED.fullmatch(line)
+        is_found = is_found or (read is not None and {read[3], read[4]} == names)
+        if is_found and line.startswith(words.TRIED_BY):
+            return line.removeprefix(words.TRIED_BY)
+    return None
 
 
 def find_turned(plan: Plan) -> Iterator[str]:
@@ -87,7 +92,7 @@ def say_in_vain(plan: Plan) -> list[str]:
 
 def write_tried(plan: Plan, finding: Finding) -> list[str]:
     """What came of a finding in the program, for a page; nothing where it wasn't tried."""
-    tried, command = find_tried(plan, finding), find_command(plan)
+    tried, command = find_tried(plan, finding), find_command(plan, finding)
     if tried is None:
         return []
     again = f"<p>This does it again: <code>{escape(command)}</code></p>" if command else ""
@@ -97,7 +102,7 @@ def write_tried(plan: Plan, finding: Finding) -> list[str]:
 
 def write_tried_text(plan: Plan, finding: Finding) -> list[str]:
     """The same, for a terminal."""
-    tried, command = find_tried(plan, finding), find_command(plan)
+    tried, command = find_tried(plan, finding), find_command(plan, finding)
     if tried is None:
         return []
     again = [f"   This does it again: {command}"] if command else []

@@ -23,6 +23,13 @@ class Difference:
     first: str
     second: str
 
+    def is_about(self, other: "Difference") -> bool:
+        """Whether it is of the same call, or of where the calls of the same process part."""
+        return (self.process, self.what) == (other.process, other.what)
+
+    def __str__(self) -> str:
+        return f"{self.process} {self.what}: {self.first} | {self.second}"
+
 
 def list_calls(run: HeldRun, process: str) -> Sequence[TracedCall]:
     """The calls of a process that are compared."""
@@ -72,18 +79,26 @@ def find_parting(
 @dataclass(frozen=True)
 class Compared:
     """What differs between two runs: the replies of the named calls, those of others, where calls
-    part, and whether the runs end and write otherwise."""
+    part, and whether the runs end and write otherwise. `own` is what each run has otherwise, and so
+    none of these; `plain` what differs besides between two runs in which nothing is held."""
 
     targets: Sequence[Difference]
     others: Sequence[Difference]
     partings: Sequence[Difference]
     ends_otherwise: bool
     writes_otherwise: bool
+    own: Sequence[Difference] = ()
+    plain: Sequence[Difference] = ()
+
+    @property
+    def differences(self) -> Sequence[Difference]:
+        """Replies that differ, and where calls part."""
+        return [*self.targets, *self.others, *self.partings]
 
     @property
     def is_alike(self) -> bool:
         """Whether the same calls were made and answered alike, with the same end."""
-        return not (self.targets or self.others or self.partings or self.ends_otherwise)
+        return not (self.differences or self.ends_otherwise)
 
 
 def compare_output(runs: Sequence[HeldRun]) -> bool:

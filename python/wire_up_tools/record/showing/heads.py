@@ -1,6 +1,7 @@
 """The lines that the head of a plan has of what was tried."""
 import re
-from collections.abc import Sequence
+from collections.abc import Iterator, Sequence
+from typing import Optional
 
 from wire_up_tools.words import (
     EACH_RUN_SENTENCE,
@@ -11,13 +12,16 @@ from wire_up_tools.words import (
     TURNED_ROUND,
 )
 
-# How each of these lines begins.
-STARTS = (*TRIED_IN_HEAD.values(), TRIED_BY, TRIED_STOPPED, TURNED_ROUND, TURNED_IN_VAIN)
+# How each of these lines begins, and those of orders among them.
+OF_ORDERS = (TURNED_ROUND, TURNED_IN_VAIN)
+STARTS = (*TRIED_IN_HEAD.values(), TRIED_BY, TRIED_STOPPED, *OF_ORDERS)
+# The two calls that a line is about.
+CALLS = re.compile(r": (?:race|no race|calls) (\S+ \d+) (\S+ \d+)\b")
 
 
-def is_of_trial(line: str) -> bool:
-    """Whether a line of a head says what was tried."""
-    return line.startswith(tuple(f"# {it}" for it in STARTS))
+def has_start(line: str, starts: Sequence[str]) -> bool:
+    """Whether a line of a head begins in one of some ways."""
+    return line.startswith(tuple(f"# {it}" for it in starts))
 
 
 def is_alarm(line: str) -> bool:
@@ -26,14 +30,37 @@ def is_alarm(line: str) -> bool:
     return re.match(rf"# {TURNED_ROUND} [\d-]+: ", line) is not None
 
 
+def find_pair(line: str) -> Optional[frozenset[str]]:
+    """The two calls that a line is about, if it is about a race."""
+    found = CALLS.search(line)
+    return frozenset(found.groups()) if found else None
+
+
+def list_kept(old: Sequence[str], new: Sequence[str]) -> Iterator[str]:
+    """The lines about races and orders that were tried before, but for those that are tried anew.
+    Behind them stands the command that tried them."""
+    pairs = {find_pair(it) for it in new}
+    has_orders = any(has_start(it, OF_ORDERS) for it in new)
+    kept: list[str] = []
+    for line in old:
+        if has_start(line, [TRIED_BY]):
+            yield from [*kept, line] if kept else []
+            kept = []
+        elif has_start(line, OF_ORDERS):
+            kept += [] if has_orders else [line]
+        elif not has_start(line, [TRIED_STOPPED]) and find_pair(line) not in pairs - {None}:
+            kept.append(line)
+
+
 def insert_in_head(text: str, lines: Sequence[str]) -> str:
-    """A plan whose head ends with some lines about what was tried, in place of those that it had.
-    Unprintable characters in them become `?`. Where an order isn't imposed, the head no longer says
-    that each run makes the calls of the plan."""
+    """A plan whose head ends with some lines about what was tried. Those about other races and
+    orders stay. Unprintable characters become `?`. Where an order isn't imposed, the head no longer
+    says that each run makes the calls of the plan."""
     whole = text.splitlines(keepends=True)
     end = next((n for n, it in enumerate(whole) if not it.startswith("#")), len(whole))
-    head = [it for it in whole[:end] if not is_of_trial(it)]
+    head = [it for it in whole[:end] if not has_start(it, STARTS)]
     if any(map(is_alarm, lines)):
         head = [it for it in head if it != f"# {EACH_RUN_SENTENCE}\n"]
+    kept = list_kept([it for it in whole[:end] if has_start(it, STARTS)], lines)
     printable = ("".join(c if " " <= c <= "~" else "?" for c in it) for it in lines)
-    return "".join([*head, *(f"{it}\n" for it in printable), *whole[end:]])
+    return "".join([*head, *kept, *(f"{it}\n" for it in printable), *whole[end:]])

@@ -41,12 +41,14 @@ class Session:
 
 @dataclass(eq=False)
 class HeldRun:
-    """How a run went: what its processes did, its status (below 0 for a signal; None: it was
-    ended), how long it took, in seconds, what it wrote, and how it went with the named calls."""
+    """How a run went: its status (below 0 for a signal; None: it was ended), when it began, in
+    seconds since 1970, how long it took, how it went with the named calls, what its processes did,
+    and what it wrote."""
 
     holds: Holds
     folder: str
     status: Optional[int]
+    began: float
     seconds: float
     courses: Mapping[int, Course]
     traces: Traces = field(default_factory=dict)
@@ -129,7 +131,7 @@ def run_held(session: Session, holds: Holds, name: str) -> HeldRun:
     OSError."""
     folder = os.path.join(session.room, name)
     os.mkdir(folder)
-    began = time.monotonic()
+    since, began = time.time(), time.monotonic()
     with open_hall_for(session.hosts) as hall:
         write_holds(holds, folder, hall.address, hall.word)
         server = Server(hall, holds, Motion(folder), session.patience)
@@ -143,4 +145,4 @@ def run_held(session: Session, holds: Holds, name: str) -> HeldRun:
         output = it.read()
     refuse_lost(folder, output)
     traces = read_traces(folder)
-    return HeldRun(holds, folder, status, seconds, server.courses, traces, output)
+    return HeldRun(holds, folder, status, since, seconds, server.courses, traces, output)

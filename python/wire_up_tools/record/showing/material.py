@@ -13,10 +13,11 @@ from wire_up_tools.plan import Plan
 from wire_up_tools.plan_reading import read_plan
 from wire_up_tools.record.showing.asking import Asked
 from wire_up_tools.record.showing.heads import insert_in_head
-from wire_up_tools.record.showing.held_runs import HeldRun, Session, run_held
+from wire_up_tools.record.showing.held_runs import HeldRun, Session
 from wire_up_tools.record.showing.holds import Holds
 from wire_up_tools.record.showing.naming import Naming
 from wire_up_tools.record.showing.orders import Trial
+from wire_up_tools.record.showing.plain_runs import PlainRuns
 from wire_up_tools.record.showing.server import Patience
 from wire_up_tools.record.showing.traces import Traces
 from wire_up_tools.words import TRIED_BY
@@ -81,17 +82,16 @@ def make_trial(asked: Asked, of: Material) -> Trial:
         of.command, of.libraries, of.room, asked.source, find_hosts(plan), patience
     )
     traces = of.first.traces if of.first else {}
-    return Trial(session, of.checker, plan, of.text, Naming(plan), traces)
+    plains = PlainRuns(session, list_plain(of))
+    return Trial(session, of.checker, plan, of.text, Naming(plan), traces, plains)
 
 
-def find_first(of: Material, trial: Trial) -> HeldRun:
-    """The first run, as others are compared with it: where there was none, one is made, in which
-    nothing is held. Raises Refused, NotRun, OSError."""
-    if of.first is None:
-        return run_held(trial.session, Holds(()), "plain")
-    return HeldRun(
-        Holds(()), of.room, of.first.status, of.first.seconds, {}, of.first.traces, b""
-    )
+def list_plain(of: Material) -> list[HeldRun]:
+    """The first run, as others are compared with it; none where there was none."""
+    first = of.first
+    if first is None:
+        return []
+    return [HeldRun(Holds(()), of.room, first.status, 0.0, first.seconds, {}, first.traces)]
 
 
 def say_command(asked: Asked, of: Material) -> str:

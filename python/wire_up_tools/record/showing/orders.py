@@ -11,6 +11,7 @@ from wire_up_tools.record.showing.holds import Holds, Until, Wait
 from wire_up_tools.record.showing.messages import Swap, find_swaps
 from wire_up_tools.record.showing.missing import Missed, find_missed
 from wire_up_tools.record.showing.naming import Naming, Target
+from wire_up_tools.record.showing.plain_runs import PlainRuns, leave_out_own
 from wire_up_tools.record.showing.traces import Traces
 from wire_up_tools.run.turns import read_steps
 
@@ -18,8 +19,8 @@ SHOWN, SHOWN_LATER, ALIKE, NOT_MADE = "shown", "shown-later", "alike", "not-made
 FIRST, SECOND = "first", "second"
 # How many other orders of messages are tried for each order of two calls.
 MOST_SWAPS = 8
-# The statuses with which `witness` answers.
-ANSWERED = (0, 1)
+# The status with which `witness` answers where it shows a race.
+OF_SHOWN = 1
 
 
 @dataclass(frozen=True, eq=False)
@@ -53,7 +54,8 @@ class Shown:
 @dataclass(frozen=True)
 class Trial:
     """What races are tried with: the session, the checker with the plan and its text, the names of
-    its calls, and what the processes did in the first run, if there was one."""
+    its calls, what the processes did in the first run, if there was one, and the runs in which
+    nothing is held."""
 
     session: Session
     checker: Optional[Checker]
@@ -61,6 +63,7 @@ class Trial:
     text: str
     naming: Naming
     traces: Traces
+    plains: PlainRuns
 
 
 @dataclass(frozen=True)
@@ -106,6 +109,12 @@ def make_order(trial: Trial, order: Sequence[Target], name: str) -> Made:
     return Made(run, missed)
 
 
+def compare_made(trial: Trial, runs: Sequence[HeldRun], race: Race) -> Compared:
+    """What differs between two runs of a race. Raises Refused, NotRun, OSError."""
+    compared = compare(runs, race.targets)
+    return leave_out_own(compared, runs, race.targets, trial.plains)
+
+
 def find_word(missed: Sequence[Optional[Missed]], compared: Compared) -> str:
     """The word for what came of a race."""
     if any(missed):
@@ -126,7 +135,7 @@ def order_by_witness(trial: Trial, race: Race, which: str) -> Sequence[Target]:
     if trial.checker is None:
         return ()
     answer = trial.checker.ask("witness", f"--{which}", *race.words, plan=trial.text.encode())
-    if answer.status not in ANSWERED or not answer.stdout:
+    if answer.status != OF_SHOWN:
         return ()
     racing = [trial.plan.find_call(it.process, it.number) for it in race.targets]
     owner = next((it.target for it in racing if it.verb.startswith("get")), None)
@@ -173,11 +182,11 @@ def try_race(trial: Trial, race: Race) -> Shown:
     ]
     runs, missed = [it.run for it in made], [it.missed for it in made]
     means = [f"with {it.swap}" for it in made if it.swap]
-    compared = compare(runs, race.targets)
+    compared = compare_made(trial, runs, race)
     word = find_word(missed, compared)
     by_witness = try_witness(trial, race) if word == ALIKE else None
     if by_witness:
-        others = compare(by_witness[0], race.targets)
+        others = compare_made(trial, by_witness[0], race)
         means.append(by_witness[1])
         if not others.is_alike:
             runs, compared = by_witness[0], others

@@ -6,6 +6,7 @@ from wire_up_tools.record.showing.comparing import NEVER_CAME, Compared, Differe
 from wire_up_tools.record.showing.held_runs import HeldRun
 from wire_up_tools.record.showing.naming import Target
 from wire_up_tools.record.showing.orders import FIRST, NOT_MADE, SECOND, Shown
+from wire_up_tools.record.showing.strikes import find_held_seconds, tell_strikes
 from wire_up_tools.words import TRIED_IN_HEAD
 
 # How many differences are named of each kind.
@@ -13,6 +14,12 @@ NAMED = 4
 # The verbs of calls that ask for something end so.
 ASKING = ("lookup", "lookup-wait", "get-now", "get")
 ENDED_ALIKE = "and they end alike"
+# How long a call was held that this is said, in seconds.
+LEAST_HELD = 0.05
+# What else can have made a difference.
+ANOTHER = "another in each run:"
+PLAIN_TOO = "two plain runs differ too:"
+STRUCK = "a limit of time can have struck:"
 
 
 def say_reply(run: HeldRun, target: Target) -> str:
@@ -29,9 +36,30 @@ def name_call(target: Target) -> str:
 def say_differences(word: str, found: Sequence[Difference]) -> Iterator[str]:
     """Lines for some differences of one kind."""
     for it in found[:NAMED]:
-        yield f"  {word} {it.process} {it.what}: {it.first} | {it.second}"
+        yield f"  {word} {it}"
     if len(found) > NAMED:
         yield f"  {word} {len(found) - NAMED} more"
+
+
+def say_doubts(compared: Compared, strikes: Sequence[str]) -> Iterator[str]:
+    """Lines that say what else can have made a difference: other values in each run, luck, and
+    limits of time."""
+    yield from say_differences(ANOTHER, compared.own)
+    yield from say_differences(PLAIN_TOO, compared.plain)
+    yield from (f"  {STRUCK} {it}" for it in strikes)
+
+
+def sum_up_doubts(compared: Compared, strikes: Sequence[str]) -> str:
+    """The same in a few words."""
+    doubts = [f"{ANOTHER} {it.process} {it.what}" for it in compared.own[:1]]
+    doubts += [f"{PLAIN_TOO} {it.process} {it.what}" for it in compared.plain[:1]]
+    doubts += [f"{STRUCK} {it}" for it in strikes[:1]]
+    return "".join(f"; {it}" for it in doubts)
+
+
+def list_strikes(shown: Shown) -> list[str]:
+    """The limits of time that can have struck in the runs of a race."""
+    return list(dict.fromkeys(it for run in shown.runs for it in tell_strikes(run)))
 
 
 def say_ending(shown: Shown) -> str:
@@ -52,29 +80,35 @@ def say_shown(shown: Shown) -> Iterator[str]:
     yield f"{shown.word} {shown.race.line}: {calls}"
     for which, run, missed in zip((FIRST, SECOND), shown.runs, shown.missed):
         replies = " | ".join(say_reply(run, it) for it in shown.race.targets)
-        yield f"  {which} {replies} ({run.ending}, {run.seconds:.1f} s)"
+        seconds = find_held_seconds(run)
+        held = f", held for {seconds:.1f} s" if seconds >= LEAST_HELD else ""
+        yield f"  {which} {replies} ({run.ending}, {run.seconds:.1f} s{held})"
         if missed:
             yield f"    not made: {missed}"
     yield from (f"  {it}" for it in shown.means)
     if shown.word == NOT_MADE:
+        yield from (f"  {STRUCK} {it}" for it in list_strikes(shown))
         return
     yield from say_differences("replies", shown.compared.others)
     yield from say_differences("parts", shown.compared.partings)
     if not shown.compared.is_alike:
         yield f"  {say_ending(shown)}"
+    yield from say_doubts(shown.compared, list_strikes(shown))
 
 
 def sum_up(shown: Shown) -> str:
     """What came of a race, in one line."""
     if shown.word == NOT_MADE:
-        return "; ".join(str(it) for it in dict.fromkeys(shown.missed) if it)
+        why = "; ".join(str(it) for it in dict.fromkeys(shown.missed) if it)
+        return "".join([why, *(f"; {STRUCK} {it}" for it in list_strikes(shown)[:1])])
     compared = shown.compared
     asking = [it for it in compared.targets if it.what.endswith(ASKING)]
     told = asking or compared.targets or [*compared.others, *compared.partings]
     replies = [f"{it.process} {it.what}: {it.first} and {it.second}" for it in told[:1]]
     if not compared.is_alike:
         replies.append(say_ending(shown).replace(" | ", " and "))
-    return "; ".join(replies) or "both orders were made, and nothing differs"
+    said = "; ".join(replies) or "both orders were made, and nothing differs"
+    return f"{said}{sum_up_doubts(compared, list_strikes(shown))}"
 
 
 def say_in_head(shown: Shown, day: str) -> str:
@@ -84,7 +118,13 @@ def say_in_head(shown: Shown, day: str) -> str:
 
 def list_differences(compared: Compared) -> dict[str, Any]:
     """What differs, for JSON."""
-    kinds = {"targets": compared.targets, "replies": compared.others, "parts": compared.partings}
+    kinds = {
+        "targets": compared.targets,
+        "replies": compared.others,
+        "parts": compared.partings,
+        "own": compared.own,
+        "plain": compared.plain,
+    }
     return {
         kind: [
             {"proc": it.process, "what": it.what, "first": it.first, "second": it.second}
@@ -103,6 +143,7 @@ def make_json_of_run(
         "replies": [say_reply(run, it) for it in targets],
         "status": run.status,
         "seconds": round(run.seconds, 1),
+        "held": round(find_held_seconds(run), 1),
         "missed": str(missed) if missed else None,
     }
 
@@ -118,5 +159,6 @@ def make_json(shown: Shown) -> dict[str, Any]:
         "runs": [make_json_of_run(*it, targets) for it in runs],
         "means": list(shown.means),
         **list_differences(shown.compared),
+        "limits": list_strikes(shown),
         "is_output_alike": not shown.compared.writes_otherwise,
     }

@@ -9,13 +9,13 @@ from wire_up_tools.record.showing.material import (
     Material,
     Result,
     Say,
-    find_first,
     make_trial,
     tell_day,
     write_result,
 )
 from wire_up_tools.record.showing.orders import Race, Trial, try_race
 from wire_up_tools.record.showing.pairs import ASK, WAIT, Pair, find_pairs
+from wire_up_tools.record.showing.same_program import hold_to_plan
 from wire_up_tools.record.showing.saying import make_json, say_in_head, say_shown
 from wire_up_tools.record.showing.turning import (
     GAVE_UP,
@@ -99,9 +99,22 @@ def say_before(what: str, count: int, say: Say) -> None:
         )
 
 
+def hold_command(trial: Trial, say: Say) -> None:
+    """Runs the command of a plan that was recorded before once by itself, to see whether the plan
+    is of this command. Raises Refused, NotRun, OSError."""
+    if trial.plains.made:
+        return
+    say("the command runs once by itself first: what it does to files and to others, it does again")
+    said = hold_to_plan(trial, trial.plains.find()[0])
+    if said:
+        say(said)
+
+
 def try_races(trial: Trial, races: Sequence[Race], result: Result, say: Say) -> None:
     """Tries races, one after another, and says what came of each. Raises Refused, NotRun,
     OSError."""
+    if races:
+        hold_command(trial, say)
     say_before(f"races that are tried: {len(races)}", RUNS * len(races), say)
     for race in races:
         shown = try_race(trial, race)
@@ -159,7 +172,7 @@ def say_turns(trial: Trial, turns: Sequence[Turn], are_all: bool, say: Say) -> l
     return head
 
 
-def turn_all(trial: Trial, of: Material, asked: Asked, result: Result, say: Say) -> None:
+def turn_all(trial: Trial, asked: Asked, result: Result, say: Say) -> None:
     """Turns the orders of a plan round, and says what came of each. Raises Refused, NotRun,
     OSError."""
     pairs, are_all = take_pairs(trial, asked, say)
@@ -167,11 +180,11 @@ def turn_all(trial: Trial, of: Material, asked: Asked, result: Result, say: Say)
     if not pairs:
         say("the plan orders no pair of calls that could be answered otherwise")
         return
+    hold_command(trial, say)
     say_before(f"orders that are turned round: {len(pairs)}", len(groups), say)
-    reference = find_first(of, trial)
     try:
         for number, (held, others) in enumerate(groups, 1):
-            for turn in turn_round(trial, reference, held, others, f"turn-{number}"):
+            for turn in turn_round(trial, held, others, f"turn-{number}"):
                 turns.append(turn)
                 result.turned.append(make_json_of_turn(turn))
                 for line in say_turn(turn):
@@ -194,7 +207,7 @@ def show(asked: Asked, of: Material, say: Say) -> None:
         if asked.does_show:
             try_races(trial, find_races(trial, asked.most, say), result, say)
         if asked.does_turn:
-            turn_all(trial, of, asked, result, say)
+            turn_all(trial, asked, result, say)
     except Stopped as why:
         result.head.append(f"# {TRIED_STOPPED} {tell_day()} by signal {why.number}")
         raise

@@ -12,7 +12,14 @@ from wire_up_tools.record.showing.missing import IN_CALLBACK, tell_standing
 from wire_up_tools.record.showing.naming import Target
 from wire_up_tools.record.showing.orders import Trial
 from wire_up_tools.record.showing.pairs import Pair
-from wire_up_tools.record.showing.saying import name_call
+from wire_up_tools.record.showing.plain_runs import leave_out_own
+from wire_up_tools.record.showing.saying import (
+    list_differences,
+    name_call,
+    say_doubts,
+    sum_up_doubts,
+)
+from wire_up_tools.record.showing.strikes import find_held_seconds, tell_strikes
 
 KEPT, TURNED, TURNED_ALIKE, NOT_TURNED = "kept", "turned", "turned-alike", "not-made"
 GAVE_UP = "gave-up"
@@ -23,12 +30,14 @@ WAITING = ("get", "lookup-wait")
 @dataclass(frozen=True, eq=False)
 class Turn:
     """What came of a pair, of which the plan has the first call before the second: a word for it,
-    why, and what differs from the first run, where the order was turned."""
+    why, what differs from the first run, where the order was turned, and which limits of time can
+    have struck."""
 
     pair: Pair
     word: str
     why: str = ""
     compared: Optional[Compared] = None
+    strikes: Sequence[str] = ()
 
     @property
     def name(self) -> str:
@@ -61,16 +70,18 @@ def judge_kept(run: HeldRun, held: Target, other: Target) -> Turn:
     return Turn((held, other), KEPT, standing.why)
 
 
-def judge_early(run: HeldRun, first: HeldRun, held: Target, other: Target) -> Turn:
-    """A call that was over while the one before it was held."""
-    compared = compare([first, run], [held, other])
+def judge_early(trial: Trial, run: HeldRun, held: Target, other: Target) -> Turn:
+    """A call that was over while the one before it was held. Raises Refused, NotRun, OSError."""
+    runs = [*trial.plains.find(), run]
+    compared = leave_out_own(compare(runs, [held, other]), runs, [held, other], trial.plains)
     if other.verb in WAITING:
         call = run.find(other)
         took = (call.ended or call.began) - call.began if call else 0.0
         said = call.reply if call else ""
         return Turn((held, other), GAVE_UP, f"{said} after {took:.1f} s", compared)
     word = TURNED_ALIKE if compared.is_alike else TURNED
-    return Turn((held, other), word, run.ending, compared)
+    why = f"{run.ending}, held for {find_held_seconds(run):.1f} s"
+    return Turn((held, other), word, why, compared, tell_strikes(run))
 
 
 def tell_why_not(course: Course) -> str:
@@ -81,7 +92,7 @@ def tell_why_not(course: Course) -> str:
 
 
 def turn_round(
-    trial: Trial, first: HeldRun, held: Target, others: Sequence[Target], name: str
+    trial: Trial, held: Target, others: Sequence[Target], name: str
 ) -> Iterator[Turn]:
     """Holds a call until any of some others is over, and says what came of each. Those that such a
     run doesn't judge are tried again. Raises Refused, NotRun, OSError."""
@@ -97,7 +108,7 @@ def turn_round(
             why = f"{held.place} {tell_why_not(course)} ({run.ending})"
             yield from (Turn((held, it), NOT_TURNED, why) for it in left)
             return
-        yield from (judge_early(run, first, held, it) for it in early)
+        yield from (judge_early(trial, run, held, it) for it in early)
         left = [it for it in left if it not in early]
         if not early or not left:
             return
@@ -113,28 +124,34 @@ def say_turn(turn: Turn) -> Iterator[str]:
     """The lines that say what came of a pair."""
     yield f"{turn.word} {turn.name}: {turn.why}" if turn.why else f"{turn.word} {turn.name}"
     compared = turn.compared
-    if compared is None or turn.word == TURNED_ALIKE:
+    if compared is None:
         return
-    for it in [*compared.targets, *compared.others, *compared.partings]:
-        yield f"  {it.process} {it.what}: {it.first} | {it.second}"
+    if turn.word != TURNED_ALIKE:
+        yield from (f"  {it}" for it in compared.differences)
+    yield from say_doubts(compared, turn.strikes)
 
 
 def sum_up_turn(turn: Turn) -> str:
     """What came of a pair that was turned, in one line."""
     compared = turn.compared
-    found = [*compared.targets, *compared.others, *compared.partings] if compared else []
-    if not turn.is_alarm or not found:
+    if compared is None:
         return f"{turn.name}: {turn.why}"
-    one = found[0]
-    return f"{turn.name}: {one.process} {one.what}: {one.first} and {one.second}"
+    doubts = sum_up_doubts(compared, turn.strikes)
+    if not turn.is_alarm or not compared.differences:
+        return f"{turn.name}: {turn.why}{doubts}"
+    one = compared.differences[0]
+    return f"{turn.name}: {one.process} {one.what}: {one.first} and {one.second}{doubts}"
 
 
 def make_json_of_turn(turn: Turn) -> dict[str, Any]:
     """What came of a pair, for JSON."""
     first, second = turn.pair
     return {
+        "pair": turn.name,
         "first": first.place,
         "second": second.place,
         "word": turn.word,
         "why": turn.why,
+        **(list_differences(turn.compared) if turn.compared else {}),
+        "limits": list(turn.strikes),
     }

@@ -1,0 +1,73 @@
+"""Runs in which nothing is held: what differs between two of them is the program's own."""
+from collections.abc import Sequence
+from dataclasses import dataclass, field, replace
+
+from wire_up_tools.record.showing.comparing import Compared, Difference, compare
+from wire_up_tools.record.showing.held_runs import HeldRun, Session, run_held
+from wire_up_tools.record.showing.holds import Holds
+from wire_up_tools.record.showing.naming import Target
+
+# How many of them are compared.
+COMPARED = 2
+
+
+@dataclass(eq=False)
+class PlainRuns:
+    """The runs of a session in which nothing is held, made as they are needed: the first one may be
+    there already."""
+
+    session: Session
+    made: list[HeldRun] = field(default_factory=list)
+
+    def find(self, count: int = 1) -> Sequence[HeldRun]:
+        """So many of them. Raises Refused, NotRun, OSError."""
+        while len(self.made) < count:
+            self.made.append(run_held(self.session, Holds(()), f"plain-{len(self.made) + 1}"))
+        return self.made[:count]
+
+
+def find_shape(text: str, is_parting: bool) -> Sequence[str]:
+    """What of a reply, or of where calls part, isn't a value or a name: the status, or the
+    verbs."""
+    items = text.split(", ") if is_parting else [text]
+    return tuple(it.partition(" ")[0] for it in items)
+
+
+def is_own(it: Difference, plain: Sequence[Difference], count: int, is_parting: bool) -> bool:
+    """Whether each of so many runs has another value or name there, two plain ones among them."""
+    for other in plain:
+        texts = {it.first, it.second, other.first, other.second}
+        shapes = {find_shape(text, is_parting) for text in texts}
+        is_same_call = (it.process, it.what) == (other.process, other.what)
+        if is_same_call and len(texts) == count and len(shapes) == 1:
+            return True
+    return False
+
+
+def tell_ends(runs: Sequence[HeldRun]) -> list[Difference]:
+    """How two runs ended, where they ended otherwise."""
+    first, second = (it.ending for it in runs)
+    return [Difference("the program", "ended", first, second)] if first != second else []
+
+
+def leave_out_own(
+    compared: Compared, runs: Sequence[HeldRun], targets: Sequence[Target], plains: PlainRuns
+) -> Compared:
+    """What differs between two runs, without values and names that are others in each run, and
+    with what differs between two plain runs. Where nothing differs, none is made. Raises Refused,
+    NotRun, OSError."""
+    if compared.is_alike:
+        return compared
+    two = plains.find(COMPARED)
+    plain, count = compare(two, targets), len({id(it) for it in (*runs, *two)})
+    own = [it for it in compared.targets if is_own(it, plain.targets, count, False)]
+    own += [it for it in compared.others if is_own(it, plain.others, count, False)]
+    own += [it for it in compared.partings if is_own(it, plain.partings, count, True)]
+    return replace(
+        compared,
+        targets=[it for it in compared.targets if it not in own],
+        others=[it for it in compared.others if it not in own],
+        partings=[it for it in compared.partings if it not in own],
+        own=own,
+        plain=[it for it in plain.differences if not any(map(it.is_about, own))] + tell_ends(two),
+    )

@@ -1,0 +1,77 @@
+/* Small programs without MPI in each of which process 0 puts a key and commits, and another gets it. The first word says which:
+ *
+ *   at-once   the last process gets it at once, a little later: a race where both are on one node
+ *   carried   processes 0 and 1 meet besides at a fence that brings the key to the node of 1, and 3 gets it at once: a race
+ *   fenced    all meet before, so that it is there: no race
+ *   brief     process 1 waits for it for a second at most
+ */
+#include <pmix.h>
+#include <stdio.h>
+#include <string.h>
+#include <unistd.h>
+
+#define MILLISECONDS 1000
+#define KEY "card"
+static pmix_proc_t me;
+
+static void put(void)
+{
+    pmix_value_t value = {.type = PMIX_STRING, .data.string = "address"};
+    PMIx_Put(PMIX_GLOBAL, KEY, &value);
+    PMIx_Commit();
+}
+
+static void get(const char *directive, int seconds)
+{
+    pmix_proc_t owner = me;
+    pmix_info_t info;
+    pmix_value_t *found = NULL;
+    bool is_true = true;
+    owner.rank = 0;
+    if (seconds)
+        PMIX_INFO_LOAD(&info, directive, &seconds, PMIX_INT);
+    else
+        PMIX_INFO_LOAD(&info, directive, &is_true, PMIX_BOOL);
+    pmix_status_t status = PMIx_Get(&owner, KEY, &info, 1, &found);
+    printf("%s\n", status == PMIX_SUCCESS ? found->data.string : "nothing");
+}
+
+/* Meets the first processes, so many, or all: what they have put comes along. */
+static void meet(size_t count)
+{
+    pmix_proc_t members[2] = {me, me};
+    pmix_info_t info;
+    bool is_true = true;
+    members[0].rank = 0;
+    members[1].rank = 1;
+    PMIX_INFO_LOAD(&info, PMIX_COLLECT_DATA, &is_true, PMIX_BOOL);
+    PMIx_Fence(count ? members : NULL, count, &info, 1);
+}
+
+int main(int count, char **words)
+{
+    const char *word = count > 1 ? words[1] : "";
+    pmix_value_t *size;
+    pmix_proc_t all;
+    if (PMIx_Init(&me, NULL, 0) != PMIX_SUCCESS)
+        return 1;
+    PMIX_LOAD_PROCID(&all, me.nspace, PMIX_RANK_WILDCARD);
+    if (PMIx_Get(&all, PMIX_JOB_SIZE, NULL, 0, &size) != PMIX_SUCCESS)
+        return 1;
+    unsigned last = size->data.uint32 - 1;
+    int is_fenced = !strcmp(word, "fenced"), is_carried = !strcmp(word, "carried");
+    if (me.rank == 0)
+        put();
+    if (is_fenced)
+        meet(0);
+    if (is_carried && me.rank < 2)
+        meet(2);
+    if (!strcmp(word, "brief")) {
+        if (me.rank == 1)
+            get(PMIX_TIMEOUT, 1);
+    } else if (me.rank == last) {
+        usleep(400 * MILLISECONDS);
+        get(PMIX_IMMEDIATE, 0);
+    }
+    return PMIx_Finalize(NULL, 0) != PMIX_SUCCESS;
+}
