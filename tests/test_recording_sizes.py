@@ -108,7 +108,21 @@ def shift(rank: int, sides: Sequence[int], side: int, by: int) -> int:
 def go_round(size: int) -> list[Tape]:
     """Rank 0 publishes a port; each rank of a grid of three sides sends to both neighbours along
     each; then all look the port up. Where a side has 2, those along it hear of each other."""
-    tapes, sides = make_world(size), SIDES[size]
+    return take_round(make_world(size))
+
+
+def meet_and_go_round(size: int) -> list[Tape]:
+    """The same behind a barrier, which tells nobody of the port."""
+    tapes = make_world(size)
+    for it in tapes:
+        it.call("collective barrier 1", "0 all")
+    return take_round(tapes)
+
+
+def take_round(tapes: list[Tape]) -> list[Tape]:
+    """Writes what `go_round` does on tapes."""
+    size = len(tapes)
+    sides = SIDES[size]
     publish(tapes[0], "port")
     for side in range(3):
         for by in (1, -1):
@@ -256,10 +270,11 @@ class AnswerTest(unittest.TestCase):
         said = self.ask(go_round, (4,), (8,))
         self.assertEqual(said["findings"], [])
         self.assertIn("in a grid of 8 ranks a side may have 2", said["notes"][0])
-        said = self.ask(go_round, (4,), (8, 27))
-        self.assertEqual(said["findings"], ["race app:0 1 app:1 1 name port"])
-        self.assertEqual((said["shown"], said["ranks"]), ("pattern", 2))
-        self.assertIn("doesn't grow with their number, and was left out", said["notes"][0])
+        for make in (go_round, meet_and_go_round):
+            said = self.ask(make, (4,), (8, 27))
+            self.assertEqual(said["findings"], ["race app:0 1 app:1 1 name port"])
+            self.assertEqual((said["shown"], said["ranks"]), ("pattern", 2))
+            self.assertIn("doesn't grow with their number, and was left out", said["notes"][0])
 
     def test_no_call_that_can_race(self) -> None:
         said = self.ask(put_cards, (3, 4), (8,))

@@ -166,7 +166,7 @@ def measure_claim(instance: Instance, claim: Claim) -> int:
             first = bounds[claim.known] if role.name == claim.source else 0
             last = bounds[claim.at] if role.name == claim.role else bounds[-1]
             parts[rank] = first, last
-    return measure(instance.plan, parts)
+    return measure(instance.plan, parts, set(instance.roles.find(claim.source).ranks))
 
 
 def find_claims(

@@ -1,6 +1,6 @@
 """What it takes MPI to let ranks know of each other. What is known of any number of ranks must rest
 on something that grows with it."""
-from collections.abc import Mapping, Sequence
+from collections.abc import Mapping, Sequence, Set
 from dataclasses import dataclass
 
 from wire_up_tools.record.draft import Step
@@ -36,22 +36,27 @@ class Tally:
         return sum(max(it.values()) for it in (self.got, self.gave, self.depth))
 
 
-def measure(plan: SizedPlan, parts: Mapping[str, Part]) -> int:
-    """How much MPI does in a part of each rank: the most messages that a rank gets, the most of one
-    rank that are waited for, and the longest chain."""
+def measure(plan: SizedPlan, parts: Mapping[str, Part], known: Set[str]) -> int:
+    """How much MPI does in a part of each rank to tell of where the parts of the ranks that are
+    `known` begin: the most messages that a rank gets, the most of one rank that are waited for, and
+    the longest chain."""
     made = dict.fromkeys(plan.ranks, 0)
     tally = Tally(dict(made), dict(made), dict(made), {})
+    told, telling = set[str](), set[Call]()
     for step, rank, call, sources in Walk(plan, True).take():
         first, last = parts[rank]
-        if step is Step.REACHED:
+        heard = [it for it in sources if it.call in telling]
+        if heard or rank in known and made[rank] >= first:
+            told.add(rank)
+        if step is Step.REACHED or call.verb in ("publish", "commit"):
             tally.reached[call] = tally.depth[rank]
+            telling.update({call} if rank in told else ())
+        if step is Step.REACHED:
             continue
         if call.is_order and first <= made[rank] <= last:
-            tally.add(rank, sources, call.verb == "fence")
+            tally.add(rank, heard, call.verb == "fence")
         elif call.verb == "fence":
-            depths = [tally.reached[it.call] for it in sources]
+            depths = [tally.reached[it.call] for it in heard]
             tally.depth[rank] = max([tally.depth[rank], *depths])
-        if call.verb == "publish":
-            tally.reached[call] = tally.depth[rank]
         made[rank] += not call.is_order
     return tally.total
