@@ -9,7 +9,7 @@ use Rattle.wire_order_laws.proofs.WholeFences.{fewer_fences_find}
 
 tells : {lean plan : Plan} → IsLeaner lean plan → IsSettled lean → IsSettled plan
 tells {lean = lean} {plan = plan} (LacksOrder pieces less) settled = less_order_finds lean plan pieces less settled
-tells {lean = lean} {plan = plan} (TellsOrder pieces adds) settled = order_there_finds plan lean pieces adds settled
+tells {lean = lean} {plan = plan} (TellsOrder pieces adds) settled = (order_there_finds plan lean pieces adds).0 settled
 tells {lean = lean} {plan = plan} (LacksUnread bare) settled = bare_finds lean plan bare settled
 tells {lean = lean} {plan = plan} (LacksFences gone bare) settled = fewer_fences_find gone lean plan bare settled
 tells (Further a b) settled = tells b (tells a settled)

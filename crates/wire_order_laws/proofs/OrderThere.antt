@@ -15,7 +15,8 @@ use Rattle.wire_runs.proofs.Images.{image_later, stored_end, puts_end, stores_in
 use Rattle.wire_runs.proofs.EmbeddedOrder.{chain_into}
 use Rattle.wire_runs.proofs.EmbeddedFindings.{scope_same, get_delivers_back, fence_delivers_back}
 use Rattle.wire_order_laws.specs.OrderThere.{AddsNoOrder, OrderThereFinds}
-use Rattle.wire_order_laws.proofs.AddedNames.{e as stands_in, spot as spot_of, kind_into as kind_there, kind_back as kind_here, once_back as once_here, full_same as full_there, arrival_spot as arrival_of, chain_back as chain_here, live_into as live_there}
+use Rattle.wire_order_laws.proofs.LessOrder.{less_order_finds}
+use Rattle.wire_order_laws.proofs.AddedNames.{less, e as stands_in, spot as spot_of, kind_into as kind_there, kind_back as kind_here, once_back as once_here, full_same as full_there, arrival_spot as arrival_of, chain_back as chain_here, live_into as live_there}
 
 module _ (small large : Plan) (pieces : ℕ → List Piece) (adds : AddsNoOrder small large pieces) where
   abbrev to : Renaming
@@ -196,4 +197,4 @@ module _ (small large : Plan) (pieces : ℕ → List Piece) (adds : AddsNoOrder 
   }
 
 pub order_there_finds : OrderThereFinds
-order_there_finds small large pieces adds settled = settled_less small large pieces adds settled
+order_there_finds small large pieces adds = (settled_less small large pieces adds, less_order_finds small large pieces (less small large pieces adds))

@@ -1,6 +1,6 @@
 -- Order that is there: a plan, and the same plan with names of its own between its calls, each published once and waited
 -- for, which order nothing that the plan doesn't order.
-use Rattle.std.specs.Prelude.{◌≡◌, ℕ, ◌<◌, List, [], ◌∷◌, Some}
+use Rattle.std.specs.Prelude.{◌≡◌, ℕ, ◌<◌, List, [], ◌∷◌, Some, ◌↔◌}
 use Rattle.wire_runs.specs.Plan.{Plan, Event, Kind, Publish, LookupWait, kind, kinds, node_of}
 use Rattle.wire_runs.specs.Order.{PublishesOnce, Live, Before}
 use Rattle.wire_runs.specs.Races.{IsSettled}
@@ -57,7 +57,7 @@ pub record AddsNoOrder (small large : Plan) (pieces : ℕ → List Piece) : Type
   pub passed : (u y : Event) → IsTold small large pieces u y → (v : Event) (name : ℕ) → AwaitsNew small large v name
       → v.proc ≡ u.proc → v.at < u.at → (x : Event) × IsBehind pieces x v × Before small x y
 
--- where nothing is found with such names, nothing is found without them
+-- nothing is found with such names exactly where nothing is found without them
 abbrev pub OrderThereFinds : Type 0
 OrderThereFinds = (small large : Plan) (pieces : ℕ → List Piece) → AddsNoOrder small large pieces
-    → IsSettled large → IsSettled small
+    → IsSettled large ↔ IsSettled small

@@ -16,7 +16,8 @@ pub fn fewer_fences_find()
     ensures { FewerFencesFind }
 {}
 
-/// Where a plan with names of its own that order nothing has no finding, it has none without them.
+/// A plan with names of its own that order nothing has a finding exactly where it has one without
+/// them.
 pub fn order_there_finds()
     ensures { OrderThereFinds }
 {}
