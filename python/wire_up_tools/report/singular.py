@@ -33,7 +33,7 @@ def say_counted(line: str) -> str:
     if not ONE.match(line):
         return line
     noun = line.split(" ")[1]
-    one = noun.removesuffix("es" if noun.endswith("sses") else "s")
+    one = noun.removesuffix("es" if noun.endswith(("sses", "shes")) else "s")
     said = line.replace(noun, one, 1)
     for plural, singular in BEHIND:
         said = re.sub(rf"\b{plural}\b", singular, said)
