@@ -9,6 +9,8 @@ assert support.TOP, "it says where the package is"
 SAID = {
     "2 receives that failed": "2 receives that failed",
     "11 calls of MPI_Put": "11 calls of MPI_Put",
+    "1 gets of the own store: in the plan they find all": "1 get of the own store: in the plan it "
+    "finds all",
     "1 publishes of no key, or of reserved keys": "1 publish of no key, or of reserved keys",
     "1 receives that failed": "1 receive that failed",
     "1 receives that were the first of several requests":

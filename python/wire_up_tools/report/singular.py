@@ -24,6 +24,8 @@ BEHIND = (
     ("they got", "it got"),
     ("they went", "it went"),
     ("they stay", "it stays"),
+    ("they find all", "it finds all"),
+    ("their gets of what they stored", "its gets of what it stored"),
     ("they wait", "it waits"),
 )
 
