@@ -47,6 +47,8 @@ class OptionsTest(unittest.TestCase):
             self.assertEqual(answer_alone(asked, "name", "help"), "help")
         for others in (["-V", "-V"], ["a", "--help"]):
             self.assertIsNone(answer_alone(others, "name", "help"))
+        with self.assertRaisesRegex(Unusable, "--help stands alone"):
+            Parser(OPTIONS).read(["--help", "-o", "b"])
 
     def test_the_version(self) -> None:
         """It is that of the program."""
@@ -68,7 +70,7 @@ class OptionsTest(unittest.TestCase):
             "--loud=1 is no option": ["--loud=1"],
             "-5 is no option": ["-5"],
             "-a b is no option": ["-a b"],
-            "-h is no option": ["-o", "a", "-h"],
+            "-h stands alone": ["-o", "a", "-h"],
         }
         for said, words in wrong.items():
             with self.subTest(said), self.assertRaises(Unusable) as raised:

@@ -93,7 +93,7 @@ class CommandLineTest(RoomTest):
         self.use(["-o", self.plan, "--from"], 125, "which recordings?")
 
     def test_options(self) -> None:
-        more = "; wire_up-record --help tells more\n"
+        more = " (wire_up-record --help tells more)\n"
         said = f"wire_up-record: --loud is no option{more}"
         self.use(["-o", self.plan, "--loud", "true"], 125, said)
         self.use(["-o", self.plan, "--str", "true"], 125, "--str is no option")
@@ -107,7 +107,7 @@ class CommandLineTest(RoomTest):
 
     def test_an_error_is_one_line(self) -> None:
         ran = run_recorder("-o")
-        said = "wire_up-record: -o needs a file; wire_up-record --help tells more\n"
+        said = "wire_up-record: -o needs a file (wire_up-record --help tells more)\n"
         self.assertEqual(ran.stderr, said)
 
     def test_recordings(self) -> None:

@@ -7,6 +7,7 @@ from collections.abc import Sequence
 from tapes import Tape, in_world, make_world, read_file, read_scripts
 from test_recording_premises import COLLECTING, PremisesCase, exchange_cards
 from wire_up_tools.report.singular import say_counted
+from wire_up_tools.report.verdict import say_recording
 from wire_up_tools.words import LEFT_OUT, LEFT_OUT_HARMLESS, MORE_ORDERED, OTHERWISE_AFTER
 
 IN_PART = "a verdict over this plan holds only in part: "
@@ -141,6 +142,68 @@ class LuckTest(SilentCase):
             self.assertIn(f"{ends}: another run may do otherwise after them\n", said)
             self.assertIn(f"\n# {ends}", read_file(self.plan))
             self.assertIn("1 polled request", self.report().reasons[0])
+
+
+class OrderTest(SilentCase):
+    """What orders processes, and hides no race where it is left out."""
+
+    def make_jobs(self, *said: str) -> list[Tape]:
+        """Two jobs, of which the first started the other, and says more."""
+        tapes = [Tape(0, "first"), Tape(0, "second")]
+        for it in ("others PMIx_Spawn 1", *said):
+            tapes[0].say(it)
+        return tapes
+
+    def test_jobs_that_are_started(self) -> None:
+        """Where each start made a job that is recorded."""
+        settled = "1 calls of PMIx_Spawn, since they can't change a finding"
+        self.hold_harmless(self.make_jobs(), settled)
+        self.hold(self.make_jobs("others PMIx_Spawn 2"), LEFT_OUT, "2 calls of PMIx_Spawn")
+
+    def test_jobs_that_are_connected(self) -> None:
+        """They get one another's keys: it matters to a get that doesn't wait."""
+        what = "1 calls of PMIx_Connect"
+        self.hold_harmless(
+            self.make_jobs("others PMIx_Connect 1"), f"{what}, since they can't change a finding"
+        )
+        tapes = self.make_jobs("others PMIx_Connect 1")
+        tapes[1].call("put global a text:1").call("commit")
+        tapes[0].call(f"get blocks second:0 :a {AT_ONCE}", "0 text:1")
+        self.hold(tapes, LEFT_OUT, what)
+
+    def test_peers_that_are_asked_for(self) -> None:
+        """Those of a job are known at its start."""
+        what = "1 calls of PMIx_Resolve_peers"
+        tapes = [Tape(0).say("others PMIx_Resolve_peers 1")]
+        self.hold_harmless(tapes, f"{what}, since they can't change a finding")
+        self.hold(self.make_jobs("others PMIx_Resolve_peers 1"), LEFT_OUT, what)
+
+    def test_messages_in_unknown_communicators(self) -> None:
+        """The page of a race says that they may order its calls."""
+        tapes = make_world(2)
+        tapes[0].say("other MPI_Send in a communicator that isn't known")
+        self.hold_harmless(tapes, "1 calls of MPI_Send in a communicator that isn't known")
+        tapes = make_world(2)
+        tapes[0].call("publish blocks n=text:v -")
+        tapes[0].say("other MPI_Send in a communicator that isn't known")
+        tapes[1].call("lookup blocks :n -", "0 n=text:v")
+        self.record(tapes)
+        said = "what is left out can hide no race, but can order the calls of one"
+        self.assertIn(said, say_recording(self.report()))
+
+    def test_groups_that_are_refused(self) -> None:
+        tapes = make_world(2)
+        tapes[0].call("group construct :g job:0,job:1 -", "-47")
+        self.hold_harmless(
+            tapes,
+            "1 calls that make or end groups, and that the library refused, since they can't "
+            "change a finding",
+        )
+
+    def test_events_that_are_sent(self) -> None:
+        """They are told of where there is a handler."""
+        tapes = [Tape(0).say("others PMIx_Notify_event 1")]
+        self.hold_harmless(tapes, "1 calls of PMIx_Notify_event")
 
 
 class GetsTest(SilentCase):

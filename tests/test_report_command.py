@@ -77,7 +77,7 @@ class RefusalsTest(CommandCase):
         """Tests that a command line is refused with this line alone."""
         ran = report_support.run_report(*words)
         self.assertEqual((ran.returncode, ran.stdout), (FAILED, ""))
-        more = "; wire_up-report --help tells more"
+        more = " (wire_up-report --help tells more)"
         self.assertEqual(ran.stderr, f"wire_up-report: {line}{more}\n")
         self.check_kept()
 

@@ -48,6 +48,21 @@ class FixesTest(unittest.TestCase):
             "m.c:8.",
         )
 
+    def test_a_poll_of_a_name(self) -> None:
+        """It is said where one line asks again and again, and one call could wait."""
+        said = "It is called 3 times there: if that is a poll until the name is found, runs differ"
+        line = "race a:0 1 a:1 1 name port"
+        for scripts, is_said in (
+            ((PUBLISH, LOOKUP + 2 * "lookup port\n"), True),
+            ((PUBLISH, LOOKUP), False),
+            ((PUBLISH, LOOKUP + LOOKUP.replace("8", "9") + "lookup other\n"), False),
+            ((PUBLISH + "unpublish port\n", LOOKUP + 2 * "lookup port\n"), False),
+        ):
+            plan = read(*scripts)
+            found = explaining.explain(read_line(plan, line), find_order(plan))
+            self.assertEqual(said in found, is_said, found)
+            self.assertEqual("is one call that waits" in found, is_said)
+
     def test_a_publish_of_another_job_comes_first(self) -> None:
         text = f"{RECORDED}{HEAD}rank n\n{PUBLISH}job b\nrank n\n{LOOKUP}"
         said = fix(read_plan(text.encode()), "race a:0 1 b:0 1 name port")

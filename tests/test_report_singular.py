@@ -9,6 +9,9 @@ assert support.TOP, "it says where the package is"
 SAID = {
     "2 receives that failed": "2 receives that failed",
     "11 calls of MPI_Put": "11 calls of MPI_Put",
+    "1 gets of the own store: in the plan they find all": "1 get of the own store: in the plan it "
+    "finds all",
+    "1 publishes of no key, or of reserved keys": "1 publish of no key, or of reserved keys",
     "1 receives that failed": "1 receive that failed",
     "1 receives that were the first of several requests":
         "1 receive that was the first of several requests",
@@ -19,7 +22,8 @@ SAID = {
     "1 names that go away by themselves (pmix.persist): in the plan they stay":
         "1 name that goes away by itself (pmix.persist): in the plan it stays",
     "1 names that go away with their application, and that another looks up: in the plan they stay":
-        "1 name that goes away with its application, and that another looks up: in the plan it stays",
+        "1 name that goes away with its application, and that another looks up: in the plan it "
+        "stays",
     "1 values that aren't text: their size in bytes stands for them, where it is known":
         "1 value that isn't text: its size in bytes stands for it, where it is known",
 }

@@ -312,7 +312,7 @@ class CommandLine(unittest.TestCase):
                 self.assertEqual((125, ""), (ran.returncode, ran.stdout))
                 self.assertIn(said, ran.stderr)
                 self.assertEqual(1, ran.stderr.count("\n"))
-                self.assertTrue(ran.stderr.endswith("; wire_up-run --help tells more\n"))
+                self.assertTrue(ran.stderr.endswith(" (wire_up-run --help tells more)\n"))
 
     def test_help(self) -> None:
         ran = run("--help")

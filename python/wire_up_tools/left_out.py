@@ -3,8 +3,8 @@ for the head of the plan, and for pages."""
 import re
 
 # What can hide no race: it changes nothing that others see, or what it does is judged otherwise; or
-# it is a part of MPI's order, and without it the plan is less ordered than the program. A message in
-# a communicator that isn't known is taken for none in another. Of an event those are told of that
+# it is a part of MPI's order, and without it the plan is less ordered than the program. A message
+# in a communicator that isn't known is taken for none in another. Of events those are told of that
 # have a handler.
 HARMLESS = re.compile(
     r"gets of a wildcard rank|(gets|puts) of reserved keys|.*, since they can't change a finding"

@@ -21,6 +21,9 @@ KINDS = {
 }
 # What begins as an option and is none: a word, and what ends the options.
 STANDARD_STREAM, END = "-", "--"
+# What nothing else stands beside.
+HELP, VERSIONS = ("-h", "--help"), ("-V", "--version")
+ALONE = (*HELP, *VERSIONS)
 
 
 @dataclass(frozen=True)
@@ -115,7 +118,8 @@ class Parser(argparse.ArgumentParser):
         first = [it for it in found.rest[:1] if it.startswith("-")]
         unknown += [it for it in first if it not in (STANDARD_STREAM, END)]
         if unknown:
-            raise Unusable(f"{unknown[0]} is no option")
+            is_alone = unknown[0] in ALONE
+            raise Unusable(f"{unknown[0]} {'stands alone' if is_alone else 'is no option'}")
         found.rest = found.rest[1:] if first == [END] else found.rest
         return found
 
@@ -131,14 +135,16 @@ class Parser(argparse.ArgumentParser):
 def answer_alone(words: Sequence[str], name: str, help_text: str) -> Optional[str]:
     """What a program of this name writes that is asked for nothing but its help or its version;
     None where it is asked for something else."""
-    if list(words) in (["-h"], ["--help"]):
+    if len(words) != 1:
+        return None
+    if words[0] in HELP:
         return help_text
-    return f"{name} {VERSION}\n" if list(words) in (["-V"], ["--version"]) else None
+    return f"{name} {VERSION}\n" if words[0] in VERSIONS else None
 
 
 def say_unusable(name: str, why: Unusable) -> str:
     """The line of a program of this name that says what is wrong with its command line."""
-    return f"{name}: {why}; {name} --help tells more\n"
+    return f"{name}: {why} ({name} --help tells more)\n"
 
 
 def describe(options: Sequence[Option]) -> str:

@@ -100,9 +100,10 @@ class Recording:
     probes: both in the order in which they began.
     `others` counts the calls that are only counted, by their names; `polls` those that found
     nothing before another call, and `found` those that found a request complete which isn't known
-    as a receive or a collective; `files` are its calls on names of files that succeeded; `unseen` what called MPI past the recorder, and `unseen_pmix` what
-    called PMIx so, by what is said of it. `uses` is a function to which the program's own code
-    refers that can lead to a call of PMIx, `NO_USE` for none, and None where that wasn't noted.
+    as a receive or a collective; `files` are its calls on names of files that succeeded; `unseen`
+    what called MPI past the recorder, and `unseen_pmix` what called PMIx so, by what is said of it.
+    `uses` is a function to which the program's own code refers that can lead to a call of PMIx,
+    `NO_USE` for none, and None where that wasn't noted.
     `outer` has the number of the place at which the function
     of a place was called; `by_threads` counts the other threads that called, and the calls of MPI
     that another thread waited for. The job has `job_size` processes, and the process is one of the
@@ -182,6 +183,8 @@ PLAIN = {
 
 # What the library tells of the process and its job, and the recorder of the program's own code.
 USES = "uses"
+# The calls that have a record each, and are only counted.
+LISTED = ("other", "file")
 TOLD = ("job", "application", "node", USES)
 # What is told where own code refers to no function that can lead to a call of PMIx.
 NO_USE = b"nothing"
@@ -325,13 +328,11 @@ class Records:
         verb = text.split(" ", 1)[0]
         groups = match(PLAIN[verb], text)
         self.has_finalized = verb == "finalize"
-        if verb == "other":
-            self.others[groups[0]] += 1
+        if verb in LISTED:
+            self.list_call(verb, groups)
         elif verb in ("others", "polled", "found"):
             counts = {"others": self.counted, "polled": self.polls, "found": self.found}[verb]
             counts[groups[0]] = max(int(groups[1]), counts.get(groups[0], 0))
-        elif verb == "file":
-            self.files.append(read_file_call(groups))
         elif verb == "unseen":
             unseen = self.unseen_pmix if groups[0] in UNSEEN_PMIX else self.unseen
             unseen[read_unseen(groups)] += 1
@@ -348,6 +349,14 @@ class Records:
             self.outer.update([(groups[0], groups[3])] if groups[3] else [])
         elif verb == "line":
             self.places[groups[0]] = read_line(groups)
+
+    def list_call(self, verb: str, groups: Groups) -> None:
+        """Takes a call that is counted by its name, or one on the name of a file. Raises
+        ValueError."""
+        if verb == "other":
+            self.others[groups[0]] += 1
+        else:
+            self.files.append(read_file_call(groups))
 
     def tell(self, what: str, said: bytes) -> None:
         """Takes what is told of the process. What its own code refers to once, it can call."""

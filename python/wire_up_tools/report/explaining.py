@@ -73,8 +73,8 @@ MEANING_OF_LOOKUP = (
 )
 # What it means that one place of the program looks a name up again and again.
 MEANING_OF_POLL = (
-    " It is called {count} times there: if that is a poll until the name is found, runs differ only "
-    "in how often it asks, and {lookup_wait} is one call that waits."
+    " It is called {count} times there: if that is a poll until the name is found, runs differ "
+    "only in how often it asks, and {lookup_wait} is one call that waits."
 )
 MEANING_OF_LOOKUP_WAIT = (
     "The name is published more than once or taken away again, "

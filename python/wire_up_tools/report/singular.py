@@ -24,6 +24,8 @@ BEHIND = (
     ("they got", "it got"),
     ("they went", "it went"),
     ("they stay", "it stays"),
+    ("they find all", "it finds all"),
+    ("their gets of what they stored", "its gets of what it stored"),
     ("they wait", "it waits"),
 )
 
@@ -33,7 +35,7 @@ def say_counted(line: str) -> str:
     if not ONE.match(line):
         return line
     noun = line.split(" ")[1]
-    one = noun.removesuffix("es" if noun.endswith("sses") else "s")
+    one = noun.removesuffix("es" if noun.endswith(("sses", "shes")) else "s")
     said = line.replace(noun, one, 1)
     for plural, singular in BEHIND:
         said = re.sub(rf"\b{plural}\b", singular, said)
