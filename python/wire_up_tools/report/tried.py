@@ -85,7 +85,8 @@ def say_all_kept(plan: Plan) -> Optional[str]:
     if not kept:
         return None
     count = count_of(int(kept[2]), "order")
-    return f"On {kept[1]} it kept, though calls were held back, all that could change them: {count}."
+    how = "though calls were held back"
+    return f"On {kept[1]} it kept, {how}, all that could change them: {count}."
 
 
 def say_in_vain(plan: Plan) -> list[str]:
