@@ -276,7 +276,8 @@ class CommandTest(ShowingCase):
         return run_recorder(*all_words, environment=ENVIRONMENT)
 
     def test_a_full_disk(self) -> None:
-        """The plan of the first run is there where there is room for that, and nothing else."""
+        """The plan of the first run is there where there is room for that, and nothing else; where
+        there isn't, its recordings are left."""
         words, refused = self.words(2, "shown", "branch"), 0
         for size in (64, 80, 96):
             with small_disk(self, self.room, size) as folder:
@@ -288,9 +289,9 @@ class CommandTest(ShowingCase):
                     self.assertEqual(125, ran.returncode)
                     full = "No space left|no room|room for|is empty, and no recording"
                     self.assertRegex(ran.stderr.splitlines()[-1], full)
-                    self.assertIn(os.listdir(folder), (["plan"], []))
-                    said = read_file(plan) if os.path.exists(plan) else ""
-                    self.assertNotIn("# Shown", said)
+                    if os.path.exists(plan):
+                        self.assertEqual(["plan"], os.listdir(folder))
+                        self.assertNotIn("# Shown", read_file(plan))
         self.assertTrue(refused)
 
     def test_calls_that_are_none(self) -> None:

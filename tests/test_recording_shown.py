@@ -17,7 +17,7 @@ from wire_up_tools.plan_reading import read_plan
 from wire_up_tools.record.planning import Choices, Plan, make_plan
 from wire_up_tools.record.recordings import read_recordings
 from wire_up_tools.limits import LARGE
-from wire_up_tools.record.showing.comparing import compare
+from wire_up_tools.record.showing.comparing import Compared, compare
 from wire_up_tools.record.showing.heads import insert_in_head
 from wire_up_tools.record.showing.held_runs import HeldRun, Session, refuse_lost
 from wire_up_tools.record.showing.holds import Course, Holds, Until, Wait, write_holds
@@ -27,8 +27,10 @@ from wire_up_tools.record.showing.motion import Motion
 from wire_up_tools.record.showing.naming import Naming, Target, name_call, number_job
 from wire_up_tools.record.showing.orders import Trial
 from wire_up_tools.record.showing.pairs import ASK, WAIT, find_pairs
-from wire_up_tools.record.showing.plain_runs import PlainRuns
+from wire_up_tools.record.showing.plain_runs import PlainRuns, leave_out_own
+from wire_up_tools.record.showing.same_program import hold_to_plan
 from wire_up_tools.record.showing.server import Patience, Server, open_hall_for
+from wire_up_tools.record.showing.strikes import tell_strikes
 from wire_up_tools.record.showing.traces import Traces, read_traces
 from wire_up_tools.record.writing import write_plan
 from wire_up_tools.words import EACH_RUN_SENTENCE
@@ -218,6 +220,105 @@ class DifferencesTest(unittest.TestCase):
         root = Tape(0).call("receive 1 any 7", "0 2 7 4 wait").call("receive 1 1 7", "0 1 7 4 wait")
         swaps = find_swaps(make_traces([root, first, second]))
         self.assertEqual(["app:2 send 1 0 7 after app:1"], [str(it) for it in swaps])
+
+
+class OwnTest(unittest.TestCase):
+    """Values that each run has otherwise, and what plain runs have otherwise too."""
+
+    def make(self, value: str, *more: Recorded, end: str = "0") -> HeldRun:
+        """A run in which the name had this value."""
+        found = ("lookup blocks :port -", f"{end} port=text:{value}" if end == "0" else f"{end} -")
+        return make_run([[("publish blocks port=text:v -", "0")], [found, *more]])
+
+    def leave_out(self, held: Sequence[HeldRun], plain: Sequence[HeldRun]) -> Compared:
+        """What is left of the differences between two runs."""
+        session = Session((), (), "", None, None, Patience(1, 1))
+        compared = compare(held, BOTH)
+        return leave_out_own(compared, held, BOTH, PlainRuns(session, list(plain)))
+
+    def test_a_value_that_is_another_in_each_run(self) -> None:
+        held, plain = ([self.make(it) for it in pair] for pair in (["a", "b"], ["c", "d"]))
+        found = self.leave_out(held, plain)
+        self.assertTrue(found.is_alike)
+        said = "app:1 1 lookup: PMIX_SUCCESS a | PMIX_SUCCESS b"
+        self.assertEqual([said], list(map(str, found.own)))
+        shared = self.leave_out([plain[0], held[0]], plain)
+        self.assertTrue(shared.is_alike)
+
+    def test_a_value_that_comes_again(self) -> None:
+        """It can be that of one of two publishes."""
+        held = [self.make("a"), self.make("b")]
+        found = self.leave_out(held, [self.make("a"), self.make("b")])
+        self.assertEqual((1, 0, 1), (len(found.targets), len(found.own), len(found.plain)))
+
+    def test_a_status(self) -> None:
+        held = [self.make("a"), self.make("", end="-46")]
+        found = self.leave_out(held, [self.make("c"), self.make("d")])
+        self.assertEqual((1, 0), (len(found.targets), len(found.own)))
+
+    def test_names_that_are_others_in_each_run(self) -> None:
+        runs = [self.make("v", (f"lookup blocks :n{it} -", "-46 -")) for it in range(4)]
+        found = self.leave_out(runs[:2], runs[2:])
+        self.assertEqual(([], 1), (list(found.partings), len(found.own)))
+        other = self.make("v", ("fence nb all -", "0"))
+        found = self.leave_out([runs[0], other], runs[2:])
+        self.assertEqual((1, 0), (len(found.partings), len(found.own)))
+
+
+class StrikesTest(unittest.TestCase):
+    """Limits of time that can have struck while a call was held."""
+
+    def tell(self, calls: Sequence[Recorded], status: int = 0, held: float = 5.0) -> list[str]:
+        """What is told of a run in which the publish was held so long from the first second on."""
+        run = make_run([[], calls], status)
+        began = min(it.began for it in run.traces.values())
+        courses = {1: Course(began, began + held, began + held), 2: Course(began, began, began)}
+        holds = Holds(BOTH, {1: [Wait(2)]})
+        run.holds, run.courses = holds, courses
+        return tell_strikes(run)
+
+    def test_a_call_that_is_given_up(self) -> None:
+        said = self.tell([("get blocks job:0 :k pmix.timeout=number:5:1", "-24")])
+        self.assertEqual(1, len(said))
+        self.assertRegex(said[0], r"^app:1 get 0 k: PMIX_ERR_TIMEOUT after \d\.\d s$")
+        self.assertEqual([], self.tell([("get blocks job:0 :k -", "0 text:a")]))
+
+    def test_a_poll(self) -> None:
+        miss, hit = ("lookup blocks :port -", "-46 -"), ("lookup blocks :port -", "0 port=text:v")
+        said = self.tell([miss, miss, miss])
+        self.assertRegex(said[0], r"^app:1 lookup port: 3 times in \d\.\d s$")
+        self.assertEqual([], self.tell([miss, miss, hit]))
+        self.assertEqual([], self.tell([miss]))
+
+    def test_an_alarm(self) -> None:
+        self.assertEqual(["an alarm ended a process"], self.tell([], 142))
+        self.assertEqual([], self.tell([], 139))
+
+
+class SameProgramTest(unittest.TestCase):
+    """Whether a run is one of the command of a plan."""
+
+    def hold(self, *own: Sequence[Recorded]) -> str:
+        """What is said of a run in which the processes made these calls."""
+        text = (
+            "rehearsal 1\nnode n0\njob app\nrank n0\npublish port v\n"
+            "rank n0\nlookup port\nlookup more\n"
+        )
+        plan = read_plan(text.encode())
+        session = Session((), (), "", None, None, Patience(1, 1))
+        trial = Trial(session, None, plan, text, Naming(plan), {}, PlainRuns(session))
+        return hold_to_plan(trial, make_run(own))
+
+    def test_what_a_run_lacks(self) -> None:
+        publish = ("publish blocks port=text:v -", "0")
+        look_up, more = (("lookup blocks :port -", "0"), ("lookup blocks :more -", "0"))
+        self.assertEqual("", self.hold([publish], [look_up, more]))
+        said = "a run by itself lacks 1 of the plan's calls: app:1 lookup more"
+        self.assertEqual(said, self.hold([publish], [look_up]))
+        with self.assertRaisesRegex(Refused, "a run never called app:0 publish port, app:1 lookup"):
+            self.hold([look_up], [publish])
+        with self.assertRaisesRegex(Refused, r"processes app:0, app:1, and the run had app:0 \("):
+            self.hold([publish])
 
 
 class LostTest(unittest.TestCase):
@@ -412,6 +513,18 @@ class CommandTest(unittest.TestCase):
             "# Recorded by wire_up-record\n# Tried by: a?b\nrehearsal 1\n# at a\n",
             insert_in_head(text, ["# Tried by: a\tb"]),
         )
+
+    def test_head_of_what_was_tried_before(self) -> None:
+        """Other races stay, each with its command; the same one is told anew."""
+        shown = "# Shown in this program on 2026-11-30: race app:0 1 app:1 1 name a: x"
+        other = shown.replace("app:1 1", "app:1 2")
+        text = f"# Recorded\n{shown}\n# Tried by: a\n{other}\n# Tried by: b\nrehearsal 1\n"
+        for new, left in (
+            (shown.replace(": x", ": y"), [other, "# Tried by: b"]),
+            ("# Turned round on 2026-11-30: x", [shown, "# Tried by: a", other, "# Tried by: b"]),
+        ):
+            made = insert_in_head(text, [new, "# Tried by: c"]).splitlines()
+            self.assertEqual(["# Recorded", *left, new, "# Tried by: c", "rehearsal 1"], made)
 
     def test_head_where_an_order_is_not_imposed(self) -> None:
         each = f"# {EACH_RUN_SENTENCE}\n"

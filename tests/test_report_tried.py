@@ -7,6 +7,7 @@ import tempfile
 import unittest
 
 import report_support
+from wire_up_tools.words import EACH_RUN_SENTENCE
 
 RACE = "race app:0 6 app:1 6 name solver"
 TRIED_BY = "# Tried by: wire_up-record --of my.plan --show mpirun -n 2 './a <b>'\n"
@@ -95,6 +96,20 @@ class TriedTest(unittest.TestCase):
             page = report_support.read(self.page)
             self.assertIn(f'<span class="badge">{badge}</span>', page)
             self.assertIn(found, page)
+
+    def test_orders_that_are_all_kept(self) -> None:
+        """Where each run makes the calls of the plan, that is said in stronger words."""
+        every = "# Turned round in vain on 2026-11-30: 2 of 2 pairs, all that the plan orders\n"
+        each = f"# {EACH_RUN_SENTENCE}\n"
+        strong = "On 2026-11-30 it kept, though calls were held back, all that could change them: 2"
+        for head, is_strong in (((each, every), True), ((each,), False), ((every,), False)):
+            self.write("told", *head)
+            ran = report_support.run_report("-o", self.page, "--sarif", self.sarif, self.plan)
+            self.assertEqual(0, ran.returncode, ran.stderr)
+            page = report_support.read(self.page)
+            self.assertEqual(is_strong, f"{EACH_RUN_SENTENCE} {strong} orders." in page)
+            said = json.loads(report_support.read(self.sarif))["runs"][0]["properties"]
+            self.assertEqual(int(every in head), len(said["ordersKept"]))
 
 
 if __name__ == "__main__":

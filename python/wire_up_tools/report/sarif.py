@@ -18,7 +18,7 @@ from wire_up_tools.report.partial import is_of_each_run
 from wire_up_tools.report.patterns import PLAN_NAME
 from wire_up_tools.report.phrases import count_of
 from wire_up_tools.report.places import choose_place, list_frames, say_place
-from wire_up_tools.report.tried import find_tried
+from wire_up_tools.report.tried import find_tried, say_in_vain
 from wire_up_tools.report.verdict import say_found
 
 SCHEMA = "https://json.schemastore.org/sarif-2.1.0.json"
@@ -72,12 +72,13 @@ def write_sarif(report: Report, folder: Optional[str]) -> str:
 
 
 def describe_verdict(report: Report) -> dict[str, Any]:
-    """What was found, why that holds only in part, and whether it is said to hold of each run of
-    the program."""
+    """What was found, why that holds only in part, whether it is said to hold of each run of the
+    program, and which orders the program kept."""
     return {
         "verdict": say_found(report),
         "inPart": list(report.reasons),
         "eachRun": not report.causes and is_of_each_run(report.plan),
+        "ordersKept": say_in_vain(report.plan),
     }
 
 

@@ -25,7 +25,7 @@ IN_VAIN = re.compile(
 )
 TURNED = re.compile(rf"{words.TURNED_ROUND} [\d-]+: (.+)")
 # How the end of a race is told that ended otherwise in both orders.
-ENDED_OTHERWISE = re.compile(r"; ended .+ and .+$")
+ENDED_OTHERWISE = re.compile(r"; ended [^;]+ and [^;]+(;|$)")
 
 
 @dataclass(frozen=True)
@@ -76,6 +76,17 @@ def find_turned(plan: Plan) -> Iterator[str]:
 def say_turned(plan: Plan) -> list[str]:
     """Why a verdict holds only in part, by orders that were turned round; one line for each."""
     return [f"an order that the plan has isn't imposed: {it}" for it in find_turned(plan)]
+
+
+def say_all_kept(plan: Plan) -> Optional[str]:
+    """That the program kept each order of the plan, if that was tried of all."""
+    found = map(IN_VAIN.fullmatch, plan.declared.head if plan.is_recorded else ())
+    kept = next((it for it in found if it and it[4] and it[2] == it[3]), None)
+    if not kept:
+        return None
+    count = count_of(int(kept[2]), "order")
+    how = "though calls were held back"
+    return f"On {kept[1]} it kept, {how}, all that could change them: {count}."
 
 
 def say_in_vain(plan: Plan) -> list[str]:

@@ -16,7 +16,7 @@ from wire_up_tools.report.patterns import find_groups, say_counterexample
 from wire_up_tools.report.phrases import count_of
 from wire_up_tools.report.placements import Placed
 from wire_up_tools.report.runs import SECONDS, Outcome
-from wire_up_tools.report.tried import say_in_vain
+from wire_up_tools.report.tried import say_all_kept, say_in_vain
 from wire_up_tools.words import EACH_RUN_SENTENCE
 
 # What helps where a counterexample is smaller than a job can be.
@@ -111,10 +111,11 @@ def say_besides(report: Report) -> list[str]:
     program's own code."""
     of_library = [say_otherwise(report.judged)] if report.judged else []
     is_of_runs = not report.causes and is_of_each_run(report.plan)
-    of_runs = [EACH_RUN_SENTENCE] if is_of_runs else []
+    all_kept = say_all_kept(report.plan) if is_of_runs else None
+    of_runs = [" ".join(filter(None, [EACH_RUN_SENTENCE, all_kept]))] if is_of_runs else []
     of_code = [it for it in (say_own_code(report.plan), say_awaited(report.plan)) if it]
     said = [*of_runs, *say_pattern(report), *say_placements(report), *of_library, *of_code]
-    return [*said, *say_in_vain(report.plan)]
+    return [*said, *(() if all_kept else say_in_vain(report.plan))]
 
 
 def say_reasons(report: Report) -> str:
