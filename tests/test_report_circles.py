@@ -9,7 +9,7 @@ import report_support
 import support
 from wire_up_tools.report.pattern_answers import Settled
 from wire_up_tools.report.ring import DRAWN, Label, draw_ring
-from wire_up_tools.report.standstill import list_sizes
+from wire_up_tools.report.standstill import list_sizes, read_lines
 
 # Two single roles, each of which serves a group in turn: it needs three workers until one waits.
 TWO_LOOPS = """\
@@ -119,6 +119,21 @@ class PatternTest(CircleCase):
         said = Settled(False, least=[(4, "v")])
         sizes = [[count for _, count in it] for it in list_sizes(["w", "v"], said)]
         self.assertEqual(sizes, [[0, 4], [1, 4], [2, 4], [3, 4]])
+
+
+class LinesTest(unittest.TestCase):
+    """What an older checker says besides its report."""
+
+    def test_lines(self) -> None:
+        never = "  for what never comes:\n    a:2 1 get waits for a:0 to commit the key c\n"
+        found = read_lines(f"wire_up: ranks wait for ever\n{never}")
+        assert found
+        self.assertEqual([it.rank for it in found.never], ["a:2"])
+        self.assertEqual(found.never[0].waits_for, "a:0 to commit the key c")
+        self.assertFalse(found.circle)
+
+    def test_some_are_only_counted(self) -> None:
+        self.assertIsNone(read_lines("  for what never comes:\n    and 3 more\n"))
 
 
 class RingTest(unittest.TestCase):

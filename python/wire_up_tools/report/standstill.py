@@ -75,10 +75,10 @@ def read_standstill(answer: Answer) -> Optional[Standstill]:
 
 
 def read_lines(said: str) -> Optional[Standstill]:
-    """Who waits for ever by the lines that say it; None if they only count some of a deadlock."""
-    circle, _, never = said.partition(NEVER)
-    if MORE.search(circle):
+    """Who waits for ever by the lines that say it; None if they only count some."""
+    if MORE.search(said):
         return None
+    circle, _, never = said.partition(NEVER)
     read = (
         [Standing(rank, int(call), verb, what) for rank, call, verb, what in LINE.findall(it)]
         for it in (circle, never)
