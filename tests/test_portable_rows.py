@@ -1,0 +1,52 @@
+"""The rows of rows/portable.py beside all that libraries may do by the axioms: where a row calls a
+plan portable for a library, every history of that library is by the rules."""
+import unittest
+
+import model_runs
+import pattern_faults
+from library_axioms import LIBRARIES
+from library_plans import Facts
+from portable_histories import Divergence
+from rows.portable import ROWS, Told
+
+# The libraries of the rows, by the names of their tables.
+JUDGED = {"openpmix-4.2": "4.2", "openpmix-5.0": "5.0", "openpmix-7.0": "7.0"}
+MOST_STATES = 20_000
+# The rows that blame a library which can't do otherwise by the axioms: these aren't meant for plans
+# that put a key again, and 7.0 takes away all names as the standard says.
+NEEDLESS = {"rewrite": {"4.2", "5.0", "7.0"}, "unpublish all": {"7.0"}}
+
+
+def portable_in(row: Told) -> set[str]:
+    """The libraries for which a row calls its plan portable, on its nodes."""
+    last = row.here.split(" / ")[-1].removeprefix("portable ")
+    return set() if last == "none" else set(last.split(","))
+
+
+def differs(row: Told, library: str) -> bool:
+    """Whether the library may do otherwise than the rules."""
+    facts = Facts(pattern_faults.text_of(row.lines))
+    run = model_runs.Run(facts.plan).go()
+    rules = {it: run.end(it) for it in facts.plan.firsts}
+    found = [*Divergence(facts, LIBRARIES[library], rules).find(MOST_STATES)]
+    assert found, f"{row.name}: too many states"
+    return found[0] is not None
+
+
+class Portable(unittest.TestCase):
+    """Each row, for each library."""
+
+    def test_no_library_differs_on_a_portable_plan(self) -> None:
+        """And where one is blamed it may, but in the rows that are listed."""
+        needless: dict[str, set[str]] = {}
+        for row in ROWS:
+            for library, name in JUDGED.items():
+                if name in portable_in(row):
+                    self.assertFalse(differs(row, library), f"{row.name}: {name}")
+                elif not differs(row, library):
+                    needless.setdefault(row.name, set()).add(name)
+        self.assertEqual(NEEDLESS, needless)
+
+
+if __name__ == "__main__":
+    unittest.main()
