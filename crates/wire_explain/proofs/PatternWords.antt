@@ -51,7 +51,7 @@ first_words first = (
                           (
                             is_first (Calls UnpublishAll) refl (first (codes "unpublish")),
                             (
-                              is_first (Begin InOrder x) refl (first (codes "for")),
+                              is_first (Begin InOrder (x ∷ [])) refl (first (codes "for")),
                               (
                                 is_first End refl (first (codes "end")),
                                 tt,
