@@ -136,77 +136,77 @@ module _ (d : Declared) where
       ∙ both (list_all has_fit_words (steps_of d job s)) _ (step_fit job s (and_left _ _ fit)) (steps_fit job ss (and_right _ _ fit))
 
 module _ (jobs : ℕ) (roles : List Role) (caller : ℕ) where
-    -- a line without a fault
-    no_fault : (a k f m : Bool) (n : ℕ) → (if not a then Some (UnknownName n) else if not (k && f) then Some (BadLine n) else if not m then Some (NotMember n) else None) ≡ None
-        → (k ≡ true) × (f ≡ true) × (m ≡ true)
-    no_fault false k f m n h = absurd (cc)
-    no_fault true false f m n h = absurd (cc)
-    no_fault true true false m n h = absurd (cc)
-    no_fault true true true false n h = absurd (cc)
-    no_fault true true true true n h = (refl, refl, refl)
+  -- a line without a fault
+  no_fault : (a k f m : Bool) (n : ℕ) → (if not a then Some (UnknownName n) else if not (k && f) then Some (BadLine n) else if not m then Some (NotMember n) else None) ≡ None
+      → (k ≡ true) × (f ≡ true) × (m ≡ true)
+  no_fault false k f m n h = absurd (cc)
+  no_fault true false f m n h = absurd (cc)
+  no_fault true true false m n h = absurd (cc)
+  no_fault true true true false n h = absurd (cc)
+  no_fault true true true true n h = (refl, refl, refl)
 
-    line_none : (fits : Bool) (line : Line) → line_fault jobs roles caller fits line ≡ None
-        → (is_known jobs roles line.call ≡ true) × (fits ≡ true) × (is_member_call roles caller line.call ≡ true)
-    line_none fits line h = no_fault (is_declared jobs (length roles) line.call) (is_known jobs roles line.call) fits (is_member_call roles caller line.call) line.number h
+  line_none : (fits : Bool) (line : Line) → line_fault jobs roles caller fits line ≡ None
+      → (is_known jobs roles line.call ≡ true) × (fits ≡ true) × (is_member_call roles caller line.call ≡ true)
+  line_none fits line h = no_fault (is_declared jobs (length roles) line.call) (is_known jobs roles line.call) fits (is_member_call roles caller line.call) line.number h
 
-    call_sound : (c : Call) → has_words c ≡ true → is_known jobs roles c ≡ true → is_member_call roles caller c ≡ true → is_sound_call jobs roles caller c ≡ true
-    call_sound c w k m = both (has_words c) _ w (both (is_known jobs roles c) _ k m)
+  call_sound : (c : Call) → has_words c ≡ true → is_known jobs roles c ≡ true → is_member_call roles caller c ≡ true → is_sound_call jobs roles caller c ≡ true
+  call_sound c w k m = both (has_words c) _ w (both (is_known jobs roles c) _ k m)
 
-    turn_sound : (group : ℕ) (turns : Turns) (line : Line) → is_turn_of_loop line ≡ true → turn_fault jobs roles caller group turns line ≡ None
-        → (is_sound_call jobs roles caller line.call && is_loop_call roles group turns line.call) ≡ true
-    turn_sound group turns line fit none =
-        let n = line_none (fits_loop roles group turns line.call) line none in
-        both (is_sound_call jobs roles caller line.call) _ (call_sound line.call (and_left _ _ fit) n.0 n.2)
-        (both (is_commit line.call || names_each line.call) _ (and_right (has_words line.call) _ fit) n.1)
+  turn_sound : (group : ℕ) (turns : Turns) (line : Line) → is_turn_of_loop line ≡ true → turn_fault jobs roles caller group turns line ≡ None
+      → (is_sound_call jobs roles caller line.call && is_loop_call roles group turns line.call) ≡ true
+  turn_sound group turns line fit none =
+      let n = line_none (fits_loop roles group turns line.call) line none in
+      both (is_sound_call jobs roles caller line.call) _ (call_sound line.call (and_left _ _ fit) n.0 n.2)
+      (both (is_commit line.call || names_each line.call) _ (and_right (has_words line.call) _ fit) n.1)
 
-    turns_sound : (group : ℕ) (turns : Turns) (lines : List Line) → list_all is_turn_of_loop lines ≡ true → first_fault (turn_fault jobs roles caller group turns) lines ≡ None
-        → list_all (λ l. is_sound_call jobs roles caller l.call && is_loop_call roles group turns l.call) lines ≡ true
-    turns_sound group turns [] fit none = refl
-    turns_sound group turns (line ∷ lines) fit none =
-        let n = first_none _ _ none in
-        both (is_sound_call jobs roles caller line.call && is_loop_call roles group turns line.call) _
-        (turn_sound group turns line (and_left _ _ fit) n.0) (turns_sound group turns lines (and_right _ _ fit) n.1)
+  turns_sound : (group : ℕ) (turns : Turns) (lines : List Line) → list_all is_turn_of_loop lines ≡ true → first_fault (turn_fault jobs roles caller group turns) lines ≡ None
+      → list_all (λ l. is_sound_call jobs roles caller l.call && is_loop_call roles group turns l.call) lines ≡ true
+  turns_sound group turns [] fit none = refl
+  turns_sound group turns (line ∷ lines) fit none =
+      let n = first_none _ _ none in
+      both (is_sound_call jobs roles caller line.call && is_loop_call roles group turns line.call) _
+      (turn_sound group turns line (and_left _ _ fit) n.0) (turns_sound group turns lines (and_right _ _ fit) n.1)
 
-    not_bad : (bad : Bool) (n : ℕ) → (if bad then Some (BadLine n) else None) ≡ None → bad ≡ false
-    not_bad true n h = absurd (cc)
-    not_bad false n h = refl
+  not_bad : (bad : Bool) (n : ℕ) → (if bad then Some (BadLine n) else None) ≡ None → bad ≡ false
+  not_bad true n h = absurd (cc)
+  not_bad false n h = refl
 
-    commit_here : (c more bad : Bool) (n : ℕ) (later : Option ℕ) → (bad_if bad later ≡ None → more ≡ true → bad ≡ false) → bad_if bad (if c then Some n else later) ≡ None → (c || more) ≡ true → bad ≡ false
-    commit_here true more bad n later up h e = not_bad bad n h
-    commit_here false more bad n later up h e = up h e
+  commit_here : (c more bad : Bool) (n : ℕ) (later : Option ℕ) → (bad_if bad later ≡ None → more ≡ true → bad ≡ false) → bad_if bad (if c then Some n else later) ≡ None → (c || more) ≡ true → bad ≡ false
+  commit_here true more bad n later up h e = not_bad bad n h
+  commit_here false more bad n later up h e = up h e
 
-    no_bad_commit : (bad : Bool) (lines : List Line) → bad_if bad (commit_line lines) ≡ None → has_commit lines ≡ true → bad ≡ false
-    no_bad_commit bad [] h e = absurd (true≢false (sym e))
-    no_bad_commit bad (l ∷ ls) h e = commit_here (is_commit l.call) (has_commit ls) bad l.number (commit_line ls) (no_bad_commit bad ls) h e
+  no_bad_commit : (bad : Bool) (lines : List Line) → bad_if bad (commit_line lines) ≡ None → has_commit lines ≡ true → bad ≡ false
+  no_bad_commit bad [] h e = absurd (true≢false (sym e))
+  no_bad_commit bad (l ∷ ls) h e = commit_here (is_commit l.call) (has_commit ls) bad l.number (commit_line ls) (no_bad_commit bad ls) h e
 
-    commit_right : (c w a : Bool) → (c ≡ true → (w || a) ≡ false) → (not c || (not w && not a)) ≡ true
-    commit_right false w a h = refl
-    commit_right true true a h = absurd (true≢false (h refl))
-    commit_right true false true h = absurd (true≢false (h refl))
-    commit_right true false false h = refl
+  commit_right : (c w a : Bool) → (c ≡ true → (w || a) ≡ false) → (not c || (not w && not a)) ≡ true
+  commit_right false w a h = refl
+  commit_right true true a h = absurd (true≢false (h refl))
+  commit_right true false true h = absurd (true≢false (h refl))
+  commit_right true false false h = refl
 
-    no_group_fault : (a : Bool) (n : ℕ) → (if a then None else Some (UnknownName n)) ≡ None → a ≡ true
-    no_group_fault false n h = absurd (cc)
-    no_group_fault true n h = refl
+  no_group_fault : (a : Bool) (n : ℕ) → (if a then None else Some (UnknownName n)) ≡ None → a ≡ true
+  no_group_fault false n h = absurd (cc)
+  no_group_fault true n h = refl
 
-    step_sound : (w : Bool) (s : Step) → has_fit_words s ≡ true → step_fault jobs roles caller s ≡ None → commit_fault w s ≡ None → is_sound_step jobs roles caller w s ≡ true
-    step_sound w (Once line) fit none commit =
-        let n = line_none true line none in
-        both (is_sound_call jobs roles caller line.call) _ (call_sound line.call (and_left _ _ fit) n.0 n.2) (and_right (has_words line.call) _ fit)
-    step_sound w (Loop number group turns lines) fit none commit =
-        let n = first_none _ _ none in
-        both (nat_lt group (length roles)) _ (no_group_fault (nat_lt group (length roles)) number n.0)
-        (both (list_all (λ x. is_sound_call jobs roles caller x.call && is_loop_call roles group turns x.call) lines) _ (turns_sound group turns lines fit n.1)
-        (commit_right (has_commit lines) w (waits_after_all false lines) (no_bad_commit (w || waits_after_all false lines) lines commit)))
+  step_sound : (w : Bool) (s : Step) → has_fit_words s ≡ true → step_fault jobs roles caller s ≡ None → commit_fault w s ≡ None → is_sound_step jobs roles caller w s ≡ true
+  step_sound w (Once line) fit none commit =
+      let n = line_none true line none in
+      both (is_sound_call jobs roles caller line.call) _ (call_sound line.call (and_left _ _ fit) n.0 n.2) (and_right (has_words line.call) _ fit)
+  step_sound w (Loop number group turns lines) fit none commit =
+      let n = first_none _ _ none in
+      both (nat_lt group (length roles)) _ (no_group_fault (nat_lt group (length roles)) number n.0)
+      (both (list_all (λ x. is_sound_call jobs roles caller x.call && is_loop_call roles group turns x.call) lines) _ (turns_sound group turns lines fit n.1)
+      (commit_right (has_commit lines) w (waits_after_all false lines) (no_bad_commit (w || waits_after_all false lines) lines commit)))
 
-    steps_sound : (w : Bool) (ss : List Step) → list_all has_fit_words ss ≡ true → first_fault (step_fault jobs roles caller) ss ≡ None
-        → commits_fault w ss ≡ None → are_sound_steps jobs roles caller w ss ≡ true
-    steps_sound w [] fit none commit = refl
-    steps_sound w (s ∷ ss) fit none commit =
-        let n = first_none _ _ none in
-        let c = first_none _ _ commit in
-        both (is_sound_step jobs roles caller w s) _ (step_sound w s (and_left _ _ fit) n.0 c.0)
-        (steps_sound (waits_after_step w s) ss (and_right _ _ fit) n.1 c.1)
+  steps_sound : (w : Bool) (ss : List Step) → list_all has_fit_words ss ≡ true → first_fault (step_fault jobs roles caller) ss ≡ None
+      → commits_fault w ss ≡ None → are_sound_steps jobs roles caller w ss ≡ true
+  steps_sound w [] fit none commit = refl
+  steps_sound w (s ∷ ss) fit none commit =
+      let n = first_none _ _ none in
+      let c = first_none _ _ commit in
+      both (is_sound_step jobs roles caller w s) _ (step_sound w s (and_left _ _ fit) n.0 c.0)
+      (steps_sound (waits_after_step w s) ss (and_right _ _ fit) n.1 c.1)
 
 -- the script of one role of many
 script_none : (jobs : ℕ) (all : List Role) (n : ℕ) (rs : List Role) (k : ℕ) (role : Role) → scripts_fault jobs all n rs ≡ None → slice_get rs k ≡ Some role
