@@ -1,5 +1,5 @@
 -- A pattern that is declared and has no fault is sound.
-use Rattle.std.proofs.Common.{◌≡◌, ◌∙◌, ap, sym, refl, subst, ℕ, zero, suc, ◌+◌, ◌<◌, ◌≤◌, ◌^◌, List, [], ◌∷◌, ◌++◌, Bool, true, false, map, flat_map, length, Option, Some, None, Ok, Err, Result, arith, cond, if◌then◌else◌, slice_get, true≢false}
+use Rattle.std.proofs.Common.{◌≡◌, ◌∙◌, ap, sym, refl, subst, ℕ, zero, suc, ◌+◌, ◌<◌, ◌≤◌, List, [], ◌∷◌, ◌++◌, Bool, true, false, map, flat_map, length, Option, Some, None, arith, if◌then◌else◌, slice_get, true≢false}
 use Rattle.std.specs.Prelude.{◌==◌, ◌&&◌, ◌||◌, not, nat_lt, nat_le}
 use Rattle.std.specs.List.{list_all, list_any}
 use Rattle.std.proofs.lemmas.List.{length-map}
@@ -12,18 +12,17 @@ use Rattle.wire_lines.proofs.Colon.{and_left, and_right}
 use Rattle.wire_content.specs.Apart.{AreApart}
 use Rattle.wire_runs.specs.Patterns.{Who, Only, Turns}
 use Rattle.wire_script.specs.Reads.{first_of}
-use Rattle.wire_pattern.specs.Pattern.{Item, One, Group, Job, Call, Line, Step, Once, Loop, Role, JobLine, Pattern}
+use Rattle.wire_pattern.specs.Pattern.{One, Group, Call, Line, Step, Once, Loop, Role, JobLine, Pattern}
 use Rattle.wire_pattern.specs.declared.pattern.Job.{Job as CodeJob}
 use Rattle.wire_pattern.specs.declared.pattern.Role.{Role as CodeRole}
 use Rattle.wire_pattern.specs.Shown.{job_by, role_by}
 use Rattle.wire_pattern.specs.Instances.{job_in}
-use Rattle.wire_pattern.specs.Lawful.{is_base, is_plain_name, whos_in_item, is_each, names_each, is_known, is_member_call, has_words, items_in, is_commit, is_loop_call, has_commit, waits_after_all, waits_after_step, is_sound_call, is_sound_step, are_sound_steps, HasLeast, IsSound, has_role, is_turn_call}
+use Rattle.wire_pattern.specs.Lawful.{is_base, is_plain_name, whos_in_item, is_each, names_each, is_known, is_member_call, has_words, is_commit, is_loop_call, has_commit, waits_after_all, waits_after_step, is_sound_call, is_sound_step, are_sound_steps, HasLeast, IsSound}
 use Rattle.wire_pattern_lines.specs.Said as said
-use Rattle.wire_pattern_script.specs.FirstPass.{Placed, LoopLines, StepLines, OnceLine, LoopOf, RoleLines, Declared, job_names, role_names, job_limit, role_limit}
-use Rattle.wire_pattern_script.specs.Numbers.{who_of, is_single_lines, role_item, role_number, item_of, items_of, call_of, line_of, loop_of, steps_of, role_of, pattern_of}
-use Rattle.wire_pattern_script.specs.Fit.{is_fit_line, is_fit_turn, is_fit_step, has_fit_steps, has_least, are_rising, role_jobs, IsFit}
-use Rattle.wire_pattern_script.specs.Faults.{first_fault, is_declared, fits_loop, line_fault, turn_fault, group_fault, step_fault, scripts_fault, second_fault, commit_line, bad_if, commit_fault, commits_fault, third_fault, roles_fault, pattern_fault}
-use Rattle.wire_pattern_script.specs.Reads.{unless_fault, judged_pattern}
+use Rattle.wire_pattern_script.specs.FirstPass.{Placed, LoopLines, StepLines, OnceLine, LoopOf, RoleLines, Declared}
+use Rattle.wire_pattern_script.specs.Numbers.{who_of, is_single_lines, role_number, item_of, call_of, line_of, loop_of, steps_of, role_of, pattern_of}
+use Rattle.wire_pattern_script.specs.Fit.{is_fit_line, is_fit_turn, is_fit_step, has_fit_steps, has_least, are_rising, IsFit}
+use Rattle.wire_pattern_script.specs.Faults.{first_fault, is_declared, fits_loop, line_fault, turn_fault, step_fault, scripts_fault, commit_line, bad_if, commit_fault, commits_fault, third_fault, roles_fault, pattern_fault}
 use Rattle.wire_pattern_script.proofs.Mapped.{all_of}
 
 both : (a b : Bool) → a ≡ true → b ≡ true → (a && b) ≡ true

@@ -1,5 +1,5 @@
 -- What a draft declares.
-use Rattle.std.specs.Prelude.{ℕ, map, Option, Some, None, option_map}
+use Rattle.std.specs.Prelude.{ℕ, map, option_map}
 use Rattle.wire_types.specs.Texts.{texts_of}
 use Rattle.wire_pattern.specs.Pattern.{JobLine}
 use Rattle.wire_pattern.specs.Shown.{turns_by}
