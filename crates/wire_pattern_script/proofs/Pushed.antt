@@ -10,4 +10,3 @@ one_pushed v h f out old xs i y x d lt is so_far same =
     ∙ append_assoc (map v out) (v y ∷ []) (map h (map f (drop (i + 1) xs)))
     ∙ ap (λ b. map v out ++ b ∷ map h (map f (drop (i + 1) xs))) (same ∙ ap (λ z. h (f z)) is)
     ∙ ap (λ l. map v out ++ map h (map f l)) (sym (drop_more xs i d lt)) ∙ so_far
-
