@@ -61,6 +61,11 @@ def loops() -> Iterator[Refusal]:
     """Loops, and where `each` may stand."""
     for words in ("", "w w", "cyclic", "some", "some cyclic", "some w cyclic", "w some", "self"):
         yield Refusal(f"{GROUP}for {words} / end", "BadLine", 4)
+    for words in ("w,", ",w", "root,,w", "root,self", "root,app:*", "some root,each", "root, w"):
+        yield Refusal(f"{TWO}for {words} / end", "BadLine", 5)
+    yield Refusal(f"{TWO}for root,w cyclic / end", "BadLine", 5)
+    yield Refusal(f"{TWO}for root,w,root / end", "Twice", 5)
+    yield Refusal(f"{TWO}for some w,w / end", "Twice", 5)
     for line in ("for w", "job srv", "one root", "many v", "keep"):
         yield Refusal(f"{GROUP}for w / {line} / end", "BadLine", 5)
     yield Refusal(f"{GROUP}end", "BadLine", 4)
@@ -95,17 +100,18 @@ def words() -> Iterator[Refusal]:
 
 
 def unknown() -> Iterator[Refusal]:
-    """Names that aren't declared, groups in place of processes, single roles in place of groups."""
+    """Names that aren't declared, and groups in place of processes."""
     yield Refusal(f"{GROUP}get root k", "UnknownName", 4)
     yield Refusal(f"{GROUP}lookup x[root]", "UnknownName", 4)
     yield Refusal(f"{GROUP}fence self,root", "UnknownName", 4)
     yield Refusal(f"{GROUP}fence self,srv:*", "UnknownName", 4)
     yield Refusal(f"{GROUP}for v / end", "UnknownName", 4)
+    yield Refusal(f"{TWO}for root,v / end", "UnknownName", 5)
+    yield Refusal(f"{TWO}for root,v / get no k[each] / end", "UnknownName", 6)
     yield Refusal(f"{GROUP}for v / lookup x[each,root] / end", "UnknownName", 4)
     yield Refusal(f"{TWO}get w k[root]", "BadLine", 5)
     yield Refusal(f"{TWO}get root k[w]", "BadLine", 5)
     yield Refusal(f"{TWO}get w k[no]", "UnknownName", 5)
-    yield Refusal(f"{TWO}for root / end", "BadLine", 5)
     yield Refusal(f"{TWO}get no k / lookup x y", "BadLine", 6)
     yield Refusal(f"{TWO}fence root / get no k", "NotMember", 5)
     yield Refusal(f"{TWO}fence root,no", "UnknownName", 5)
@@ -119,6 +125,8 @@ def restricted() -> Iterator[Refusal]:
     for items in ("self,each,w", "each,all", "self,each,app:*", "w,each"):
         yield Refusal(f"{GROUP}for w / fence {items} / end", "BadLine", 5)
     yield Refusal(f"{TWO}for w / fence w,each / end", "BadLine", 6)
+    yield Refusal(f"{TWO}for root,w / fence w,each / end", "BadLine", 6)
+    yield Refusal(f"{TWO}for root / fence self,each,app:* / end", "BadLine", 6)
     yield Refusal(f"{TWO}job srv / one v / for w / fence self,each,app:* / end", "BadLine", 8)
     for line in ("publish x[each] v", "unpublish x[each]", "fence self,each"):
         yield Refusal(f"{GROUP}for some w / {line} / end", "BadLine", 5)
@@ -136,6 +144,9 @@ def limits() -> Iterator[Refusal]:
     yield Refusal(f"pattern 1 / job {name}", "TooLong", 2)
     yield Refusal(f"{HEAD}one {name}", "TooLong", 3)
     yield Refusal(f"{GROUP}for {name} / end", "TooLong", 4)
+    yield Refusal(f"{GROUP}for w,{name} / end", "TooLong", 4)
+    yield Refusal(f"{GROUP}for {','.join(f'w{it}' for it in range(9))} / end", "TooMany", 4)
+    yield Refusal(f"{GROUP}for {','.join(['w'] * 9)} / end", "TooMany", 4)
     for line in (f"get {name} k", f"lookup {long}", f"lookup {long}[self]", f"lookup k[{name}]"):
         yield Refusal(f"{GROUP}{line}", "TooLong", 4)
     for line in (f"publish k {value}", f"put local k {value}", f"fence self,{name}"):
@@ -187,6 +198,10 @@ def taken() -> Iterator[str]:
     yield "pattern 1 / job self / job all / job app"
     yield f"{HEAD}one one / one many / one min / one job / one end / one app"
     yield f"{GROUP}for w / end / for some w / end / for w cyclic / commit / end"
+    yield f"{TWO}for root / get each k / end / for root cyclic / fence self,each,root / end"
+    yield f"{TWO}for w,root / get each k / end / for some root,w / put local k[each] v / end"
+    singles = [f"r{it}" for it in range(8)]
+    yield HEAD + " / ".join(f"one {it}" for it in singles) + f" / for {','.join(singles)} / end"
     yield f"{GROUP}lookup **[self] / lookup #k / lookup : / lookup , / publish each [v]"
     yield f"{GROUP}fence all / fence w / fence self / fence app:* / fence w,self,w,app:*"
     yield f"{TWO}for w / fence self,each,root / fence root,each,self / end"

@@ -14,6 +14,8 @@ from grammar import NAME_BYTES, VALUE_BYTES, Refused, Words
 # jobs, roles and groups a file may have.
 CUTOFF = 3
 JOBS, ROLES, GROUPS = grammar.LIMITS[b"2"].jobs, grammar.LIMITS[b"2"].nodes, 6
+# How many roles a loop may list.
+LISTED = 8
 SELF, EACH, ALL = b"self", b"each", b"all"
 NOT_ROLES = (SELF, EACH, ALL, b"some", b"cyclic")
 READS = (b"get-now", b"lookup")
@@ -77,8 +79,8 @@ class Line(NamedTuple):
 
 
 class Loop(NamedTuple):
-    """A loop: its line in the file, its group, its mode (`cyclic`, `some`, or nothing), and its
-    lines."""
+    """A loop over one role: its line in the file, its role, its mode (`cyclic`, `some`, or nothing),
+    and its lines. A loop over several roles is one over each."""
 
     at: int
     group: bytes
@@ -213,8 +215,10 @@ class FirstPass:
 
     def __init__(self) -> None:
         self.pattern = Pattern(False, [], [], [])
-        # The loop that is open, and how many call lines the last role has.
+        # The loop that is open, over the first of its roles, and all its roles. And how many call
+        # lines the last role has.
         self.loop: Optional[Loop] = None
+        self.listed: list[bytes] = []
         self.count = 0
 
     def take(self, at: int, words: Words) -> None:
@@ -278,17 +282,32 @@ class FirstPass:
             mode, rest = rest[0], rest[1:]
         elif len(rest) == 2 and rest[1] == b"cyclic":
             mode, rest = rest[1], rest[:1]
-        is_well = len(rest) == 1 and is_role_name(rest[0])
+        self.listed = rest[0].split(b",") if len(rest) == 1 else []
+        is_well = bool(self.listed) and all(is_role_name(it) for it in self.listed)
+        is_well = is_well and (mode != b"cyclic" or len(self.listed) == 1)
         self.judge(at, is_well and self.is_in_role() and not self.loop)
-        if len(rest[0]) > NAME_BYTES:
+        if any(len(it) > NAME_BYTES for it in self.listed):
             raise Refused("TooLong", at)
-        self.loop = Loop(at, rest[0], mode, ())
+        if len(self.listed) <= LISTED and len({*self.listed}) < len(self.listed):
+            raise Refused("Twice", at)
+        if len(self.listed) > LISTED:
+            raise Refused("TooMany", at)
+        self.loop = Loop(at, self.listed[0], mode, ())
 
     def take_end(self, at: int, words: Words) -> None:
         self.judge(at, len(words) == 1 and bool(self.loop))
         if self.loop:
-            self.pattern.roles[-1].steps.append(self.loop)
+            self.add_loops(self.loop)
         self.loop = None
+
+    def add_loops(self, loop: Loop) -> None:
+        """Adds a loop over each of the roles. Its lines count once for each."""
+        length = len(loop.lines)
+        for n, role in enumerate(self.listed):
+            lines = [it._replace(number=it.number + n * length) for it in loop.lines]
+            loop = loop._replace(group=role)
+            self.pattern.roles[-1].steps.append(loop._replace(lines=tuple(lines)))
+        self.count += (len(self.listed) - 1) * length
 
     def take_call(self, at: int, words: Words) -> None:
         line = line_of(at, self.count + 1, words)
@@ -322,8 +341,6 @@ class SecondPass:
         group = self.pattern.role(loop.group)
         if not group:
             raise Refused("UnknownName", loop.at)
-        if group.least is None:
-            raise Refused("BadLine", loop.at)
         for line in loop.lines:
             self.judge_line(role, line, loop)
 
@@ -349,10 +366,11 @@ class SecondPass:
         return bool(whole & {*line.items})
 
     def may_loop(self, role: Role, line: Line, loop: Loop) -> bool:
-        """Whether a line may stand in a loop: a fence's set doesn't contain the group, and in an
-        optional loop there are neither fences nor calls that write names."""
+        """Whether a line may stand in a loop: a fence's set doesn't contain the loop's role as a
+        whole, and in an optional loop there are neither fences nor calls that write names."""
         group = self.pattern.role(loop.group)
-        bare = line._replace(items=tuple(it for it in line.items if it != SELF))
+        single = {SELF} if group is None or group.least is not None else {SELF, group.name}
+        bare = line._replace(items=tuple(it for it in line.items if it not in single))
         if loop.mode == b"some" and line.verb not in OPTIONAL:
             return False
         return group is None or not self.contains(role, bare, group)

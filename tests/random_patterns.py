@@ -14,7 +14,7 @@ SCOPES = (b"global", b"global", b"global", b"remote", b"local")
 VALUES = (b"v", b"1", b"[", b"v[self]", b"#", b"*", b'"\\')
 READING = [b"get-now", b"lookup"]
 OPTIONAL = [b"put", b"get", b"get-now", b"lookup-wait", b"get-now"]
-# What stands behind the group of a loop, but before it for `some`.
+# What stands behind the roles of a loop, but before them for `some`.
 PLAIN, CYCLIC, SOME = list[bytes](), [b"cyclic"], [b"some"]
 WORDS = b"""
     pattern 1 2 rehearsal keep job one many min 0 10 for some cyclic end self each all root w v *
@@ -48,9 +48,10 @@ class Part(NamedTuple):
     least: Optional[int]
 
 
-def head_of(group: Part, mode: Sequence[bytes]) -> Words:
+def head_of(roles: Sequence[Part], mode: Sequence[bytes]) -> Words:
     """The first line of a loop."""
-    return [b"for", *mode, group.name] if mode == SOME else [b"for", group.name, *mode]
+    names = b",".join(it.name for it in roles)
+    return [b"for", *mode, names] if mode == SOME else [b"for", names, *mode]
 
 
 class Script:
@@ -59,37 +60,38 @@ class Script:
     def __init__(self, maker: "Maker", part: Part) -> None:
         self.maker, self.part, self.dice = maker, part, maker.dice
         self.lines: list[Words] = []
-        # The group of the loop that is open, and whether a put waits for a commit.
-        self.group: Optional[Part] = None
+        # The roles of the loop that is open, and whether a put waits for a commit.
+        self.looped: list[Part] = []
         self.waits = False
         self.keys = 0
 
     def who(self) -> bytes:
         """A process that a line may name."""
         single = [it.name for it in self.maker.parts if it.least is None]
-        return self.dice.choice([b"self", *single, *([b"each"] * 3 if self.group else [])])
+        return self.dice.choice([b"self", *single, *([b"each"] * 3 if self.looped else [])])
 
     def key(self, needs_each: bool) -> bytes:
         """A key or a name."""
         dice = self.dice
         base = dice.choice(RESERVED if dice.random() < 0.04 else KEYS[: dice.choice((2, 3, 10))])
         indices = [self.who() for _ in range(dice.choice((0, 0, 1, 1, 2)))]
-        if needs_each and self.group and b"each" not in indices:
+        if needs_each and self.looped and b"each" not in indices:
             indices.insert(dice.randrange(len(indices) + 1), b"each")
         is_bare = not indices and base != b"*"
         return base if is_bare else b"%s[%s]" % (base, b",".join(indices or [self.who()]))
 
     def some_set(self) -> bytes:
-        """A set that has the caller, and in a loop `each` but not the loop's group."""
+        """A set that has the caller, and in a loop `each` but not the loop's groups."""
         dice, part = self.dice, self.part
-        if not self.group and dice.random() < 0.6:
+        if not self.looped and dice.random() < 0.6:
             return dice.choice((b"all", b"all", part.job + b":*"))
-        items = [b"self"] if self.group in (part, None) else [dice.choice((b"self", part.name))]
-        others = [it for it in self.maker.parts if it != self.group]
+        is_own = not self.looped or part in self.looped
+        items = [b"self"] if is_own else [dice.choice((b"self", part.name))]
+        others = [it for it in self.maker.parts if it not in self.looped]
         items += [dice.choice(others).name] if others and dice.random() < 0.4 else []
-        jobs = {it.job for it in self.maker.parts} - {self.group.job if self.group else b""}
+        jobs = {it.job for it in self.maker.parts} - {it.job for it in self.looped}
         items += [dice.choice(sorted(jobs)) + b":*"] if jobs and dice.random() < 0.15 else []
-        items += [b"each"] if self.group else []
+        items += [b"each"] if self.looped else []
         dice.shuffle(items)
         return b",".join(items)
 
@@ -107,7 +109,7 @@ class Script:
         if verb == b"commit":
             self.waits = False
             return [verb]
-        if verb == b"unpublish" and not self.group and dice.random() < 0.5:
+        if verb == b"unpublish" and not self.looped and dice.random() < 0.5:
             return [verb, b"*"]
         return [verb, self.key(True), *([self.value()] if verb == b"publish" else [])]
 
@@ -125,19 +127,21 @@ class Script:
         return [it for it in verbs if it != b"commit"]
 
     def loop(self) -> None:
-        """A loop over a group, if there is one."""
+        """A loop over a group, if there is one, or over several roles."""
         dice, groups = self.dice, [it for it in self.maker.parts if it.least is not None]
         if not groups:
             return
-        self.group, waited = dice.choice(groups), self.waits
+        self.looped, waited = [dice.choice(groups)], self.waits
         mode = dice.choice((PLAIN, PLAIN, PLAIN, CYCLIC, SOME))
-        self.lines.append(head_of(self.group, mode))
+        if mode != CYCLIC:
+            self.looped = self.maker.more_roles(self.looped[0])
+        self.lines.append(head_of(self.looped, mode))
         verbs = self.verbs(mode)
         self.lines += [self.call(it) for it in verbs]
         if b"put" in verbs and not waited and dice.random() < 0.5:
             self.lines.append(self.call(b"commit"))
         self.lines.append([b"end"])
-        self.group, self.waits = None, self.waits or waited
+        self.looped, self.waits = [], self.waits or waited
 
     def fill(self, rounds: int) -> list[Words]:
         """The lines of a script of so many rounds."""
@@ -187,6 +191,18 @@ class Maker:
             parts.append(Part(dice.choice(self.jobs), name, least))
         return sorted(parts, key=lambda it: self.jobs.index(it.job))
 
+    def more_roles(self, group: Part) -> list[Part]:
+        """The roles of a loop over a group: sometimes others too, or another."""
+        dice, parts = self.dice, self.parts
+        if dice.random() < 0.75:
+            return [group]
+        return dice.sample(parts, dice.randint(1, len(parts)))
+
+    def looped(self, group: Part, mode: Sequence[bytes], lines: list[Words]) -> list[Words]:
+        """Lines as a loop over a group, and perhaps other roles."""
+        roles = [group] if mode == CYCLIC else self.more_roles(group)
+        return [head_of(roles, mode), *lines, [b"end"]]
+
     def lines(self) -> list[Words]:
         """The lines, each a list of words."""
         dice = self.dice
@@ -202,11 +218,6 @@ class Maker:
     def script(self, part: Part) -> list[Words]:
         """The lines of a role's script."""
         return Script(self, part).fill(self.rounds)
-
-
-def looped(group: Part, mode: Sequence[bytes], lines: list[Words]) -> list[Words]:
-    """Lines as a loop."""
-    return [head_of(group, mode), *lines, [b"end"]]
 
 
 class Deal(NamedTuple):
@@ -247,7 +258,7 @@ class DealMaker(Maker):
         else:
             lines = [[b"put", dice.choice(SCOPES), deal.base + index, b"v"]]
         if deal.group:
-            lines = looped(deal.group, dice.choice((PLAIN, PLAIN, CYCLIC)), lines)
+            lines = self.looped(deal.group, dice.choice((PLAIN, PLAIN, CYCLIC)), lines)
         return lines if deal.is_name else [*lines, [b"commit"]]
 
     def reads(self, part: Part, deal: Deal) -> list[Words]:
@@ -263,7 +274,7 @@ class DealMaker(Maker):
         else:
             lines = [[verb, writer, deal.base + (b"[self]" if deal.group else b"")]]
         mode = dice.choice((PLAIN, PLAIN, CYCLIC, SOME))
-        return looped(deal.writer, mode, lines) if is_own else lines
+        return self.looped(deal.writer, mode, lines) if is_own else lines
 
     def round(self, part: Part, number: int) -> list[Words]:
         """The lines of a role before a meeting."""
@@ -277,7 +288,7 @@ class DealMaker(Maker):
         groups = [it for it in self.parts if it.least is not None]
         if groups and dice.random() < 0.15:
             fence = [b"fence", b"self,each", b"collect"][: dice.choice((2, 3))]
-            lines += looped(dice.choice(groups), dice.choice((PLAIN, CYCLIC)), [fence])
+            lines += self.looped(dice.choice(groups), dice.choice((PLAIN, CYCLIC)), [fence])
         if part.least is not None and dice.random() < 0.1:
             lines.append([b"fence", part.name, b"collect"])
         if number and dice.random() < 0.05:

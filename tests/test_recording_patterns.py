@@ -145,6 +145,13 @@ class PatternTest(unittest.TestCase):
     def test_neighbours(self) -> None:
         self.hold(make_plan(NEIGHBOURS, 4, ASKED), NEIGHBOURS)
 
+    def test_a_neighbour_with_calls_of_its_own(self) -> None:
+        """The first rank publishes a port, and is a neighbour of others."""
+        scripts = [f"publish n[app:{n}] v; fence all; lookup n[app:{(n - 1) % 4}]" for n in range(4)]
+        scripts[0] = f"publish port v; {scripts[0]}"
+        found = self.find(make_scripts(*scripts))
+        self.assertIn("for some workers,root\nlookup n[each]\nend\n", found.text)
+
     def test_business_cards_that_differ(self) -> None:
         """Values of their own are left out; those that all ranks have stay."""
         scripts = (f"put global card 10.0.0.{n}; put local kind tcp; commit" for n in range(4))

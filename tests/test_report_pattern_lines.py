@@ -7,7 +7,7 @@ import report_support
 import support
 from wire_up_tools.plan import Plan
 from wire_up_tools.plan_reading import read_plan
-from wire_up_tools.report.patterns import Pattern, locate_calls
+from wire_up_tools.report.patterns import Pattern, list_calls, locate_calls
 
 FOLDER = os.path.join(support.TOP, "examples", "patterns")
 # Two groups of one job, a loop of some turns, indices, and a set of a job that has no role.
@@ -62,6 +62,41 @@ LINES = {
     "app2:1": [15, 17, 18, 20],
     "app2:2": [15, 17, 18, 20],
 }
+# A loop over several roles: the numbers and the lines of its calls, and a plan of it.
+SEVERAL = """\
+pattern 1
+job app
+one root
+put global k v
+commit
+many w
+for some root,w
+get each k
+lookup x[each]
+end
+commit
+"""
+NUMBERED = [
+    ("root", 1, 4), ("root", 2, 5), ("w", 1, 8), ("w", 2, 9), ("w", 3, 8), ("w", 4, 9), ("w", 5, 11),
+]
+SEVERAL_PLAN = """\
+rehearsal 2
+node n
+job app
+rank n
+put global k v
+commit
+rank n
+get app:0 k
+lookup x[app:0]
+get app:2 k
+lookup x[app:2]
+commit
+rank n
+get app:1 k
+lookup x[app:1]
+commit
+"""
 
 
 def locate(text: str, plan: Plan) -> dict[str, list[int]]:
@@ -78,6 +113,15 @@ class LinesTest(unittest.TestCase):
 
     def test_groups_and_turns(self) -> None:
         self.assertEqual(locate(PATTERN, read_plan(PLAN.encode())), LINES)
+
+    def test_a_loop_over_several_roles(self) -> None:
+        """Its lines count once for each of its roles."""
+        pattern = Pattern("it.pattern", SEVERAL.splitlines())
+        self.assertEqual(list(list_calls(pattern)), NUMBERED)
+        self.assertEqual(
+            locate(SEVERAL, read_plan(SEVERAL_PLAN.encode())),
+            {"app:0": [4, 5], "app:1": [8, 9, 8, 9, 11], "app:2": [8, 9, 11]},
+        )
 
     def test_a_plan_of_another_pattern(self) -> None:
         plan = read_plan(PLAN.replace("get app2:2", "get app2:0").encode())

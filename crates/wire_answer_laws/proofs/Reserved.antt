@@ -33,7 +33,7 @@ use Rattle.wire_sweep.specs.Selections.{Selection, selections}
 use Rattle.wire_sweep.specs.Texts.{HaveLeast}
 use Rattle.wire_sweep.proofs.Members.{In, in_place, at_place}
 use Rattle.wire_sweep.proofs.Selected.{selections_are, selections_few}
-use Rattle.wire_sweep.proofs.Texts.{there_is, texts_settled}
+use Rattle.wire_sweep.proofs.Texts.{there_is, texts_settled, any_cast}
 use Rattle.wire_pattern_waits.specs.Places.{steps_places}
 use Rattle.wire_pattern_waits.specs.Waits.{alone}
 use Rattle.wire_pattern_waits.proofs.Replied.{alone_cast}
@@ -131,7 +131,8 @@ module _ (p : Pattern) (all : IsAllAnswered p) (cast : Cast) (size : Size) (s : 
   kept =
       let r = there_is p.roles role within_roles in
       let sound = subst (λ o. are_sound_steps (length p.jobs) p.roles role false (steps_in o) ≡ true) (sym r.1) (all.sound.steps role r.0 r.1) in
-      line_kept p role (cast_of cast) (cast_of whole) a.process v (largest.some_turn p all.sound v) 0 1 false steps (line, said.turned) sound
+      line_kept p role (cast_of cast) (cast_of whole) a.process v
+      (largest.turn_too p all.sound (cast_of cast) (any_cast p cast is_cast least (cast_of cast).nodes).is.only a.process v role a.has_role process.1) 0 1 false steps (line, said.turned) sound
       (at_place (line, said.turned) (script_lines (cast_of cast) a.process 0 1 steps) a.call said.listed)
 
   place : (c : ℕ) × (slice_get (script_lines (cast_of whole) v 0 1 steps) c ≡ Some (in_other kept.0 (line, said.turned)))

@@ -1,14 +1,13 @@
 -- Each call of an instance is a line in a turn, and has the number of that line; and a line that has a call in one
--- instance has one in each that takes some turn of each loop.
-use Rattle.std.proofs.Common.{◌≡◌, ◌∙◌, ap, refl, ℕ, suc, ◌+◌, ◌<◌, List, [], ◌∷◌, ◌++◌, map, flat_map, length, Bool, true, false, inl, inr}
-use Rattle.std.specs.Prelude.{slice_get, ◌&&◌, not, nat_lt}
+-- instance has one in each that takes some turn of each loop in which that takes one.
+use Rattle.std.proofs.Common.{◌≡◌, ◌∙◌, ap, refl, ℕ, suc, ◌+◌, ◌<◌, List, [], ◌∷◌, ◌++◌, map, flat_map, length, Bool, true, inl, inr}
+use Rattle.std.specs.Prelude.{slice_get, ◌&&◌, nat_lt}
 use Rattle.std.specs.List.{range_with_len}
-use Rattle.std.proofs.lemmas.Bool.{and_parts, ltb-true, not-true}
+use Rattle.std.proofs.lemmas.Bool.{and_parts, ltb-true}
 use Rattle.std.proofs.lemmas.List.{map-append}
 use Rattle.wire_runs.specs.Patterns as plan
 use Rattle.wire_runs.specs.Patterns.{Turns, turns}
 use Rattle.wire_pattern.specs.Pattern.{Line, Step, Once, Loop, Pattern}
-use Rattle.wire_pattern.specs.Planned.{single_in}
 use Rattle.wire_pattern.specs.Instances.{Cast, cast_of}
 use Rattle.wire_pattern.specs.Lawful.{waits_after_step, is_sound_step, are_sound_steps}
 use Rattle.wire_instance_laws.proofs.Made.{Turned, in_turn, in_turns, in_step, in_steps}
@@ -89,18 +88,17 @@ turn_kept n e f [] x h = absurd h
 turn_kept n e f (line ∷ lines) x (inl is) = inl (ap (in_other f) is)
 turn_kept n e f (line ∷ lines) x (inr h) = inr (turn_kept (n + 1) e f lines x h)
 
--- the calls of w, where each loop over a group takes some turn
+-- the calls of w, where each loop of which v takes a turn takes some turn
 module _ (p : Pattern) (caller : ℕ) (cast other : plan.Cast) (v w : ℕ)
-    (some : (i role : ℕ) (mode : Turns) → role < length p.roles → single_in (slice_get p.roles role) ≡ false → (f : ℕ) × In f (turns other w i role mode)) where
+    (some : (i role e : ℕ) (mode : Turns) → role < length p.roles → In e (turns cast v i role mode) → (f : ℕ) × In f (turns other w i role mode)) where
   step_kept : (i n : ℕ) (waits : Bool) (step : Step) (x : NumberedLine) → is_sound_step (length p.jobs) p.roles caller waits step ≡ true
       → In x (step_lines cast v i n step) → (f : ℕ) × In (in_other f x) (step_lines other w i n step)
   step_kept i n waits (Once line) x sound (inl is) = (w, inl (ap (in_other w) is))
   step_kept i n waits (Once line) x sound (inr h) = absurd h
   step_kept i n waits (Loop number role mode lines) x sound h =
       let e = flat_in (λ (e : ℕ). turn_lines n e lines) x (turns cast v i role mode) h in
-      let over = and_parts (nat_lt role (length p.roles)) (not (single_in (slice_get p.roles role)))
-      (and_parts (nat_lt role (length p.roles) && not (single_in (slice_get p.roles role))) _ sound).0 in
-      let f = some i role mode (ltb-true role (length p.roles) over.0) (not-true _ over.1) in
+      let over = and_parts (nat_lt role (length p.roles)) _ sound in
+      let f = some i role e.0 mode (ltb-true role (length p.roles) over.0) e.1 in
       (f.0, in_flat (λ (e : ℕ). turn_lines n e lines) f.0 (in_other f.0 x) (turns other w i role mode) f.1 (turn_kept n e.0 f.0 lines x e.2))
 
   pub line_kept : (i n : ℕ) (waits : Bool) (steps : List Step) (x : NumberedLine) → are_sound_steps (length p.jobs) p.roles caller waits steps ≡ true

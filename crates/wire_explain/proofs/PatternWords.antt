@@ -1,5 +1,5 @@
 -- The words that may be meant are those of lines of a pattern.
-use Rattle.std.proofs.Common.{◌≡◌, refl, ℕ, Bool, true, false, cond, List, [], codes, inl, inr, sym}
+use Rattle.std.proofs.Common.{◌≡◌, refl, ℕ, Bool, true, false, cond, List, [], ◌∷◌, codes, inl, inr, sym}
 use Rattle.std.specs.List.{All, AllByRecursion}
 use Rattle.std.specs.Str.{bytes_eq}
 use Rattle.std.proofs.lemmas.List.Elements.{All-from_recursion}
@@ -51,7 +51,7 @@ first_words first = (
                           (
                             is_first (Calls UnpublishAll) refl (first (codes "unpublish")),
                             (
-                              is_first (Begin InOrder x) refl (first (codes "for")),
+                              is_first (Begin InOrder (x ∷ [])) refl (first (codes "for")),
                               (
                                 is_first End refl (first (codes "end")),
                                 tt,

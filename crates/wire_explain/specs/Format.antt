@@ -61,7 +61,7 @@ pattern_usages =
     ∷ (codes "lookup", codes "'lookup NAME', below a role; NAME as KEY of 'put'")
     ∷ (codes "lookup-wait", codes "'lookup-wait NAME', below a role; NAME as KEY of 'put'")
     ∷ (codes "unpublish", codes "'unpublish NAME', not in 'for some', or outside of loops 'unpublish *', below a role; NAME as KEY of 'put'")
-    ∷ (codes "for", codes "'for GROUP', 'for GROUP cyclic' or 'for some GROUP', below a role and outside of loops; GROUP is a role of any number of ranks")
+    ∷ (codes "for", codes "'for ROLES', 'for ROLE cyclic' or 'for some ROLES', below a role and outside of loops; ROLES is one role or more, at most 8, with commas between them")
     ∷ (codes "end", codes "'end' alone, below the lines of a loop")
     ∷ []
 

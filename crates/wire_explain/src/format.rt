@@ -121,8 +121,8 @@ static PATTERN_USAGES: [(&str, &str); 16] = [
     ),
     (
         "for",
-        "'for GROUP', 'for GROUP cyclic' or 'for some GROUP', below a role and outside of loops; GROUP is a role \
-         of any number of ranks",
+        "'for ROLES', 'for ROLE cyclic' or 'for some ROLES', below a role and outside of loops; ROLES is one role \
+         or more, at most 8, with commas between them",
     ),
     ("end", "'end' alone, below the lines of a loop"),
 ];

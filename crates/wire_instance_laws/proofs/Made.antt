@@ -1,6 +1,6 @@
 -- The calls of a process of an instance, each a line in a turn: what the text says of them, and what they are in the plan.
 use Rattle.std.proofs.Common.{◌≡◌, ◌∙◌, ap, sym, refl, ℕ, suc, ◌<◌, List, [], ◌∷◌, ◌++◌, map, flat_map, length, Bool, true, slice_get}
-use Rattle.std.specs.Prelude.{◌&&◌, not, nat_lt}
+use Rattle.std.specs.Prelude.{◌&&◌, nat_lt}
 use Rattle.std.specs.List.{list_all}
 use Rattle.std.proofs.lemmas.List.{map-append}
 use Rattle.wire_types.specs.Said as said
@@ -9,7 +9,7 @@ use Rattle.wire_runs.specs.Patterns as plan
 use Rattle.wire_runs.specs.Patterns.{Coding, Turns, turns, call_in, loop_calls, calls_from}
 use Rattle.wire_lines.proofs.Colon.{and_left, and_right}
 use Rattle.wire_pattern.specs.Pattern.{Line, Step, Once, Loop, Role, Pattern}
-use Rattle.wire_pattern.specs.Planned.{line_of, step_of, single_in}
+use Rattle.wire_pattern.specs.Planned.{line_of, step_of}
 use Rattle.wire_pattern.specs.Instances.{Cast, cast_of, call_said, turns_said, step_said, steps_said, step_lines, steps_lines}
 use Rattle.wire_pattern.specs.Lawful.{is_sound_call, is_loop_call, waits_after_step, is_sound_step, are_sound_steps}
 use Rattle.wire_instance_laws.proofs.Roles.{EachOf, each_both, turns_low}
@@ -125,7 +125,7 @@ module _ (p : Pattern) (role : ℕ) (cast : plan.Cast) (v : ℕ) (low : v < leng
   step_good i waits (Once line) h = (record { each = low; sound = and_left _ _ h }, tt)
   step_good i waits (Loop number group turns lines) h =
       turns_good turns group lines (plan.turns cast v i group turns) (turns_low cast v i group turns)
-      (and_left _ _ (and_right (nat_lt group (length p.roles) && not (single_in (slice_get p.roles group))) _ h))
+      (and_left _ _ (and_right (nat_lt group (length p.roles)) _ h))
 
   pub steps_good : (i : ℕ) (waits : Bool) (steps : List Step) → are_sound_steps (length p.jobs) p.roles role waits steps ≡ true → EachOf Good (in_steps cast v i steps)
   steps_good i waits [] h = tt

@@ -150,12 +150,12 @@ waits_after_step waits (Loop number group turns lines) = waits || waits_after_al
 abbrev pub is_sound_call : ℕ → List Role → ℕ → Call → Bool
 is_sound_call jobs roles caller call = has_words call && (is_known jobs roles call && is_member_call roles caller call)
 
--- outside loops no line names `each`; a loop is over a group, and where it commits, no put waits where it begins, nor
--- where a turn ends
+-- outside loops no line names `each`; a loop is over a role that is there, and where it commits, no put waits where it
+-- begins, nor where a turn ends
 abbrev pub is_sound_step : ℕ → List Role → ℕ → Bool → Step → Bool
 is_sound_step jobs roles caller waits (Once line) = is_sound_call jobs roles caller line.call && not (names_each line.call)
 is_sound_step jobs roles caller waits (Loop number group turns lines) =
-    (nat_lt group (length roles) && not (single_in (slice_get roles group)))
+    nat_lt group (length roles)
     && (list_all (λ l. is_sound_call jobs roles caller l.call && is_loop_call roles group turns l.call) lines
     && (not (has_commit lines) || (not waits && not (waits_after_all false lines))))
 

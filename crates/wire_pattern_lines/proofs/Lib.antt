@@ -5,3 +5,4 @@ pub mod Through
 pub mod Least
 pub mod SaysOnce
 pub mod FirstWords
+mod RoleLists

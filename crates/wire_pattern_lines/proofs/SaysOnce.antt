@@ -14,11 +14,12 @@ use Rattle.wire_pattern.specs.Lawful.{is_base}
 use Rattle.wire_pattern_lines.specs.Said.{Proc, Caller, Each, Named, Key, Item, One, Every, Set, Own, Listed, Call, Put, Commit, Fence, Get, GetNow, Publish, Lookup}
 use Rattle.wire_pattern_lines.specs.Said.{LookupWait, Unpublish, UnpublishAll, Said, Header, Keep, Job, Single, Many, Begin, End, Calls}
 use Rattle.wire_pattern_lines.specs.Said.{spelled_proc, is_lawful_proc, spelled_key, is_lawful_key, spelled_item, is_lawful_item, spelled_set, is_lawful_set, is_role_name, is_kept_word}
-use Rattle.wire_pattern_lines.specs.Said.{is_lawful, is_lawful_call, first_word, other_words, first_of_call, others_of_call, min_words, turn_words}
+use Rattle.wire_pattern_lines.specs.Said.{is_lawful, is_lawful_call, first_word, other_words, first_of_call, others_of_call, min_words, turn_words, are_loop_roles}
 use Rattle.wire_pattern_lines.specs.Once.{SaysOnce}
 use Rattle.wire_pattern_lines.proofs.Bracket.{base_closed, last_once, key_cut}
 use Rattle.wire_pattern_lines.proofs.Parts.{cut_list, proc_plain, item_plain}
 use Rattle.wire_pattern_lines.proofs.Items.{star_once}
+use Rattle.wire_pattern_lines.proofs.RoleLists.{roles_once, round_names}
 
 -- each kind of line and of call has a number that its word shows
 abbrev kind : Said → ℕ
@@ -225,16 +226,22 @@ call_once UnpublishAll (Unpublish l) h e la lb = let word : spelled_key l ≡ co
 call_once UnpublishAll UnpublishAll h e la lb = refl
 call_once _ _ h e la lb = absurd (omega arith)
 
-turns_once : (t u : Turns) (g h : List ℕ) → is_role_name g ≡ true → is_role_name h ≡ true → turn_words t g ≡ turn_words u h → (t ≡ u) × (g ≡ h)
-turns_once InOrder InOrder g h lg lh e = (refl, cc)
-turns_once InOrder Round g h lg lh e = absurd (cc)
-turns_once InOrder Chosen g h lg lh e = absurd (cc)
-turns_once Round InOrder g h lg lh e = absurd (cc)
-turns_once Round Round g h lg lh e = (refl, cc)
-turns_once Round Chosen g h lg lh e = let word : codes "some" ≡ g = cc in absurd (no_role (codes "some") g refl lg word)
-turns_once Chosen InOrder g h lg lh e = absurd (cc)
-turns_once Chosen Round g h lg lh e = let word : codes "some" ≡ h = cc in absurd (no_role (codes "some") h refl lh word)
-turns_once Chosen Chosen g h lg lh e = (refl, cc)
+round_chosen : (gs hs : List (List ℕ)) → are_loop_roles Round gs ≡ true → turn_words Round gs ≡ turn_words Chosen hs → ⊥
+round_chosen [] hs lg e = true≢false (sym lg)
+round_chosen (g ∷ []) hs lg e = let word : codes "some" ≡ g = cc in no_role (codes "some") g refl lg word
+round_chosen (g ∷ i ∷ gs) hs lg e = true≢false (sym lg)
+
+turns_once : (t u : Turns) (gs hs : List (List ℕ)) → are_loop_roles t gs ≡ true → are_loop_roles u hs ≡ true → turn_words t gs ≡ turn_words u hs → (t ≡ u) × (gs ≡ hs)
+turns_once InOrder InOrder gs hs lg lh e = let word : join_with_byte 44 gs ≡ join_with_byte 44 hs = cc in (refl, roles_once gs hs lg lh word)
+turns_once InOrder Round gs hs lg lh e = absurd (cc)
+turns_once InOrder Chosen gs hs lg lh e = absurd (cc)
+turns_once Round InOrder gs hs lg lh e = absurd (cc)
+turns_once Round Round gs hs lg lh e =
+    let word : join_with_byte 44 gs ≡ join_with_byte 44 hs = cc in (refl, roles_once gs hs (round_names gs lg) (round_names hs lh) word)
+turns_once Round Chosen gs hs lg lh e = absurd (round_chosen gs hs lg e)
+turns_once Chosen InOrder gs hs lg lh e = absurd (cc)
+turns_once Chosen Round gs hs lg lh e = absurd (round_chosen hs gs lh (sym e))
+turns_once Chosen Chosen gs hs lg lh e = let word : join_with_byte 44 gs ≡ join_with_byte 44 hs = cc in (refl, roles_once gs hs lg lh word)
 
 min_once : (m n : ℕ) → m ≤ 9 → n ≤ 9 → min_words m ≡ min_words n → m ≡ n
 min_once m n lm ln e = go (m == 0) (n == 0) refl refl e

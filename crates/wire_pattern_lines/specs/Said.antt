@@ -96,14 +96,14 @@ pub data Call : Type 0 where
   UnpublishAll : Call
 
 -- keep: what a get brings to a node stays there. Single, Many: a role of one process, and of any number, at least so
--- many. Begin: a loop over a role, which `end` ends
+-- many. Begin: a loop over roles, which `end` ends
 pub data Said : Type 0 where
   Header : Said
   Keep : Said
   Job : (name : List ℕ) → Said
   Single : (name : List ℕ) → Said
   Many : (name : List ℕ) → (least : ℕ) → Said
-  Begin : Turns → (group : List ℕ) → Said
+  Begin : Turns → (roles : List (List ℕ)) → Said
   End : Said
   Calls : Call → Said
 
@@ -130,7 +130,7 @@ first_word Keep = codes "keep"
 first_word (Job name) = codes "job"
 first_word (Single name) = codes "one"
 first_word (Many name least) = codes "many"
-first_word (Begin turns group) = codes "for"
+first_word (Begin turns roles) = codes "for"
 first_word End = codes "end"
 first_word (Calls call) = first_of_call call
 
@@ -138,11 +138,23 @@ first_word (Calls call) = first_of_call call
 abbrev pub min_words : ℕ → List (List ℕ)
 min_words least = if least == 0 then [] else codes "min" ∷ decimal least ∷ []
 
--- the words of a loop: its turns and its group
-abbrev pub turn_words : Turns → List ℕ → List (List ℕ)
-turn_words InOrder group = group ∷ []
-turn_words Round group = group ∷ codes "cyclic" ∷ []
-turn_words Chosen group = codes "some" ∷ group ∷ []
+-- the words of a loop: its turns, and its roles with commas between them
+abbrev pub turn_words : Turns → List (List ℕ) → List (List ℕ)
+turn_words InOrder roles = join_with_byte 44 roles ∷ []
+turn_words Round roles = join_with_byte 44 roles ∷ codes "cyclic" ∷ []
+turn_words Chosen roles = codes "some" ∷ join_with_byte 44 roles ∷ []
+
+-- the names of one role or more
+abbrev pub are_role_names : List (List ℕ) → Bool
+are_role_names [] = false
+are_role_names (role ∷ roles) = list_all is_role_name (role ∷ roles)
+
+-- a loop that goes round is over one role, another over one or more
+abbrev pub are_loop_roles : Turns → List (List ℕ) → Bool
+are_loop_roles Round (role ∷ []) = is_role_name role
+are_loop_roles Round roles = false
+are_loop_roles InOrder roles = are_role_names roles
+are_loop_roles Chosen roles = are_role_names roles
 
 -- the words after the first
 abbrev pub others_of_call : Call → List (List ℕ)
@@ -163,7 +175,7 @@ other_words Keep = []
 other_words (Job name) = name ∷ []
 other_words (Single name) = name ∷ []
 other_words (Many name least) = name ∷ min_words least
-other_words (Begin turns group) = turn_words turns group
+other_words (Begin turns roles) = turn_words turns roles
 other_words End = []
 other_words (Calls call) = others_of_call call
 
@@ -186,7 +198,7 @@ is_lawful Keep = true
 is_lawful (Job name) = is_bare_name name
 is_lawful (Single name) = is_role_name name
 is_lawful (Many name least) = is_role_name name && nat_le least 9
-is_lawful (Begin turns group) = is_role_name group
+is_lawful (Begin turns roles) = are_loop_roles turns roles
 is_lawful End = true
 is_lawful (Calls call) = is_lawful_call call
 

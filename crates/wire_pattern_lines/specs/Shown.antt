@@ -1,5 +1,6 @@
 -- What a parsed line says, without where its parts lie.
 use Rattle.std.specs.Prelude.{map}
+use Rattle.wire_types.specs.Texts.{texts_of}
 use Rattle.wire_pattern.specs.Shown.{turns_by}
 use Rattle.wire_pattern_lines.specs.Said as said
 use Rattle.wire_pattern_lines.specs.declared.procs.Proc.{Proc}
@@ -49,6 +50,6 @@ said_by Keep = said.Keep
 said_by (Job name) = said.Job name.now
 said_by (Single name) = said.Single name.now
 said_by (Many name least) = said.Many name.now least
-said_by (Begin turns group) = said.Begin (turns_by turns) group.now
+said_by (Begin turns roles) = said.Begin (turns_by turns) (texts_of roles.items)
 said_by End = said.End
 said_by (Calls call) = said.Calls (call_by call)

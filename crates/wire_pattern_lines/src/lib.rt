@@ -5,6 +5,7 @@ mod call;
 mod key;
 mod line;
 mod procs;
+mod roles;
 mod sets;
 mod word;
 

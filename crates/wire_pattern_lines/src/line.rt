@@ -1,7 +1,8 @@
 //! What one line says.
 
 ghost use Rattle.std.specs.Prelude.{[], ◌≡◌, ◌≢◌, ◌↔◌, ℕ, List, ◌∷◌, ◌≤◌, true, IsTrue, IfOk, IfSome, IfNone, codes};
-ghost use Rattle.std.specs.Prelude.{decimal};
+ghost use Rattle.std.specs.Prelude.{decimal, false};
+ghost use Rattle.std.specs.List.{join_with_byte};
 ghost use Rattle.wire_types.specs.Verbs.{text_of_verb};
 ghost use Rattle.wire_types.specs.Texts.{texts_of};
 ghost use Rattle.wire_runs.specs.Patterns.{Turns as PlanTurns};
@@ -9,12 +10,14 @@ ghost use Rattle.wire_pattern.specs.Shown.{turns_by};
 ghost use Rattle.wire_pattern_lines.specs.Said as spec;
 ghost use Rattle.wire_pattern_lines.specs.Said.{Said, Header, Says, is_lawful, first_word, other_words};
 ghost use Rattle.wire_pattern_lines.specs.Said.{min_words, turn_words, is_bare_name, is_role_name};
+ghost use Rattle.wire_pattern_lines.specs.Said.{are_role_names, are_loop_roles};
 ghost use Rattle.wire_pattern_lines.specs.Shown.{said_by};
 ghost use Rattle.wire_pattern_lines.specs.Kind.{text_of};
 ghost use Rattle.wire_pattern_lines.specs.Once.{SaysOnce};
 ghost use Rattle.wire_pattern_lines.specs.declared.line.Kind.{Kind};
 
 use crate::call::{CallLine, call_of};
+use crate::roles::roles_in;
 use crate::word::{is_bare_name, is_role_name};
 use std::alloc::{AllocError, Global};
 use wire_lines::{is_text, number_of, verb_of};
@@ -32,8 +35,8 @@ pub enum Line<'a> {
     Single(&'a [u8]),
     /// A role of any number of processes, at least so many.
     Many { name: &'a [u8], least: u32 },
-    /// A loop over a role.
-    Begin { turns: Turns, group: &'a [u8] },
+    /// A loop over roles.
+    Begin { turns: Turns, roles: Vec<&'a [u8]> },
     /// The end of a loop.
     End,
     Calls(CallLine<'a>),
@@ -105,33 +108,72 @@ fn many_in<'a>(words: &[&'a [u8]]) -> Option<(&'a [u8], u32)>
     }
 }
 
-/// The turns that two words say, and the group.
-fn two_turns<'a>(first: &'a [u8], second: &'a [u8]) -> Option<(Turns, &'a [u8])>
-    ensures found { IfSome result (λ g. (first.now ∷ second.now ∷ [] ≡ turn_words (turns_by g.0) g.1.now)
-        × (spec.is_role_name g.1.now ≡ true)) }
-    ensures none { IfNone result ((turns : PlanTurns) (group : List ℕ) → spec.is_role_name group ≡ true
-        → first.now ∷ second.now ∷ [] ≢ turn_words turns group) }
+/// A loop with these turns over the roles that the word lists.
+fn loop_over<'a>(
+    alloc: Global,
+    turns: Turns,
+    word: &'a [u8],
+) -> Result<Option<Line<'a>>, AllocError>
+    requires { turns ≢ Turns.Round }
+    ensures found { IfOk result (λ o. IfSome o (λ l. (first_word (said_by l) ≡ codes "for")
+        × (turn_words (turns_by turns) (word.now ∷ []) ≡ other_words (said_by l)) × (is_lawful (said_by l) ≡ true))) }
+    ensures none { IfOk result (λ o. IfNone o ((roles : List (List ℕ)) → are_role_names roles ≡ true
+        → word.now ≢ join_with_byte 44 roles)) }
 {
-    if is_text(second, b"cyclic") && is_role_name(first) {
-        Some((Turns::Round, first))
-    } else if is_text(first, b"some") && is_role_name(second) {
-        Some((Turns::Chosen, second))
-    } else {
-        None
+    match roles_in(alloc, word)? {
+        Some(roles) => Ok(Some(Line::Begin { turns, roles })),
+        None => Ok(None),
     }
 }
 
-/// The turns of a loop and its group.
-fn turns_in<'a>(words: &[&'a [u8]]) -> Option<(Turns, &'a [u8])>
-    ensures found { IfSome result (λ g. (texts_of words.now ≡ turn_words (turns_by g.0) g.1.now)
-        × (spec.is_role_name g.1.now ≡ true)) }
-    ensures none { IfNone result ((turns : PlanTurns) (group : List ℕ) → spec.is_role_name group ≡ true
-        → texts_of words.now ≢ turn_words turns group) }
+/// A loop that goes round, over the role of this name.
+fn round_loop(alloc: Global, word: &[u8]) -> Result<Option<Line<'_>>, AllocError>
+    ensures found { IfOk result (λ o. IfSome o (λ l. (first_word (said_by l) ≡ codes "for")
+        × (word.now ∷ codes "cyclic" ∷ [] ≡ other_words (said_by l)) × (is_lawful (said_by l) ≡ true))) }
+    ensures none { IfOk result (λ o. IfNone o (spec.is_role_name word.now ≡ false)) }
+{
+    if !is_role_name(word) {
+        return Ok(None);
+    }
+    let mut roles = Vec::with_capacity(alloc, 1)?;
+    roles.push(word)?;
+    Ok(Some(Line::Begin {
+        turns: Turns::Round,
+        roles,
+    }))
+}
+
+/// The loop that two words begin.
+fn two_words<'a>(
+    alloc: Global,
+    first: &'a [u8],
+    second: &'a [u8],
+) -> Result<Option<Line<'a>>, AllocError>
+    ensures found { IfOk result (λ o. IfSome o (λ l. (first_word (said_by l) ≡ codes "for")
+        × (first.now ∷ second.now ∷ [] ≡ other_words (said_by l)) × (is_lawful (said_by l) ≡ true))) }
+    ensures none { IfOk result (λ o. IfNone o ((turns : PlanTurns) (roles : List (List ℕ)) → are_loop_roles turns roles ≡ true
+        → first.now ∷ second.now ∷ [] ≢ turn_words turns roles)) }
+{
+    if is_text(second, b"cyclic") {
+        round_loop(alloc, first)
+    } else if is_text(first, b"some") {
+        loop_over(alloc, Turns::Chosen, second)
+    } else {
+        Ok(None)
+    }
+}
+
+/// The loop that these words begin, behind the first.
+fn loop_of<'a>(alloc: Global, words: &[&'a [u8]]) -> Result<Option<Line<'a>>, AllocError>
+    ensures found { IfOk result (λ o. IfSome o (λ l. (first_word (said_by l) ≡ codes "for")
+        × (texts_of words.now ≡ other_words (said_by l)) × (is_lawful (said_by l) ≡ true))) }
+    ensures none { IfOk result (λ o. IfNone o ((turns : PlanTurns) (roles : List (List ℕ)) → are_loop_roles turns roles ≡ true
+        → texts_of words.now ≢ turn_words turns roles)) }
 {
     match words {
-        [group] if is_role_name(group) => Some((Turns::InOrder, group)),
-        [first, second] => two_turns(first, second),
-        _ => None,
+        [word] => loop_over(alloc, Turns::InOrder, word),
+        [first, second] => two_words(alloc, first, second),
+        _ => Ok(None),
     }
 }
 
@@ -217,9 +259,10 @@ fn call_in<'a>(
     }
 }
 
-/// The line of a kind that is none of a call, by the words after its first.
+/// The line of a kind that is none of a call and begins no loop, by the words after its first.
 fn plain_line_of<'a>(kind: Kind, words: &[&'a [u8]]) -> Option<Line<'a>>
-    requires { (verb : Verb) → kind ≢ Kind.Calls verb }
+    requires call { (verb : Verb) → kind ≢ Kind.Calls verb }
+    requires begin { kind ≢ Kind.Begin }
     ensures found { IfSome result (λ l. (first_word (said_by l) ≡ text_of kind)
         × (texts_of words.now ≡ other_words (said_by l)) × (is_lawful (said_by l) ≡ true)) }
     ensures none { IfNone result ((said : Said) → first_word said ≡ text_of kind
@@ -240,12 +283,8 @@ fn plain_line_of<'a>(kind: Kind, words: &[&'a [u8]]) -> Option<Line<'a>>
             Some((name, least)) => Some(Line::Many { name, least }),
             None => None,
         },
-        Kind::Begin => match turns_in(words) {
-            Some((turns, group)) => Some(Line::Begin { turns, group }),
-            None => None,
-        },
         Kind::End => alone(Line::End, words),
-        Kind::Calls(_) => None,
+        Kind::Begin | Kind::Calls(_) => None,
     }
 }
 
@@ -262,6 +301,7 @@ fn line_of<'a>(
 {
     match kind {
         Kind::Calls(verb) => call_in(alloc, verb, words),
+        Kind::Begin => loop_of(alloc, words),
         _ => Ok(plain_line_of(kind, words)),
     }
 }

@@ -1,16 +1,14 @@
 -- All that lines declare is fit.
-use Rattle.std.proofs.Common.{◌≡◌, ◌∙◌, ap, sym, refl, subst, ℕ, zero, suc, ◌+◌, ◌-◌, ◌<◌, ◌≤◌, List, [], ◌∷◌, ◌++◌, Bool, true, false, map, length, Option, Some, None, Result, Ok, Err, MatchResult, inl, inr, arith, cond, if◌then◌else◌, length-append, slice_index_or, true≢false}
+use Rattle.std.proofs.Common.{◌≡◌, ◌∙◌, ap, sym, refl, subst, ℕ, zero, suc, ◌+◌, ◌-◌, ◌<◌, ◌≤◌, List, [], ◌∷◌, ◌++◌, Bool, true, false, map, length, Option, Some, None, Result, Ok, Err, MatchResult, inl, inr, arith, if◌then◌else◌, length-append, true≢false}
 use Rattle.std.specs.Prelude.{◌==◌, ◌&&◌, ◌||◌, not, nat_lt, nat_le, is_some}
 use Rattle.std.specs.List.{list_all, list_any}
 use Rattle.std.specs.Str.{bytes_eq}
 use Rattle.std.proofs.lemmas.Bool.{cases_lt}
-use Rattle.std.proofs.lemmas.List.{map-append, length-map}
-use Rattle.std.proofs.lemmas.List.Folds.{list_all-append}
+use Rattle.std.proofs.lemmas.List.{map-append}
 use Rattle.std.proofs.lemmas.Slice.Eq.{bytes_eq-Decides}
 use borrow.Author.Tests.{ltb-true, leb-true, lt-ltb, le-leb}
 use Rattle.wire_types.specs.declared.Fault.{Fault}
 use Rattle.wire_types.specs.declared.Fault.TheVariants.{TooLong, BadLine, Twice, TooMany}
-use Rattle.wire_runs.specs.Patterns.{Turns}
 use Rattle.wire_lines.proofs.Colon.{and_left, and_right}
 use Rattle.wire_content.specs.Scripts.{text_at}
 use Rattle.wire_content.specs.Apart.{AreApart}
@@ -19,8 +17,8 @@ use Rattle.wire_script.specs.FirstPass.{Name, is_among, is_short_name}
 use Rattle.wire_pattern.specs.Pattern.{JobLine}
 use Rattle.wire_pattern.specs.Lawful.{is_plain_name, is_plain_byte}
 use Rattle.wire_types.specs.Said.{is_name}
-use Rattle.wire_pattern_lines.specs.Said.{Said, Header, Keep, Job, Single, Many, Begin, End, Calls, Call, Says, is_lawful, is_lawful_call, is_bare_name, is_role_name, names_each, is_commit}
-use Rattle.wire_pattern_script.specs.FirstPass.{Placed, LoopLines, StepLines, OnceLine, LoopOf, RoleLines, Declared, nothing, job_names, role_names, is_in_place, is_short, is_again, has_room, with_step, with_role, with_call, with_loop, after, judged, Judges, ended, JudgesAll, FirstPass, is_turn_right, job_limit, role_limit}
+use Rattle.wire_pattern_lines.specs.Said.{Said, Header, Keep, Job, Single, Many, Begin, End, Calls, Call, is_lawful, is_lawful_call, is_bare_name, is_role_name}
+use Rattle.wire_pattern_script.specs.FirstPass.{LoopLines, StepLines, OnceLine, LoopOf, RoleLines, Declared, nothing, job_names, role_names, is_in_place, is_short, is_again, has_room, with_step, with_role, with_call, with_loop, after, Judges, JudgesAll, FirstPass, is_turn_right, job_limit, role_limit}
 use Rattle.wire_pattern_script.specs.Fit.{is_fit_line, is_fit_turn, is_fit_step, is_fit_loop, has_fit_steps, has_least, are_rising, role_jobs, IsFit}
 
 -- a line that is taken is in its place, short, new, and has room

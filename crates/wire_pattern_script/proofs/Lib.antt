@@ -5,3 +5,4 @@ pub mod Judging
 pub mod Once
 pub mod Fit
 pub mod Sound
+mod Pushed

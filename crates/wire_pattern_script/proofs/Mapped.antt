@@ -1,12 +1,15 @@
 -- Tests, counts and places over lists that are mapped.
-use Rattle.std.proofs.Common.{◌≡◌, ◌∙◌, ap, sym, refl, ℕ, suc, ◌+◌, ◌<◌, ◌≤◌, List, [], ◌∷◌, Bool, true, false, cond, Some, None, map, count_by, arith, length, drop, get_or, take, ◌++◌}
+use Rattle.std.proofs.Common.{◌≡◌, ◌∙◌, ap, sym, refl, ℕ, ◌+◌, ◌<◌, ◌≤◌, List, [], ◌∷◌, Bool, true, false, cond, Some, None, map, count_by, arith, length, get_or, take, ◌++◌}
 use Rattle.std.proofs.Common.{length-take}
-use Rattle.std.specs.Prelude.{◌&&◌, ◌||◌, not, nat_lt, position}
-use Rattle.std.specs.List.{list_all, list_any, position_or_len, prefix_len}
+use Rattle.std.specs.Prelude.{◌&&◌, ◌||◌, ◌==◌, not, nat_lt, position}
+use Rattle.std.specs.Borrow.{Bor}
+use Rattle.std.specs.Str.{bytes_eq}
+use Rattle.wire_types.specs.Texts.{texts_of}
+use Rattle.std.specs.List.{list_all, list_any, position_or_len}
 use Rattle.std.proofs.lemmas.List.{take_all}
 use Rattle.std.proofs.lemmas.Grind.{common_steps}
 use Rattle.std.proofs.lemmas.List.Folds.{length-prefix_len}
-use borrow.Author.Tests.{ltb-true, ltb-false}
+use borrow.Author.Tests.{ltb-false}
 
 pub all_of : {X Y : Type 0} (f : X → Y) (p : Y → Bool) (xs : List X) → list_all (λ x. p (f x)) xs ≡ list_all p (map f xs)
 all_of f p [] = refl
@@ -23,6 +26,12 @@ any_of_two f g p (x ∷ xs) = ap (λ b. p (g (f x)) || b) (any_of_two f g p xs)
 pub count_of : {X Y : Type 0} (f : X → Y) (p : Y → Bool) (xs : List X) → count_by (λ x. p (f x)) xs ≡ count_by p (map f xs)
 count_of f p [] = refl
 count_of f p (x ∷ xs) = grind (arith, common_steps, count_of f p xs)
+
+-- names that are each there once
+pub once_texts : (all words : List (Bor (List ℕ))) → list_all (λ m. count_by (λ n. bytes_eq m.now n.now) all == 1) words
+    ≡ list_all (λ name. count_by (bytes_eq name) (texts_of all) == 1) (texts_of words)
+once_texts all [] = refl
+once_texts all (w ∷ words) = λ t. (count_of (λ (n : Bor (List ℕ)). n.now) (bytes_eq w.now) all t == 1) && once_texts all words t
 
 place_found : {X : Type 0} (p : X → Bool) (xs : List X) (t : Bool) (i : ℕ) → t ≡ nat_lt (position_or_len p xs) (length xs) → Some i ≡ cond t (Some (position_or_len p xs)) None → i ≡ position_or_len p xs
 place_found p xs true i e s = cc

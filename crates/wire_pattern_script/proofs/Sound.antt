@@ -1,8 +1,9 @@
 -- A pattern that is declared and has no fault is sound.
-use Rattle.std.proofs.Common.{◌≡◌, ◌∙◌, ap, sym, refl, subst, ℕ, zero, suc, ◌+◌, ◌<◌, ◌≤◌, ◌^◌, List, [], ◌∷◌, ◌++◌, Bool, true, false, map, flat_map, length, Option, Some, None, Ok, Err, Result, arith, cond, if◌then◌else◌, slice_get, true≢false}
+use Rattle.std.proofs.Common.{◌≡◌, ◌∙◌, ap, sym, refl, subst, ℕ, zero, suc, ◌+◌, ◌<◌, ◌≤◌, List, [], ◌∷◌, ◌++◌, Bool, true, false, map, flat_map, length, Option, Some, None, arith, if◌then◌else◌, slice_get, true≢false}
 use Rattle.std.specs.Prelude.{◌==◌, ◌&&◌, ◌||◌, not, nat_lt, nat_le}
 use Rattle.std.specs.List.{list_all, list_any}
 use Rattle.std.proofs.lemmas.List.{length-map}
+use Rattle.std.proofs.lemmas.List.Folds.{list_all-append}
 use borrow.Author.Tests.{leb-true, eqb-true}
 use Rattle.wire_types.specs.declared.Fault.{Fault}
 use Rattle.wire_types.specs.declared.Fault.TheVariants.{BadLine, UnknownName, NotMember}
@@ -11,19 +12,17 @@ use Rattle.wire_lines.proofs.Colon.{and_left, and_right}
 use Rattle.wire_content.specs.Apart.{AreApart}
 use Rattle.wire_runs.specs.Patterns.{Who, Only, Turns}
 use Rattle.wire_script.specs.Reads.{first_of}
-use Rattle.wire_pattern.specs.Pattern.{Item, One, Group, Job, Call, Line, Step, Once, Loop, Role, JobLine, Pattern}
+use Rattle.wire_pattern.specs.Pattern.{One, Group, Call, Line, Step, Once, Loop, Role, JobLine, Pattern}
 use Rattle.wire_pattern.specs.declared.pattern.Job.{Job as CodeJob}
 use Rattle.wire_pattern.specs.declared.pattern.Role.{Role as CodeRole}
 use Rattle.wire_pattern.specs.Shown.{job_by, role_by}
-use Rattle.wire_pattern.specs.Planned.{single_in}
 use Rattle.wire_pattern.specs.Instances.{job_in}
-use Rattle.wire_pattern.specs.Lawful.{is_base, is_plain_name, whos_in_item, is_each, names_each, is_known, is_member_call, has_words, items_in, is_commit, is_loop_call, has_commit, waits_after_all, waits_after_step, is_sound_call, is_sound_step, are_sound_steps, HasLeast, IsSound, has_role, is_turn_call}
+use Rattle.wire_pattern.specs.Lawful.{is_base, is_plain_name, whos_in_item, is_each, names_each, is_known, is_member_call, has_words, is_commit, is_loop_call, has_commit, waits_after_all, waits_after_step, is_sound_call, is_sound_step, are_sound_steps, HasLeast, IsSound}
 use Rattle.wire_pattern_lines.specs.Said as said
-use Rattle.wire_pattern_script.specs.FirstPass.{Placed, LoopLines, StepLines, OnceLine, LoopOf, RoleLines, Declared, job_names, role_names, job_limit, role_limit}
-use Rattle.wire_pattern_script.specs.Numbers.{who_of, is_single_lines, role_item, role_number, item_of, items_of, call_of, line_of, step_of, role_of, pattern_of}
-use Rattle.wire_pattern_script.specs.Fit.{is_fit_line, is_fit_turn, is_fit_step, has_fit_steps, has_least, are_rising, role_jobs, IsFit}
-use Rattle.wire_pattern_script.specs.Faults.{first_fault, is_declared, fits_loop, line_fault, turn_fault, group_fault, step_fault, scripts_fault, second_fault, commit_line, bad_if, commit_fault, commits_fault, third_fault, roles_fault, pattern_fault}
-use Rattle.wire_pattern_script.specs.Reads.{unless_fault, judged_pattern}
+use Rattle.wire_pattern_script.specs.FirstPass.{Placed, LoopLines, StepLines, OnceLine, LoopOf, RoleLines, Declared}
+use Rattle.wire_pattern_script.specs.Numbers.{who_of, is_single_lines, role_number, item_of, call_of, line_of, loop_of, steps_of, role_of, pattern_of}
+use Rattle.wire_pattern_script.specs.Fit.{is_fit_line, is_fit_turn, is_fit_step, has_fit_steps, has_least, are_rising, IsFit}
+use Rattle.wire_pattern_script.specs.Faults.{first_fault, is_declared, fits_loop, line_fault, turn_fault, step_fault, scripts_fault, commit_line, bad_if, commit_fault, commits_fault, third_fault, roles_fault, pattern_fault}
 use Rattle.wire_pattern_script.proofs.Mapped.{all_of}
 
 both : (a b : Bool) → a ≡ true → b ≡ true → (a && b) ≡ true
@@ -33,6 +32,14 @@ both false b h k = h
 first_none : (a b : Option Fault) → first_of a b ≡ None → (a ≡ None) × (b ≡ None)
 first_none None b h = (refl, h)
 first_none (Some e) b h = absurd (cc)
+
+-- words that are words, and lines that name the process of a turn where they are in a loop
+abbrev is_turn_of_loop : Line → Bool
+is_turn_of_loop line = has_words line.call && (is_commit line.call || names_each line.call)
+
+abbrev has_fit_words : Step → Bool
+has_fit_words (Once line) = has_words line.call && not (names_each line.call)
+has_fit_words (Loop number group turns lines) = list_all is_turn_of_loop lines
 
 module _ (d : Declared) where
   whos_each : (ps : List said.Proc) → list_any is_each (map (who_of d) ps) ≡ list_any said.is_each ps
@@ -98,90 +105,107 @@ module _ (d : Declared) where
   words_fit job (said.Unpublish k) l = word_alone k l
   words_fit job said.UnpublishAll l = refl
 
-  module _ (jobs : ℕ) (roles : List Role) (caller : ℕ) where
-    -- a line without a fault
-    no_fault : (a k f m : Bool) (n : ℕ) → (if not a then Some (UnknownName n) else if not (k && f) then Some (BadLine n) else if not m then Some (NotMember n) else None) ≡ None
-        → (k ≡ true) × (f ≡ true) × (m ≡ true)
-    no_fault false k f m n h = absurd (cc)
-    no_fault true false f m n h = absurd (cc)
-    no_fault true true false m n h = absurd (cc)
-    no_fault true true true false n h = absurd (cc)
-    no_fault true true true true n h = (refl, refl, refl)
+  once_fit : (job : ℕ) (line : Placed) → is_fit_line line ≡ true → has_fit_words (Once (line_of d job line)) ≡ true
+  once_fit job line fit =
+      both (has_words (call_of d job line.1)) _ (words_fit job line.1 (and_left _ _ fit)) (ap not (each_same job line.1) ∙ and_right _ _ fit)
 
-    line_none : (fits : Bool) (line : Line) → line_fault jobs roles caller fits line ≡ None
-        → (is_known jobs roles line.call ≡ true) × (fits ≡ true) × (is_member_call roles caller line.call ≡ true)
-    line_none fits line h = no_fault (is_declared jobs (length roles) line.call) (is_known jobs roles line.call) fits (is_member_call roles caller line.call) line.number h
+  turn_fit : (job : ℕ) (line : Placed) → is_fit_turn line ≡ true → is_turn_of_loop (line_of d job line) ≡ true
+  turn_fit job line fit =
+      both (has_words (call_of d job line.1)) _ (words_fit job line.1 (and_left _ _ fit))
+      (ap (λ b. b || names_each (call_of d job line.1)) (commit_same job line.1) ∙ ap (λ b. said.is_commit line.1 || b) (each_same job line.1) ∙ and_right _ _ fit)
 
-    call_sound : (job : ℕ) (c : said.Call) → said.is_lawful_call c ≡ true → is_known jobs roles (call_of d job c) ≡ true → is_member_call roles caller (call_of d job c) ≡ true
-        → is_sound_call jobs roles caller (call_of d job c) ≡ true
-    call_sound job c l k m = both (has_words (call_of d job c)) _ (words_fit job c l) (both (is_known jobs roles (call_of d job c)) _ k m)
+  turns_fit : (job : ℕ) (lines : List Placed) → list_all is_fit_turn lines ≡ true → list_all is_turn_of_loop (map (line_of d job) lines) ≡ true
+  turns_fit job [] fit = refl
+  turns_fit job (line ∷ lines) fit =
+      both (is_turn_of_loop (line_of d job line)) _ (turn_fit job line (and_left _ _ fit)) (turns_fit job lines (and_right _ _ fit))
 
-    once_sound : (w : Bool) (job : ℕ) (line : Placed) → is_fit_line line ≡ true → line_fault jobs roles caller true (line_of d job line) ≡ None
-        → is_sound_step jobs roles caller w (Once (line_of d job line)) ≡ true
-    once_sound w job line fit none =
-        let n = line_none true (line_of d job line) none in
-        both (is_sound_call jobs roles caller (call_of d job line.1)) _ (call_sound job line.1 (and_left _ _ fit) n.0 n.2) (ap not (each_same job line.1) ∙ and_right _ _ fit)
+  -- the loops over the roles of a list, and the steps of a script
+  loops_fit : (job : ℕ) (l : LoopLines) (roles : List (List ℕ)) → list_all is_fit_turn l.lines ≡ true → list_all has_fit_words (map (loop_of d job l) roles) ≡ true
+  loops_fit job l [] fit = refl
+  loops_fit job l (role ∷ roles) fit = both (list_all is_turn_of_loop (map (line_of d job) l.lines)) _ (turns_fit job l.lines fit) (loops_fit job l roles fit)
 
-    turn_sound : (job group : ℕ) (turns : Turns) (line : Placed) → is_fit_turn line ≡ true → turn_fault jobs roles caller group turns (line_of d job line) ≡ None
-        → (is_sound_call jobs roles caller (call_of d job line.1) && is_loop_call roles group turns (call_of d job line.1)) ≡ true
-    turn_sound job group turns line fit none =
-        let n = line_none (fits_loop roles group turns (call_of d job line.1)) (line_of d job line) none in
-        let named : (is_commit (call_of d job line.1) || names_each (call_of d job line.1)) ≡ true =
-        ap (λ b. b || names_each (call_of d job line.1)) (commit_same job line.1) ∙ ap (λ b. said.is_commit line.1 || b) (each_same job line.1) ∙ and_right _ _ fit in
-        both (is_sound_call jobs roles caller (call_of d job line.1)) _ (call_sound job line.1 (and_left _ _ fit) n.0 n.2)
-        (both (is_commit (call_of d job line.1) || names_each (call_of d job line.1)) _ named n.1)
+  step_fit : (job : ℕ) (s : StepLines) → is_fit_step s ≡ true → list_all has_fit_words (steps_of d job s) ≡ true
+  step_fit job (OnceLine line) fit = both (has_fit_words (Once (line_of d job line))) true (once_fit job line fit) refl
+  step_fit job (LoopOf l) fit = loops_fit job l l.roles fit
 
-    turns_sound : (job group : ℕ) (turns : Turns) (lines : List Placed) → list_all is_fit_turn lines ≡ true → first_fault (turn_fault jobs roles caller group turns) (map (line_of d job) lines) ≡ None
-        → list_all (λ l. is_sound_call jobs roles caller l.call && is_loop_call roles group turns l.call) (map (line_of d job) lines) ≡ true
-    turns_sound job group turns [] fit none = refl
-    turns_sound job group turns (line ∷ lines) fit none =
-        let n = first_none _ _ none in
-        both (is_sound_call jobs roles caller (call_of d job line.1) && is_loop_call roles group turns (call_of d job line.1)) _
-        (turn_sound job group turns line (and_left _ _ fit) n.0) (turns_sound job group turns lines (and_right _ _ fit) n.1)
+  steps_fit : (job : ℕ) (ss : List StepLines) → list_all is_fit_step ss ≡ true → list_all has_fit_words (flat_map (steps_of d job) ss) ≡ true
+  steps_fit job [] fit = refl
+  steps_fit job (s ∷ ss) fit =
+      list_all-append has_fit_words (steps_of d job s) (flat_map (steps_of d job) ss)
+      ∙ both (list_all has_fit_words (steps_of d job s)) _ (step_fit job s (and_left _ _ fit)) (steps_fit job ss (and_right _ _ fit))
 
-    not_bad : (bad : Bool) (n : ℕ) → (if bad then Some (BadLine n) else None) ≡ None → bad ≡ false
-    not_bad true n h = absurd (cc)
-    not_bad false n h = refl
+module _ (jobs : ℕ) (roles : List Role) (caller : ℕ) where
+  -- a line without a fault
+  no_fault : (a k f m : Bool) (n : ℕ) → (if not a then Some (UnknownName n) else if not (k && f) then Some (BadLine n) else if not m then Some (NotMember n) else None) ≡ None
+      → (k ≡ true) × (f ≡ true) × (m ≡ true)
+  no_fault false k f m n h = absurd (cc)
+  no_fault true false f m n h = absurd (cc)
+  no_fault true true false m n h = absurd (cc)
+  no_fault true true true false n h = absurd (cc)
+  no_fault true true true true n h = (refl, refl, refl)
 
-    commit_here : (c more bad : Bool) (n : ℕ) (later : Option ℕ) → (bad_if bad later ≡ None → more ≡ true → bad ≡ false) → bad_if bad (if c then Some n else later) ≡ None → (c || more) ≡ true → bad ≡ false
-    commit_here true more bad n later up h e = not_bad bad n h
-    commit_here false more bad n later up h e = up h e
+  line_none : (fits : Bool) (line : Line) → line_fault jobs roles caller fits line ≡ None
+      → (is_known jobs roles line.call ≡ true) × (fits ≡ true) × (is_member_call roles caller line.call ≡ true)
+  line_none fits line h = no_fault (is_declared jobs (length roles) line.call) (is_known jobs roles line.call) fits (is_member_call roles caller line.call) line.number h
 
-    no_bad_commit : (bad : Bool) (lines : List Line) → bad_if bad (commit_line lines) ≡ None → has_commit lines ≡ true → bad ≡ false
-    no_bad_commit bad [] h e = absurd (true≢false (sym e))
-    no_bad_commit bad (l ∷ ls) h e = commit_here (is_commit l.call) (has_commit ls) bad l.number (commit_line ls) (no_bad_commit bad ls) h e
+  call_sound : (c : Call) → has_words c ≡ true → is_known jobs roles c ≡ true → is_member_call roles caller c ≡ true → is_sound_call jobs roles caller c ≡ true
+  call_sound c w k m = both (has_words c) _ w (both (is_known jobs roles c) _ k m)
 
-    commit_right : (c w a : Bool) → (c ≡ true → (w || a) ≡ false) → (not c || (not w && not a)) ≡ true
-    commit_right false w a h = refl
-    commit_right true true a h = absurd (true≢false (h refl))
-    commit_right true false true h = absurd (true≢false (h refl))
-    commit_right true false false h = refl
+  turn_sound : (group : ℕ) (turns : Turns) (line : Line) → is_turn_of_loop line ≡ true → turn_fault jobs roles caller group turns line ≡ None
+      → (is_sound_call jobs roles caller line.call && is_loop_call roles group turns line.call) ≡ true
+  turn_sound group turns line fit none =
+      let n = line_none (fits_loop roles group turns line.call) line none in
+      both (is_sound_call jobs roles caller line.call) _ (call_sound line.call (and_left _ _ fit) n.0 n.2)
+      (both (is_commit line.call || names_each line.call) _ (and_right (has_words line.call) _ fit) n.1)
 
-    no_group_fault : (a s : Bool) (n : ℕ) → (if not a then Some (UnknownName n) else if s then Some (BadLine n) else None) ≡ None → (a ≡ true) × (not s ≡ true)
-    no_group_fault false s n h = absurd (cc)
-    no_group_fault true true n h = absurd (cc)
-    no_group_fault true false n h = (refl, refl)
+  turns_sound : (group : ℕ) (turns : Turns) (lines : List Line) → list_all is_turn_of_loop lines ≡ true → first_fault (turn_fault jobs roles caller group turns) lines ≡ None
+      → list_all (λ l. is_sound_call jobs roles caller l.call && is_loop_call roles group turns l.call) lines ≡ true
+  turns_sound group turns [] fit none = refl
+  turns_sound group turns (line ∷ lines) fit none =
+      let n = first_none _ _ none in
+      both (is_sound_call jobs roles caller line.call && is_loop_call roles group turns line.call) _
+      (turn_sound group turns line (and_left _ _ fit) n.0) (turns_sound group turns lines (and_right _ _ fit) n.1)
 
-    step_sound : (w : Bool) (job : ℕ) (s : StepLines) → is_fit_step s ≡ true → step_fault jobs roles caller (step_of d job s) ≡ None → commit_fault w (step_of d job s) ≡ None
-        → is_sound_step jobs roles caller w (step_of d job s) ≡ true
-    step_sound w job (OnceLine line) fit none commit = once_sound w job line fit none
-    step_sound w job (LoopOf l) fit none commit =
-        let n = first_none _ _ none in
-        let group = role_number d l.group in
-        let lines = map (line_of d job) l.lines in
-        let g = no_group_fault (nat_lt group (length roles)) (single_in (slice_get roles group)) l.number n.0 in
-        both (nat_lt group (length roles) && not (single_in (slice_get roles group))) _ (both (nat_lt group (length roles)) _ g.0 g.1)
-        (both (list_all (λ x. is_sound_call jobs roles caller x.call && is_loop_call roles group l.turns x.call) lines) _ (turns_sound job group l.turns l.lines fit n.1)
-        (commit_right (has_commit lines) w (waits_after_all false lines) (no_bad_commit (w || waits_after_all false lines) lines commit)))
+  not_bad : (bad : Bool) (n : ℕ) → (if bad then Some (BadLine n) else None) ≡ None → bad ≡ false
+  not_bad true n h = absurd (cc)
+  not_bad false n h = refl
 
-    steps_sound : (w : Bool) (job : ℕ) (ss : List StepLines) → list_all is_fit_step ss ≡ true → first_fault (step_fault jobs roles caller) (map (step_of d job) ss) ≡ None
-        → commits_fault w (map (step_of d job) ss) ≡ None → are_sound_steps jobs roles caller w (map (step_of d job) ss) ≡ true
-    steps_sound w job [] fit none commit = refl
-    steps_sound w job (s ∷ ss) fit none commit =
-        let n = first_none _ _ none in
-        let c = first_none _ _ commit in
-        both (is_sound_step jobs roles caller w (step_of d job s)) _ (step_sound w job s (and_left _ _ fit) n.0 c.0)
-        (steps_sound (waits_after_step w (step_of d job s)) job ss (and_right _ _ fit) n.1 c.1)
+  commit_here : (c more bad : Bool) (n : ℕ) (later : Option ℕ) → (bad_if bad later ≡ None → more ≡ true → bad ≡ false) → bad_if bad (if c then Some n else later) ≡ None → (c || more) ≡ true → bad ≡ false
+  commit_here true more bad n later up h e = not_bad bad n h
+  commit_here false more bad n later up h e = up h e
+
+  no_bad_commit : (bad : Bool) (lines : List Line) → bad_if bad (commit_line lines) ≡ None → has_commit lines ≡ true → bad ≡ false
+  no_bad_commit bad [] h e = absurd (true≢false (sym e))
+  no_bad_commit bad (l ∷ ls) h e = commit_here (is_commit l.call) (has_commit ls) bad l.number (commit_line ls) (no_bad_commit bad ls) h e
+
+  commit_right : (c w a : Bool) → (c ≡ true → (w || a) ≡ false) → (not c || (not w && not a)) ≡ true
+  commit_right false w a h = refl
+  commit_right true true a h = absurd (true≢false (h refl))
+  commit_right true false true h = absurd (true≢false (h refl))
+  commit_right true false false h = refl
+
+  no_group_fault : (a : Bool) (n : ℕ) → (if a then None else Some (UnknownName n)) ≡ None → a ≡ true
+  no_group_fault false n h = absurd (cc)
+  no_group_fault true n h = refl
+
+  step_sound : (w : Bool) (s : Step) → has_fit_words s ≡ true → step_fault jobs roles caller s ≡ None → commit_fault w s ≡ None → is_sound_step jobs roles caller w s ≡ true
+  step_sound w (Once line) fit none commit =
+      let n = line_none true line none in
+      both (is_sound_call jobs roles caller line.call) _ (call_sound line.call (and_left _ _ fit) n.0 n.2) (and_right (has_words line.call) _ fit)
+  step_sound w (Loop number group turns lines) fit none commit =
+      let n = first_none _ _ none in
+      both (nat_lt group (length roles)) _ (no_group_fault (nat_lt group (length roles)) number n.0)
+      (both (list_all (λ x. is_sound_call jobs roles caller x.call && is_loop_call roles group turns x.call) lines) _ (turns_sound group turns lines fit n.1)
+      (commit_right (has_commit lines) w (waits_after_all false lines) (no_bad_commit (w || waits_after_all false lines) lines commit)))
+
+  steps_sound : (w : Bool) (ss : List Step) → list_all has_fit_words ss ≡ true → first_fault (step_fault jobs roles caller) ss ≡ None
+      → commits_fault w ss ≡ None → are_sound_steps jobs roles caller w ss ≡ true
+  steps_sound w [] fit none commit = refl
+  steps_sound w (s ∷ ss) fit none commit =
+      let n = first_none _ _ none in
+      let c = first_none _ _ commit in
+      both (is_sound_step jobs roles caller w s) _ (step_sound w s (and_left _ _ fit) n.0 c.0)
+      (steps_sound (waits_after_step w s) ss (and_right _ _ fit) n.1 c.1)
 
 -- the script of one role of many
 script_none : (jobs : ℕ) (all : List Role) (n : ℕ) (rs : List Role) (k : ℕ) (role : Role) → scripts_fault jobs all n rs ≡ None → slice_get rs k ≡ Some role
@@ -256,7 +280,7 @@ declared_sound d f none =
           let second : first_fault (step_fault (length d.jobs) p.roles r) role.steps ≡ None = subst (λ m. first_fault (step_fault (length d.jobs) p.roles m) role.steps ≡ None) here (script_none (length d.jobs) p.roles 0 p.roles r role n.0 e) in
           let third = loops_none p.roles r role n.1 e in
           subst (λ (x : Role). are_sound_steps (length d.jobs) p.roles r false x.steps ≡ true) (sym got.2)
-          (steps_sound d (length d.jobs) p.roles r false got.0.job got.0.steps fit
+          (steps_sound (length d.jobs) p.roles r false (flat_map (steps_of d got.0.job) got.0.steps) (steps_fit d got.0.job got.0.steps fit)
           (subst (λ (x : Role). first_fault (step_fault (length d.jobs) p.roles r) x.steps ≡ None) got.2 second)
           (subst (λ (x : Role). commits_fault false x.steps ≡ None) got.2 third)));
       few_jobs = (let h = f.few_jobs in omega arith);

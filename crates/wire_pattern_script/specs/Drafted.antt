@@ -1,5 +1,6 @@
 -- What a draft declares.
-use Rattle.std.specs.Prelude.{ℕ, map, Option, Some, None, option_map}
+use Rattle.std.specs.Prelude.{ℕ, map, option_map}
+use Rattle.wire_types.specs.Texts.{texts_of}
 use Rattle.wire_pattern.specs.Pattern.{JobLine}
 use Rattle.wire_pattern.specs.Shown.{turns_by}
 use Rattle.wire_pattern_lines.specs.Said.{Call}
@@ -17,7 +18,7 @@ abbrev pub placed_of : Placed → ℕ × Call
 placed_of p = (p.number, call_by p.call)
 
 abbrev pub loop_of : LoopDraft → pass.LoopLines
-loop_of l = record { number = l.number; turns = turns_by l.turns; group = l.group.now; lines = map placed_of l.lines.items }
+loop_of l = record { number = l.number; turns = turns_by l.turns; roles = texts_of l.roles.items; lines = map placed_of l.lines.items }
 
 abbrev pub step_of : StepDraft → pass.StepLines
 step_of (Once line) = pass.OnceLine (placed_of line)

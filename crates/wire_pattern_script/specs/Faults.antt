@@ -1,13 +1,12 @@
 -- The first fault of a pattern with numbers for its names: that of the second pass over all lines, else that of the third.
-use Rattle.std.specs.Prelude.{ℕ, suc, ◌+◌, ◌&&◌, ◌||◌, Bool, true, false, not, nat_lt, List, [], ◌∷◌, length}
-use Rattle.std.specs.Prelude.{Option, Some, None, Result, Ok, Err, slice_get, if◌then◌else◌}
+use Rattle.std.specs.Prelude.{ℕ, ◌+◌, ◌&&◌, ◌||◌, Bool, true, false, not, nat_lt, List, [], ◌∷◌, length}
+use Rattle.std.specs.Prelude.{Option, Some, None, if◌then◌else◌}
 use Rattle.std.specs.List.{list_all, list_any}
 use Rattle.wire_types.specs.declared.Fault.{Fault}
 use Rattle.wire_types.specs.declared.Fault.TheVariants.{BadLine, UnknownName, NotMember}
 use Rattle.wire_runs.specs.Patterns.{Who, Only, Self, Each, Turns}
 use Rattle.wire_script.specs.Reads.{first_of}
 use Rattle.wire_pattern.specs.Pattern.{Item, One, Group, Job, Call, Line, Step, Once, Loop, Role, Pattern}
-use Rattle.wire_pattern.specs.Planned.{single_in}
 use Rattle.wire_pattern.specs.Lawful.{whos_in, items_in, is_known, is_member_call, has_role, is_turn_call, is_commit}
 use Rattle.wire_pattern.specs.Lawful.{waits_after_all, waits_after_step}
 
@@ -46,12 +45,9 @@ line_fault jobs roles caller fits line =
     else if not (is_member_call roles caller line.call) then Some (NotMember line.number)
     else None
 
--- the fault of the first line of a loop: its group isn't declared, or is one process
+-- the fault of the first line of a loop: its role isn't declared
 abbrev pub group_fault : List Role → ℕ → ℕ → Option Fault
-group_fault roles number group =
-    if not (nat_lt group (length roles)) then Some (UnknownName number)
-    else if single_in (slice_get roles group) then Some (BadLine number)
-    else None
+group_fault roles number group = if nat_lt group (length roles) then None else Some (UnknownName number)
 
 -- the fault of a line in a loop over this group
 abbrev pub turn_fault : ℕ → List Role → ℕ → ℕ → Turns → Line → Option Fault

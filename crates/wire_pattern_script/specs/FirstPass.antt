@@ -1,8 +1,9 @@
 -- What the lines of a pattern's file declare, line by line, and which fault is the first.
-use Rattle.std.specs.Prelude.{◌≡◌, ℕ, ◌+◌, ◌-◌, ◌==◌, ◌&&◌, ◌||◌, Bool, true, false, not, nat_lt, List, [], ◌∷◌, ◌++◌}
+use Rattle.std.specs.Prelude.{◌≡◌, ℕ, ◌+◌, ◌-◌, ◌==◌, ◌&&◌, ◌||◌, Bool, true, false, not, nat_lt, nat_le, List, [], ◌∷◌, ◌++◌}
 use Rattle.std.specs.Prelude.{length, map, count_by, Option, Some, None, is_some, is_none, Result, Ok, Err, MatchResult}
 use Rattle.std.specs.Prelude.{◌⊎◌, if◌then◌else◌}
 use Rattle.std.specs.List.{list_all}
+use Rattle.std.specs.Str.{bytes_eq}
 use Rattle.wire_types.specs.declared.Fault.{Fault}
 use Rattle.wire_types.specs.declared.Fault.TheVariants.{TooLong, BadHeader, BadLine, Twice, TooMany}
 use Rattle.wire_runs.specs.Patterns.{Turns}
@@ -24,15 +25,19 @@ role_limit = 64
 abbrev pub group_limit : ℕ
 group_limit = 6
 
+-- how many roles a loop may list
+abbrev pub list_limit : ℕ
+list_limit = 8
+
 -- a call line, with its number
 abbrev pub Placed : Type 0
 Placed = ℕ × Call
 
--- a loop: the number of its line, its turns, the name of its role, and its call lines
+-- a loop: the number of its line, its turns, the names of its roles, and its call lines
 pub record LoopLines : Type 0 where
   pub number : ℕ
   pub turns : Turns
-  pub group : Name
+  pub roles : List Name
   pub lines : List Placed
 
 pub data StepLines : Type 0 where
@@ -79,7 +84,7 @@ is_in_place d Keep = not d.keeps && length d.jobs == 0
 is_in_place d (Job name) = is_none d.open_loop
 is_in_place d (Single name) = nat_lt 0 (length d.jobs) && is_none d.open_loop
 is_in_place d (Many name least) = nat_lt 0 (length d.jobs) && is_none d.open_loop
-is_in_place d (Begin turns group) = d.begun && is_none d.open_loop
+is_in_place d (Begin turns roles) = d.begun && is_none d.open_loop
 is_in_place d End = is_some d.open_loop
 is_in_place d (Calls call) = d.begun && is_turn_right d.open_loop call
 
@@ -119,18 +124,26 @@ is_short Keep = true
 is_short (Job name) = is_short_name name
 is_short (Single name) = is_short_name name
 is_short (Many name least) = is_short_name name
-is_short (Begin turns group) = is_short_name group
+is_short (Begin turns roles) = list_all is_short_name roles
 is_short End = true
 is_short (Calls call) = is_short_call call
 
--- whether a line declared the name before: jobs among jobs, roles among roles
+-- whether each name is there once
+abbrev pub are_once : List Name → Bool
+are_once names = list_all (λ name. count_by (bytes_eq name) names == 1) names
+
+-- whether a list that isn't too long has a name twice
+abbrev pub lists_twice : List Name → Bool
+lists_twice names = nat_le (length names) list_limit && not (are_once names)
+
+-- whether a line declared the name before, jobs among jobs, roles among roles, or the line lists a role twice
 abbrev pub is_again : Declared → Said → Bool
 is_again d Header = false
 is_again d Keep = false
 is_again d (Job name) = is_among (job_names d) name
 is_again d (Single name) = is_among (role_names d) name
 is_again d (Many name least) = is_among (role_names d) name
-is_again d (Begin turns group) = false
+is_again d (Begin turns roles) = lists_twice roles
 is_again d End = false
 is_again d (Calls call) = false
 
@@ -145,7 +158,7 @@ has_room d Keep = true
 has_room d (Job name) = nat_lt (length d.jobs) job_limit
 has_room d (Single name) = nat_lt (length d.roles) role_limit
 has_room d (Many name least) = nat_lt (length d.roles) role_limit && nat_lt (group_count d) group_limit
-has_room d (Begin turns group) = true
+has_room d (Begin turns roles) = nat_le (length roles) list_limit
 has_room d End = true
 has_room d (Calls call) = true
 
@@ -179,7 +192,7 @@ after d line Keep = record d { keeps = true }
 after d line (Job name) = record d { jobs = d.jobs ++ record { name = name; number = line } ∷ []; begun = false }
 after d line (Single name) = with_role d line name true 1
 after d line (Many name least) = with_role d line name false least
-after d line (Begin turns group) = record d { open_loop = Some (record { number = line; turns = turns; group = group; lines = [] }) }
+after d line (Begin turns roles) = record d { open_loop = Some (record { number = line; turns = turns; roles = roles; lines = [] }) }
 after d line End = with_loop d d.open_loop
 after d line (Calls call) = with_call d d.open_loop (line, call)
 

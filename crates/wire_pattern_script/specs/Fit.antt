@@ -4,7 +4,7 @@ use Rattle.std.specs.Prelude.{Option, Some, None}
 use Rattle.std.specs.List.{list_all}
 use Rattle.wire_content.specs.Apart.{AreApart}
 use Rattle.wire_pattern.specs.Lawful.{is_plain_name}
-use Rattle.wire_pattern_lines.specs.Said.{Call, is_lawful_call, names_each, is_commit}
+use Rattle.wire_pattern_lines.specs.Said.{is_lawful_call, names_each, is_commit}
 use Rattle.wire_pattern_script.specs.FirstPass.{Placed, LoopLines, StepLines, OnceLine, LoopOf, RoleLines, Declared}
 use Rattle.wire_pattern_script.specs.FirstPass.{job_names, role_names, job_limit, role_limit}
 

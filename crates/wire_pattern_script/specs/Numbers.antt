@@ -1,6 +1,6 @@
 -- The pattern that is declared: jobs and roles with numbers for their names. A name that isn't declared has the number of
 -- all.
-use Rattle.std.specs.Prelude.{ℕ, Bool, true, false, List, [], ◌∷◌, map, Option, Some, None, slice_get, if◌then◌else◌}
+use Rattle.std.specs.Prelude.{ℕ, Bool, true, false, List, [], ◌∷◌, map, flat_map, Option, Some, None, slice_get, if◌then◌else◌}
 use Rattle.wire_runs.specs.Patterns as plan
 use Rattle.wire_script.specs.FirstPass.{Name, number_or_count}
 use Rattle.wire_pattern_lines.specs.Said as said
@@ -59,9 +59,14 @@ get_of d false owner key = Get (who_of d owner) (indexed_of d key)
 abbrev pub line_of : Declared → ℕ → ℕ × said.Call → Line
 line_of d own_job line = record { number = line.0; call = call_of d own_job line.1 }
 
-abbrev pub step_of : Declared → ℕ → StepLines → Step
-step_of d own_job (OnceLine line) = Once (line_of d own_job line)
-step_of d own_job (LoopOf l) = Loop l.number (role_number d l.group) l.turns (map (line_of d own_job) l.lines)
+-- the loop over one of its roles
+abbrev pub loop_of : Declared → ℕ → LoopLines → Name → Step
+loop_of d own_job l role = Loop l.number (role_number d role) l.turns (map (line_of d own_job) l.lines)
+
+-- a loop over several roles is a loop over each, in the order of the list
+abbrev pub steps_of : Declared → ℕ → StepLines → List Step
+steps_of d own_job (OnceLine line) = Once (line_of d own_job line) ∷ []
+steps_of d own_job (LoopOf l) = map (loop_of d own_job l) l.roles
 
 abbrev pub role_of : Declared → RoleLines → Role
 role_of d role = record {
@@ -70,7 +75,7 @@ role_of d role = record {
   single = role.single;
   least = role.least;
   number = role.number;
-  steps = map (step_of d role.job) role.steps;
+  steps = flat_map (steps_of d role.job) role.steps;
 }
 
 abbrev pub pattern_of : Declared → Pattern

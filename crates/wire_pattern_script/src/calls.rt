@@ -11,7 +11,7 @@ ghost use Rattle.wire_pattern_script.specs.Faults as spec;
 use wire_pattern::{Call, Indexed, Item, Role, Turns, Who};
 
 /// Whether the role of this number is of one process.
-pub fn is_single(roles: &[Role], role: u32) -> bool
+fn is_single(roles: &[Role], role: u32) -> bool
     ensures { result ≡ single_in (slice_get (map role_by roles.now) role) }
 {
     match roles.get(role as usize) {

@@ -18,11 +18,11 @@ impl Drop for Placed<'_> {
     }
 }
 
-/// A loop with its lines so far: the number of its own line, its turns, and the name of its group.
+/// A loop with its lines so far: the number of its own line, its turns, and the names of its roles.
 pub struct LoopDraft<'a> {
     pub number: u64,
     pub turns: Turns,
-    pub group: &'a [u8],
+    pub roles: Vec<&'a [u8]>,
     pub lines: Vec<Placed<'a>>,
 }
 
@@ -32,7 +32,7 @@ impl Drop for LoopDraft<'_> {
         let LoopDraft {
             number: _,
             turns: _,
-            group: _,
+            roles: _,
             lines: _,
         } = self;
     }

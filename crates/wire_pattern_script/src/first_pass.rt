@@ -1,7 +1,7 @@
 //! The first pass: each line by itself and by those before it.
 
 ghost use Rattle.std.specs.Prelude.{◌≡◌, ◌+◌, ◌<◌, ◌≤◌, ◌⊎◌, true, false, Ok, Err, length, map, ◌^◌, OnOk, IfOk, IfErr};
-ghost use Rattle.std.specs.Prelude.{MatchResult, vec_len, is_none, unwrap_or};
+ghost use Rattle.std.specs.Prelude.{MatchResult, vec_len, is_none, unwrap_or, count_by, ◌==◌};
 ghost use Rattle.std.specs.List.{list_all, list_any};
 ghost use Rattle.std.specs.Str.{bytes_eq};
 ghost use Rattle.wire_types.specs.Texts.{texts_of};
@@ -20,7 +20,7 @@ ghost use Rattle.wire_pattern_script.specs.FirstPass.{with_role};
 ghost use Rattle.wire_pattern_script.specs.Drafted.{declared_of, role_of, step_of, placed_of, loop_of};
 
 use crate::draft::{Draft, JobDraft, LoopDraft, Placed, RoleDraft, StepDraft};
-use crate::limits::{GROUPS, JOBS, NAME_BYTES, ROLES, VALUE_BYTES};
+use crate::limits::{GROUPS, JOBS, LISTED, NAME_BYTES, ROLES, VALUE_BYTES};
 use std::alloc::{AllocError, Global};
 use wire_pattern_lines::{CallLine, Item, Key, Line, Proc, Set, is_header, read_pattern_line};
 use wire_script::Cursor;
@@ -31,6 +31,13 @@ fn is_short_name(name: &[u8]) -> bool
     ensures { result ≡ plan.is_short_name name.now }
 {
     name.len() <= NAME_BYTES
+}
+
+/// Whether these names are within their limit.
+fn are_short_names(names: &[&[u8]]) -> bool
+    ensures { result ≡ list_all (λ n. plan.is_short_name n.now) names.now }
+{
+    names.iter().all(|name| is_short_name(name))
 }
 
 /// Whether a value is within its limit.
@@ -122,7 +129,7 @@ fn is_short(said: &Line) -> bool
         Line::Header | Line::Keep | Line::End => true,
         Line::Job(name) | Line::Single(name) => is_short_name(name),
         Line::Many { name, .. } => is_short_name(name),
-        Line::Begin { group, .. } => is_short_name(group),
+        Line::Begin { roles, .. } => are_short_names(roles),
         Line::Calls(call) => is_short_call(call),
     }
 }
@@ -260,7 +267,42 @@ fn has_role(draft: &Draft, name: &[u8]) -> bool
     is_role_among(&draft.roles, name)
 }
 
-/// Whether a line declares what is declared already.
+/// Whether it is the same name.
+fn is_same(name: &[u8], other: &[u8]) -> bool
+    ensures { result ≡ bytes_eq name.now other.now }
+{
+    name == other
+}
+
+/// Whether this name is there once.
+fn is_once(names: &[&[u8]], name: &[u8]) -> bool
+    ensures { result ≡ (count_by (λ n. bytes_eq name.now n.now) names.now == 1) }
+{
+    names.iter().filter(|other| is_same(name, other)).count() == 1
+}
+
+/// Whether each of these names is there once.
+fn are_each_once(names: &[&[u8]]) -> bool
+    ensures { result ≡ list_all (λ m. count_by (λ n. bytes_eq m.now n.now) names.now == 1) names.now }
+{
+    names.iter().all(|name| is_once(names, name))
+}
+
+/// The same, by what the names say.
+fn are_once(names: &[&[u8]]) -> bool
+    ensures { result ≡ spec.are_once (texts_of names.now) }
+{
+    are_each_once(names)
+}
+
+/// Whether a loop lists a role twice, where it doesn't list too many.
+fn lists_twice(roles: &[&[u8]]) -> bool
+    ensures { result ≡ spec.lists_twice (texts_of roles.now) }
+{
+    roles.len() <= LISTED && !are_once(roles)
+}
+
+/// Whether a line declares what is declared already, or lists a role twice.
 fn is_again(draft: &Draft, said: &Line) -> bool
     ensures { result ≡ spec.is_again (declared_of draft.now) (said_by said.now) }
 {
@@ -268,6 +310,7 @@ fn is_again(draft: &Draft, said: &Line) -> bool
         Line::Job(name) => has_job(draft, name),
         Line::Single(name) => has_role(draft, name),
         Line::Many { name, .. } => has_role(draft, name),
+        Line::Begin { roles, .. } => lists_twice(roles),
         _ => false,
     }
 }
@@ -287,6 +330,7 @@ fn has_room(draft: &Draft, said: &Line) -> bool
         Line::Job(_) => draft.jobs.len() < JOBS,
         Line::Single(_) => draft.roles.len() < ROLES,
         Line::Many { .. } => draft.roles.len() < ROLES && group_count(draft) < GROUPS,
+        Line::Begin { roles, .. } => roles.len() <= LISTED,
         _ => true,
     }
 }
@@ -412,11 +456,11 @@ fn add<'a>(
         }
         Line::Single(name) => add_role(draft, alloc, line, name, None),
         Line::Many { name, least } => add_role(draft, alloc, line, name, Some(least)),
-        Line::Begin { turns, group } => {
+        Line::Begin { turns, roles } => {
             draft.open_loop = Some(LoopDraft {
                 number: line,
                 turns,
-                group,
+                roles,
                 lines: Vec::new(alloc),
             });
             Ok(())

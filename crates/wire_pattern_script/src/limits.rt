@@ -12,3 +12,6 @@ pub const JOBS: usize = 16;
 pub const ROLES: usize = 64;
 
 pub const GROUPS: usize = 6;
+
+/// How many roles a loop may list.
+pub const LISTED: usize = 8;

@@ -1,16 +1,17 @@
 //! Numbers for the names of jobs and roles.
 
-ghost use Rattle.std.specs.Prelude.{◌≡◌, map, position, slice_get, IfOk};
+ghost use Rattle.std.specs.Prelude.{◌≡◌, ◌++◌, map, flat_map, position, slice_get, IfOk, OnOk};
 ghost use Rattle.std.specs.Str.{bytes_eq};
+ghost use Rattle.wire_types.specs.Texts.{texts_of};
 ghost use Rattle.wire_script.specs.FirstPass.{number_or_count};
 ghost use Rattle.wire_pattern.specs.Shown as shown;
 ghost use Rattle.wire_pattern.specs.Shown.{who_by, indexed_by, line_by, step_by, role_by, job_by};
 ghost use Rattle.wire_pattern_lines.specs.Shown.{call_by, item_by, set_by, key_by, proc_by};
 ghost use Rattle.wire_pattern_script.specs.FirstPass.{job_names};
 ghost use Rattle.wire_pattern_script.specs.Numbers as spec;
-ghost use Rattle.wire_pattern_script.specs.Drafted.{declared_of, role_of, step_of, placed_of, job_of};
+ghost use Rattle.wire_pattern_script.specs.Drafted.{declared_of, role_of, step_of, loop_of, placed_of, job_of};
 
-use crate::draft::{Draft, JobDraft, Placed, RoleDraft, StepDraft};
+use crate::draft::{Draft, JobDraft, LoopDraft, Placed, RoleDraft, StepDraft};
 use crate::first_pass::{is_job_named, is_role_named};
 use std::alloc::{AllocError, Global};
 use wire_pattern::{Call, Indexed, Item, Job, Line, Role, Step, Who};
@@ -221,26 +222,62 @@ fn numbered_lines(
     Ok(numbered)
 }
 
-/// A step of a process of this job with numbers for its names.
-fn numbered_step(
+/// The loop of a process of this job over one of its roles, with numbers for its names.
+fn loop_over(
+    alloc: Global,
+    draft: &Draft,
+    job: u32,
+    begun: &LoopDraft,
+    role: &[u8],
+) -> Result<Step, AllocError>
+    ensures { IfOk result (λ s. step_by s ≡ spec.loop_of (declared_of draft.now) job (loop_of begun.now) role.now) }
+{
+    let lines = numbered_lines(alloc, draft, job, &begun.lines)?;
+    Ok(Step::Loop {
+        number: begun.number,
+        group: role_number(draft, role),
+        turns: begun.turns,
+        lines,
+    })
+}
+
+/// Gives these steps a loop over each role of a loop, with numbers for its names.
+fn add_loops(
+    alloc: Global,
+    draft: &Draft,
+    job: u32,
+    begun: &LoopDraft,
+    numbered: &mut Vec<Step>,
+) -> Result<(), AllocError>
+    ensures { OnOk result (map step_by numbered.new.items
+        ≡ map step_by numbered.old.items ++ map (spec.loop_of (declared_of draft.now) job (loop_of begun.now)) (texts_of begun.now.roles.items)) }
+{
+    let roles = begun.roles.as_slice();
+    for role in roles {
+        let made = loop_over(alloc, draft, job, begun, role)?;
+        numbered.push(made)?;
+    }
+    Ok(())
+}
+
+/// Gives these steps those of a step of a process of this job, with numbers for its names.
+fn add_steps(
     alloc: Global,
     draft: &Draft,
     job: u32,
     step: &StepDraft,
-) -> Result<Step, AllocError>
-    ensures { IfOk result (λ s. step_by s ≡ spec.step_of (declared_of draft.now) job (step_of step.now)) }
+    numbered: &mut Vec<Step>,
+) -> Result<(), AllocError>
+    ensures { OnOk result (map step_by numbered.new.items
+        ≡ map step_by numbered.old.items ++ spec.steps_of (declared_of draft.now) job (step_of step.now)) }
 {
     match step {
-        StepDraft::Once(line) => Ok(Step::Once(line_of(alloc, draft, job, line)?)),
-        StepDraft::Loop(begun) => {
-            let lines = numbered_lines(alloc, draft, job, &begun.lines)?;
-            Ok(Step::Loop {
-                number: begun.number,
-                group: role_number(draft, begun.group),
-                turns: begun.turns,
-                lines,
-            })
+        StepDraft::Once(line) => {
+            let made = line_of(alloc, draft, job, line)?;
+            numbered.push(Step::Once(made))?;
+            Ok(())
         }
+        StepDraft::Loop(begun) => add_loops(alloc, draft, job, begun, numbered),
     }
 }
 
@@ -251,12 +288,11 @@ fn numbered_steps(
     job: u32,
     steps: &[StepDraft],
 ) -> Result<Vec<Step>, AllocError>
-    ensures { IfOk result (λ v. map step_by v.items ≡ map (spec.step_of (declared_of draft.now) job) (map step_of steps.now)) }
+    ensures { IfOk result (λ v. map step_by v.items ≡ flat_map (spec.steps_of (declared_of draft.now) job) (map step_of steps.now)) }
 {
     let mut numbered = Vec::with_capacity(alloc, steps.len())?;
     for step in steps {
-        let made = numbered_step(alloc, draft, job, step)?;
-        numbered.push(made)?;
+        add_steps(alloc, draft, job, step, &mut numbered)?;
     }
     Ok(numbered)
 }

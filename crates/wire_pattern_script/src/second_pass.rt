@@ -4,7 +4,7 @@ ghost use Rattle.std.specs.Prelude.{◌≡◌, ◌+◌, ◌<◌, ◌^◌, map, l
 ghost use Rattle.wire_pattern.specs.Shown.{line_by, step_by, role_by, turns_by};
 ghost use Rattle.wire_pattern_script.specs.Faults as spec;
 
-use crate::calls::{fits_loop, is_declared, is_known, is_member_call, is_single};
+use crate::calls::{fits_loop, is_declared, is_known, is_member_call};
 use wire_pattern::{Line, Role, Step, Turns};
 use wire_types::Fault;
 
@@ -38,12 +38,10 @@ impl Script<'_> {
     fn group_fault(&self, number: u64, group: u32) -> Option<Fault>
         ensures { result ≡ spec.group_fault (map role_by self.now.roles.now) number group }
     {
-        if self.roles.len() <= group as usize {
-            Some(Fault::UnknownName(number))
-        } else if is_single(self.roles, group) {
-            Some(Fault::BadLine(number))
-        } else {
+        if (group as usize) < self.roles.len() {
             None
+        } else {
+            Some(Fault::UnknownName(number))
         }
     }
 

@@ -33,7 +33,7 @@ COUNTEREXAMPLE = re.compile(r"counterexample, [1-9]\d* ranks?")
 FINDINGS = ("# race ", "# rewrite ")
 # What begins a role, and the lines behind that which are no calls.
 MANY = "many"
-ROLES, NO_CALLS = ("one", MANY), ("for", "end", "job")
+ROLES, FOR, END, JOB = ("one", MANY), "for", "end", "job"
 # What is said of a pattern that comes from a plan of which that is so.
 IN_PART = "Of the program that was recorded it holds only in part."
 # What is said of a pattern that has none.
@@ -130,17 +130,30 @@ def judge_pattern(path: str, asker: Asker) -> Union[CleanPattern, Counterexample
 
 
 def list_calls(pattern: Pattern) -> Iterator[tuple[str, int, int]]:
-    """The calls of a pattern: the role, the number in it, and the line, each from 1."""
-    role, count = "", 0
+    """The calls of a pattern: the role, the number in it, and the line, each from 1. Those of a
+    loop over several roles count once for each."""
+    role, numbers, looped = "", itertools.count(1), list[int]()
+    times = 0
     for number, line in enumerate(pattern.lines, 1):
         said = line.split()
         if not said or said[0].startswith("#"):
             continue
         if said[0] in ROLES:
-            role, count = said[1] if len(said) > 1 else "", 0
-        elif role and said[0] not in NO_CALLS:
-            count += 1
-            yield role, count, number
+            role, numbers = said[1] if len(said) > 1 else "", itertools.count(1)
+        elif said[0] == FOR:
+            looped, times = [], count_roles(said)
+        elif said[0] == END:
+            yield from ((role, next(numbers), it) for it in looped * times)
+            looped, times = [], 0
+        elif times:
+            looped.append(number)
+        elif role and said[0] != JOB:
+            yield role, next(numbers), number
+
+
+def count_roles(words: Sequence[str]) -> int:
+    """How many roles a loop is over, by the words of its first line."""
+    return max(it.count(",") for it in words) + 1
 
 
 def list_groups(pattern: Pattern) -> list[str]:

@@ -16,9 +16,10 @@ Choices = Mapping[tuple[str, int, str], Sequence[str]]
 
 @dataclass(frozen=True)
 class ReadLoop:
-    """A loop: over which group, in which order, and its lines."""
+    """A loop over one role: which, in which order, and its lines. A loop over several roles is one
+    over each."""
 
-    group: str
+    role: str
     is_cyclic: bool
     is_some: bool
     lines: list[Line] = field(default_factory=list)
@@ -34,16 +35,19 @@ class ReadRole:
     items: list[Union[Line, ReadLoop]] = field(default_factory=list)
 
 
-def read_loop(words: Sequence[str]) -> ReadLoop:
-    """A loop by its first line."""
+def read_loops(words: Sequence[str]) -> list[ReadLoop]:
+    """The loops that a line begins. They have the same lines."""
     is_some, is_cyclic = words[1] == "some", words[-1] == "cyclic" and len(words) > 2
-    return ReadLoop(words[2] if is_some else words[1], is_cyclic, is_some)
+    lines = list[Line]()
+    roles = (words[2] if is_some else words[1]).split(",")
+    return [ReadLoop(it, is_cyclic, is_some, lines) for it in roles]
 
 
 def read_pattern(text: str) -> list[ReadRole]:
     """The roles of a pattern. It must be one: nothing is judged."""
     roles: list[ReadRole] = []
-    job, loop = "", None
+    job = ""
+    lines: Optional[list[Line]] = None
     for words in (it.split() for it in text.splitlines()):
         if not words or words[0].startswith("#") or " ".join(words) in (HEADER, "keep"):
             continue
@@ -52,12 +56,13 @@ def read_pattern(text: str) -> list[ReadRole]:
         elif words[0] in ("one", "many"):
             roles.append(ReadRole(job, words[1], words[0] == "many"))
         elif words[0] == "for":
-            loop = read_loop(words)
-            roles[-1].items.append(loop)
+            loops = read_loops(words)
+            roles[-1].items.extend(loops)
+            lines = loops[0].lines
         elif words[0] == "end":
-            loop = None
-        elif loop is not None:
-            loop.lines.append(words)
+            lines = None
+        elif lines is not None:
+            lines.append(words)
         else:
             roles[-1].items.append(words)
     return roles
@@ -129,8 +134,8 @@ class Instance:
         return [verb, *words]
 
     def find_turns(self, loop: ReadLoop, rank: str, chosen: Optional[Sequence[str]]) -> list[str]:
-        """Whom a loop of a rank is over: all others of the group, unless some are chosen."""
-        ranks = self.ranks[loop.group]
+        """Whom a loop of a rank is over: all others of the role, unless some are chosen."""
+        ranks = self.ranks[loop.role]
         if rank in ranks:
             place = ranks.index(rank)
             before, after = ranks[:place], ranks[place + 1:]

@@ -5,6 +5,10 @@ from dataclasses import dataclass, field
 from typing import Optional, Union
 
 from wire_up_tools.record.patterns.scripts import (
+    ASKING,
+    EACH,
+    INDEXED,
+    VALUES,
     NotSaid,
     Role,
     Roles,
@@ -22,7 +26,7 @@ MOST_LINES, MOST_TURNS = 24, 20_000
 
 @dataclass(frozen=True)
 class Loop:
-    """A loop over a group: how its line ends (`workers`, `workers cyclic`, `some workers`), and the
+    """A loop over a role: how its line ends (`workers`, `workers cyclic`, `some workers`), and the
     lines of a turn."""
 
     group: Role
@@ -36,10 +40,29 @@ class Loop:
         some, cyclic = "some " * self.is_some, " cyclic" * self.is_cyclic
         return f"for {some}{self.group.name}{cyclic}"
 
+    def make_turn(self, other: str) -> list[Said]:
+        """The calls of the turn for a rank. A single role is named by itself in them."""
+        if not self.group.is_group:
+            return [Said(rename_rank(it, EACH, self.group.name), None) for it in self.lines]
+        return [Said(it, None if it == COMMIT else other) for it in self.lines]
+
     @property
     def verbs(self) -> Sequence[str]:
         """What its lines call."""
         return [it.partition(" ")[0] for it in self.lines]
+
+
+def rename_rank(said: str, old: str, new: str) -> str:
+    """A call with another word for a rank, outside of sets."""
+    words = said.split(" ")
+    for n, word in enumerate(words[1:], 1):
+        key = INDEXED.fullmatch(word)
+        if words[0] in ASKING and n == 1:
+            words[n] = new if word == old else word
+        elif key and n != VALUES.get(words[0]):
+            indices = (new if it == old else it for it in key[2].split(","))
+            words[n] = f"{key[1]}[{','.join(indices)}]"
+    return " ".join(words)
 
 
 # An item of a script: a line, or a loop.
@@ -84,11 +107,6 @@ def order_turns(ranks: Sequence[str], rank: str, is_cyclic: bool) -> Sequence[st
     return [*after, *before] if is_cyclic else [*before, *after]
 
 
-def make_turn(lines: Sequence[str], other: str) -> list[Said]:
-    """The calls of a turn."""
-    return [Said(it, None if it == COMMIT else other) for it in lines]
-
-
 class Search:
     """The search for the script of one role, whose ranks are of one plan or of several."""
 
@@ -97,10 +115,10 @@ class Search:
         self.ends = tuple(len(it.calls) for it in told)
         self.seen: set[tuple[int, ...]] = set()
         self.furthest: tuple[int, ...] = tuple(0 for _ in told)
-        # The group of each rank, and the ranks of each group, in the plan of each of `told`.
-        groups = {id(it.roles): [role for role in it.roles.all if role.is_group] for it in told}
-        of_rank = {key: {r: it for it in them for r in it.ranks} for key, them in groups.items()}
-        of_name = {key: {it.name: it.ranks for it in them} for key, them in groups.items()}
+        # The role of each rank, and the ranks of each role, in the plan of each of `told`.
+        roles = {id(it.roles): it.roles.all for it in told}
+        of_rank = {key: {r: it for it in them for r in it.ranks} for key, them in roles.items()}
+        of_name = {key: {it.name: it.ranks for it in them} for key, them in roles.items()}
         self.group_of = [of_rank[id(it.roles)] for it in told]
         self.ranks_of = [of_name[id(it.roles)] for it in told]
 
@@ -145,7 +163,7 @@ class Search:
 
     def go_on(self, state: State) -> Iterator[State]:
         """All loops that may come next: longer turns first, and of two alike the one over all
-        ranks in their order."""
+        ranks in their order. Last those in which some have a turn for a single role."""
         for index, said in enumerate(self.find_next(state)):
             if said is None or not said.other:
                 continue
@@ -153,9 +171,36 @@ class Search:
             for lines in self.find_turns(index, state.at[index], said.other):
                 for is_cyclic, is_some in ((False, False), (True, False), (False, True)):
                     loop = Loop(group, is_cyclic, is_some, lines)
-                    ended = self.take(loop, state) if self.may_stand(loop, state) else None
-                    if ended:
-                        yield State(ended, [*state.items, loop], self.leaves_put(loop, state))
+                    yield from self.go_through(loop, state)
+        for index, said in enumerate(self.find_next(state)):
+            for role in self.find_named(index, said):
+                for lines in self.find_turns_for(index, state.at[index], role.name):
+                    yield from self.go_through(Loop(role, False, True, lines), state)
+
+    def go_through(self, loop: Loop, state: State) -> Iterator[State]:
+        """How the search is after a loop, if it may come next."""
+        ended = self.take(loop, state) if self.may_stand(loop, state) else None
+        if ended and ended != state.at:
+            yield State(ended, [*state.items, loop], self.leaves_put(loop, state))
+
+    def find_named(self, index: int, said: Optional[Said]) -> Sequence[Role]:
+        """The single roles that a call names by themselves."""
+        if said is None or said.other:
+            return []
+        singles = (it for it in self.told[index].roles.all if not it.is_group)
+        return [it for it in singles if rename_rank(said.words, it.name, EACH) != said.words]
+
+    def find_turns_for(self, index: int, at: int, role: str) -> Iterator[Sequence[str]]:
+        """The turns for a single role that may begin at a call, longest first."""
+        calls, lines = self.told[index].calls, list[str]()
+        for it in calls[at:at + MOST_LINES]:
+            line = rename_rank(it.words, role, EACH)
+            if it.other or (line == it.words and line != COMMIT):
+                break
+            lines.append(line)
+        while lines:
+            yield tuple(lines)
+            lines.pop()
 
     def find_turns(self, index: int, at: int, other: str) -> Iterator[Sequence[str]]:
         """The turns that may begin at a call, longest first."""
@@ -186,7 +231,7 @@ class Search:
         for told, ranks_of, at in zip(self.told, self.ranks_of, state.at):
             others = order_turns(ranks_of[loop.group.name], told.rank, loop.is_cyclic)
             for other in others:
-                turn = make_turn(loop.lines, other)
+                turn = loop.make_turn(other)
                 if list(told.calls[at:at + len(turn)]) == turn:
                     at += len(turn)
                 elif not loop.is_some:

@@ -11,9 +11,9 @@ from wire_up_tools.record.patterns.finding import (
     RoleScript,
     Told,
     find_scripts,
-    make_turn,
     order_turns,
 )
+from wire_up_tools.record.patterns.joining import add_item
 from wire_up_tools.record.patterns.scripts import ANY_VALUE, VALUES, Script, choose_roles
 from wire_up_tools.words import PATTERN_BY
 
@@ -48,7 +48,7 @@ def find_turns(loop: Loop, told: Told, at: int) -> Sequence[str]:
         return others
     chosen = []
     for other in others:
-        turn = make_turn(loop.lines, other)
+        turn = loop.make_turn(other)
         if list(told.calls[at:at + len(turn)]) == turn:
             at += len(turn)
             chosen.append(other)
@@ -81,7 +81,7 @@ def write_items(script: RoleScript, values: Mapping[int, set[str]]) -> list[str]
         lines = item.lines if isinstance(item, Loop) else [item]
         own = values_of(values, line, len(lines))
         said = [it.replace("\0", value) for it, value in zip(lines, own)]
-        written += [item.head, *said, "end"] if isinstance(item, Loop) else said
+        add_item(written, [item.head, *said, "end"] if isinstance(item, Loop) else said)
         line += len(lines)
     return written
 

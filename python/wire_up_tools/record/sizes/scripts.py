@@ -10,7 +10,6 @@ from wire_up_tools.record.patterns.finding import (
     Loop,
     Search,
     Told,
-    make_turn,
     order_turns,
     tell_all,
 )
@@ -119,7 +118,7 @@ def pass_loop(loop: Loop, told: Told, at: int) -> Optional[tuple[int, Sequence[s
     doesn't make it."""
     others = list[str]()
     for other in order_turns(told.roles.find(loop.group.name).ranks, told.rank, loop.is_cyclic):
-        turn = make_turn(loop.lines, other)
+        turn = loop.make_turn(other)
         if list(told.calls[at:at + len(turn)]) == turn:
             at += len(turn)
             others.append(other)

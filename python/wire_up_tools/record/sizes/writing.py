@@ -6,6 +6,7 @@ from typing import Optional
 
 from wire_up_tools.record.patterns.finding import Item, Loop
 from wire_up_tools.record.patterns.indexing import find_key
+from wire_up_tools.record.patterns.joining import add_item
 from wire_up_tools.record.patterns.scripts import ANY_VALUE, EACH, SELF, VALUES
 from wire_up_tools.record.sizes.claims import Claim
 from wire_up_tools.record.sizes.plans import Call
@@ -62,7 +63,12 @@ class Writer:
         """The name by which a rank says that it has come to an item."""
         base = f"{self.mark}.{claim.source}.{claim.known}"
         role = next(it for it in self.skeleton.roles if it.name == claim.source)
-        return f"{base}[{whose}]" if role.is_group else base
+        if role.is_group:
+            return f"{base}[{whose}]"
+        # Where a loop has a turn for a single role, each line of it names the rank of the turn.
+        of = claim.source, claim.known
+        has_turns = any(it.of_turns and (it.source, it.known) == of for it in self.claims)
+        return f"{base}[{whose}]" if has_turns else base
 
     def publish(self, role: str, at: int) -> list[str]:
         """What a rank of a role publishes before an item."""
@@ -75,8 +81,9 @@ class Writer:
         found = list[str]()
         for it in self.claims:
             if (it.role, it.at, it.of_turns) == (role, at, False):
-                line = f"lookup-wait {self.name(it, EACH)}"
-                found += [f"for {it.source}", line, "end"] if it.source in groups else [line]
+                is_group = it.source in groups
+                line = f"lookup-wait {self.name(it, EACH if is_group else it.source)}"
+                found += [f"for {it.source}", line, "end"] if is_group else [line]
         return found
 
     def write_item(self, role: str, at: int, item: Item) -> list[str]:
@@ -104,7 +111,7 @@ class Writer:
         for at in range(len(items) + 1):
             found += self.publish(role, at) + self.wait(role, at)
             if at < len(items):
-                found += self.write_item(role, at, items[at])
+                add_item(found, self.write_item(role, at, items[at]))
         return found
 
 

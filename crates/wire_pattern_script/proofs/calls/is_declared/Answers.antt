@@ -1,4 +1,4 @@
-use Rattle.std.proofs.Common.{◌≡◌, ◌∙◌, ap, sym, map}
+use Rattle.std.proofs.Common.{◌∙◌, ap, sym, map}
 use Rattle.std.specs.List.{list_all}
 use Rattle.wire_pattern_script.specs.Faults.{is_declared_item}
 use Rattle.wire_pattern.specs.Shown.{item_by}

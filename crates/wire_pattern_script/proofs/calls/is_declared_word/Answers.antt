@@ -1,4 +1,4 @@
-use Rattle.std.proofs.Common.{◌≡◌, ◌∙◌, ap, map}
+use Rattle.std.proofs.Common.{◌∙◌, ap}
 use Rattle.std.specs.List.{list_all}
 use Rattle.wire_pattern_script.specs.Faults.{is_declared_who}
 use Rattle.wire_pattern.specs.Shown.{who_by}

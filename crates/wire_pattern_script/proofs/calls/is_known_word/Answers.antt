@@ -1,4 +1,4 @@
-use Rattle.std.proofs.Common.{◌≡◌, ◌∙◌, ap, map}
+use Rattle.std.proofs.Common.{◌∙◌, ap, map}
 use Rattle.std.specs.List.{list_all}
 use Rattle.wire_pattern.specs.Lawful.{is_known_who}
 use Rattle.wire_pattern.specs.Shown.{who_by, role_by}

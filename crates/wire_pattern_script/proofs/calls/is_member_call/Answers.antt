@@ -1,4 +1,4 @@
-use Rattle.std.proofs.Common.{◌≡◌, ◌∙◌, ap, map}
+use Rattle.std.proofs.Common.{◌∙◌, ap, map}
 use Rattle.std.specs.List.{list_any}
 use Rattle.wire_pattern.specs.Lawful.{has_caller}
 use Rattle.wire_pattern.specs.Shown.{item_by, role_by}

@@ -1,4 +1,4 @@
-use Rattle.std.proofs.Common.{◌≡◌, ◌∙◌, ap, map}
+use Rattle.std.proofs.Common.{◌∙◌, ap}
 use Rattle.std.specs.List.{list_any}
 use Rattle.wire_pattern_lines.specs.Said.{is_each_item}
 use Rattle.wire_pattern_lines.specs.Shown.{item_by}

@@ -1,4 +1,4 @@
-use Rattle.std.proofs.Common.{◌≡◌, ◌∙◌, ap, map}
+use Rattle.std.proofs.Common.{◌∙◌, ap}
 use Rattle.std.specs.List.{list_all}
 use Rattle.wire_pattern_script.specs.FirstPass.{is_short_item}
 use Rattle.wire_pattern_lines.specs.Shown.{item_by}

@@ -1,4 +1,4 @@
-use Rattle.std.proofs.Common.{ap, refl, map}
+use Rattle.std.proofs.Common.{ap, map}
 use Rattle.wire_pattern_script.specs.Numbers.{line_of}
 use Rattle.wire_pattern.specs.Shown.{line_by}
 use Rattle.wire_pattern_script.specs.Drafted.{placed_of}

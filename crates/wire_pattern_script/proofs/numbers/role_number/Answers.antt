@@ -1,4 +1,4 @@
-use Rattle.std.proofs.Common.{◌≡◌, ◌∙◌, None, Some, vec_len, length, sym}
+use Rattle.std.proofs.Common.{◌≡◌, ◌∙◌, None, Some, length}
 use Rattle.std.specs.Prelude.{position}
 use Rattle.std.specs.Str.{bytes_eq}
 use Rattle.wire_pattern_script.specs.FirstPass.{RoleLines}

@@ -1,4 +1,4 @@
-use Rattle.std.proofs.Common.{◌≡◌, map, drop, false}
+use Rattle.std.proofs.Common.{◌≡◌, map, drop}
 use Rattle.wire_pattern_script.specs.Faults.{commit_line}
 use Rattle.wire_pattern.specs.Shown.{line_by}
 use Rattle.wire_pattern_script.proofs.third_pass.commit_line.Given as goal

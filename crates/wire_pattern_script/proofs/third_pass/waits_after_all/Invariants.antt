@@ -1,4 +1,4 @@
-use Rattle.std.proofs.Common.{◌≡◌, map, drop, false}
+use Rattle.std.proofs.Common.{◌≡◌, map, drop}
 use Rattle.wire_pattern.specs.Lawful.{waits_after_all}
 use Rattle.wire_pattern.specs.Shown.{line_by}
 use Rattle.wire_pattern_script.proofs.third_pass.waits_after_all.Given as goal
