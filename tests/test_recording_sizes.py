@@ -154,17 +154,18 @@ def part_ways(size: int) -> list[Tape]:
 
 
 def answer_otherwise(size: int) -> list[Tape]:
-    """All others get the card of rank 0, which the library hasn't with 4 ranks or more. All put a
-    card twice, so that calls can race."""
+    """All others get the card of rank 0, which the library hasn't with 4 ranks or more: then they
+    publish a name. All put a card twice, so that calls can race."""
     tapes = make_world(size)
     for it in tapes:
         it.call("put global card text:v").call("commit")
         it.call("put global card text:w").call("commit")
         it.call("fence blocks all -")
     found = "0 text:w" if size < 4 else "-46"
-    for it in tapes[1:]:
+    for rank, it in enumerate(tapes[1:], 1):
         it.call("get blocks job:0 :card -", found)
-    publish(tapes[0], "port")
+        if size > 3:
+            publish(it, f"more{rank}")
     return tapes
 
 
@@ -296,7 +297,7 @@ class AnswerTest(unittest.TestCase):
     def test_a_call_that_fails_at_every_size(self) -> None:
         said = self.ask(forget_cards, (3, 4), (8,))
         self.assertEqual(said["findings"], [])
-        self.assertIn("may fail in a plan of the pattern: last 3 get-now", said["notes"])
+        self.assertIn("may fail in a plan of the pattern: workers 3 get-now", said["notes"])
 
     def test_a_reply_that_differs_between_sizes(self) -> None:
         said = self.ask(answer_otherwise, (3, 4), ())
