@@ -78,13 +78,12 @@ three_tests false false false n = tt
 line_no_read : (jobs : ℕ) (roles : List Role) (caller : ℕ) (fits : Bool) (line : Line) → NoneRead (line_fault jobs roles caller fits line)
 line_no_read jobs roles caller fits line = three_tests _ _ _ line.number
 
-two_tests : (a b : Bool) (n : ℕ) → NoneRead (if a then Some (UnknownName n) else if b then Some (BadLine n) else None)
-two_tests true b n = refl
-two_tests false true n = refl
-two_tests false false n = tt
+one_test : (a : Bool) (n : ℕ) → NoneRead (if a then None else Some (UnknownName n))
+one_test true n = tt
+one_test false n = refl
 
 group_no_read : (roles : List Role) (number group : ℕ) → NoneRead (group_fault roles number group)
-group_no_read roles number group = two_tests _ _ number
+group_no_read roles number group = one_test _ number
 
 step_no_read : (jobs : ℕ) (roles : List Role) (caller : ℕ) (step : Step) → NoneRead (step_fault jobs roles caller step)
 step_no_read jobs roles caller (Once line) = line_no_read jobs roles caller true line
