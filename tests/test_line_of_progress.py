@@ -9,7 +9,7 @@ import unittest
 from typing import IO, NamedTuple, Union
 
 import support
-from running import CARDS, EXAMPLE, NOTHING, RACY, SECONDS, ProgramCase, Run, start
+from running import CARDS, EXAMPLE, NOTHING, RACY, READ, SECONDS, ProgramCase, Run, start
 
 # Commands that take long since their plan comes slowly: their words, and the plan.
 SLOW = {
@@ -130,11 +130,12 @@ class LineOfProgress(ProgramCase):
         self.assertIn(SHOWN, shown)
         self.told_alike((left, left), (left_on(slow.said), after.replace(b"\r", b"")))
 
-    def test_none_of_short_command(self) -> None:
-        """A short command writes nothing to a terminal on standard error."""
+    def hold_on_terminal(self, words: list[str], ended: tuple[int, bytes, bytes]) -> None:
+        """Tests with which status a short command ends, what it writes, and what it writes to a
+        terminal on standard error."""
         ours, its = pty.openpty()
         ran = subprocess.run(
-            [self.program, "check", EXAMPLE],
+            [self.program, *words],
             cwd=support.TOP,
             stdin=subprocess.DEVNULL,
             stdout=subprocess.PIPE,
@@ -143,7 +144,26 @@ class LineOfProgress(ProgramCase):
             check=False,
         )
         os.close(its)
-        self.told_alike((0, NOTHING, b""), (ran.returncode, ran.stdout, from_terminal(ours)))
+        said = from_terminal(ours).replace(b"\r", b"")
+        self.told_alike(ended, (ran.returncode, ran.stdout, said))
+
+    def test_none_of_short_command(self) -> None:
+        """A short command writes nothing to a terminal on standard error."""
+        self.hold_on_terminal(["check", EXAMPLE], (0, NOTHING, b""))
+
+    def test_files_that_are_not_there(self) -> None:
+        """A terminal gets their names, and what the system says."""
+        none = b"  no.file: No such file or directory (os error 2)\n"
+        for words in (["check", "no.file"], ["follow", "no.file", EXAMPLE]):
+            with self.subTest(words[0]):
+                self.hold_on_terminal(words, (4, b"", READ + none))
+        folder = b"  docs: Is a directory (os error 21)\n"
+        self.hold_on_terminal(["replay", "docs"], (4, b"", READ + folder))
+
+    def test_a_file_that_is_refused(self) -> None:
+        """Without --explain the fault alone is told, on a terminal too."""
+        said = b"wire_up: fault 2 TooLong 1\n"
+        self.hold_on_terminal(["check", "/dev/zero"], (2, b"", said))
 
 
 if __name__ == "__main__":

@@ -314,7 +314,16 @@ fn serve_with_line<R: Files + Input + Print + Eprint + AllocGlobal + Clock + Thr
     )
 }
 
-/// Runs the command that was requested, and answers the exit status. A fault is explained where the request says so.
+/// Whether a fault is explained: where the request says so; and that a file couldn't be opened or read, where standard
+/// error is a terminal.
+fn is_explained(fault: Fault, request: Request<'_>, progress: &Progress) -> bool {
+    match fault {
+        Fault::Read => request.explain || progress.is_seen(),
+        _ => request.explain,
+    }
+}
+
+/// Runs the command that was requested, and answers the exit status. A fault is explained where that is wanted.
 fn serve_explained(
     rt: &(impl Files + Input + Print + Eprint + AllocGlobal + Threads + Wait + Sync),
     request: Request<'_>,
@@ -333,7 +342,7 @@ fn serve_explained(
             Ok(status)
         }
         Err(fault) => {
-            if request.explain {
+            if is_explained(fault, request, progress) {
                 Err(explain_failure(rt.alloc(), fault, &watch))
             } else {
                 Err(fault.into())

@@ -132,6 +132,11 @@ impl Progress {
         }
     }
 
+    /// Whether standard error is a terminal.
+    pub fn is_seen(&self) -> bool {
+        self.streams.is_seen
+    }
+
     /// Takes the line away, and shows none from now on.
     pub fn close(&self, rt: &(impl Eprint + Wait)) {
         let mut line = self.line.lock(rt);
