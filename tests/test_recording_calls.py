@@ -168,7 +168,7 @@ class CallsTest(unittest.TestCase):
             "what isn't committed": Case([PUT], ["put global k v"], not_there, got),
             "an own get of what isn't put": Case(got, [], not_there),
             "an own get of what is for itself alone": Case(
-                [("put internal k text:v", "0"), *got], [], "1 own gets of what is put for the"
+                [("put internal k text:v", "0"), *got], [], "1 gets of what is put for the"
             ),
             "another's get of it": Case([("put internal k text:v", "0")], [], not_there, got),
         })

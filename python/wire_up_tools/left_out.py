@@ -8,7 +8,7 @@ import re
 # have a handler.
 HARMLESS = re.compile(
     r"gets of a wildcard rank|(gets|puts) of reserved keys|puts for the process alone"
-    r"|own gets of what is put for the process alone|.*, since they can't change a finding"
+    r"|gets of what is put for the process alone|.*, since they can't change a finding"
     r"|calls of MPI_\w+( in a communicator that isn't known)?"
     r"|calls of PMIx_(Store_internal|Job_control|Query_info|Log|Notify_event)(_nb)?"
     r"|directives pmix\.(timeout|persist|range)"

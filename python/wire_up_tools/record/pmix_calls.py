@@ -180,7 +180,7 @@ class ProcessLines:
         if call.status == 0 and not self.puts.can_see(self.process, call, owner, key):
             is_own = owner is self.process and self.puts.is_internal(owner, key)
             self.leave_out(
-                "own gets of what is put for the process alone" if is_own
+                "gets of what is put for the process alone" if is_own
                 else "gets of keys whose put isn't recorded"
             )
             return
