@@ -30,6 +30,7 @@ from wire_up_tools.record.showing.pairs import ASK, WAIT, find_pairs
 from wire_up_tools.record.showing.plain_runs import PlainRuns, leave_out_own
 from wire_up_tools.record.showing.same_program import hold_to_plan
 from wire_up_tools.record.showing.server import Patience, Server, open_hall_for
+from wire_up_tools.record.showing.showing import NOTHING_TO_SHOW, ONLY_REWRITES, find_races
 from wire_up_tools.record.showing.strikes import tell_strikes
 from wire_up_tools.record.showing.traces import Traces, read_traces
 from wire_up_tools.record.writing import write_plan
@@ -345,6 +346,23 @@ class LostTest(unittest.TestCase):
         with self.assertRaisesRegex(Refused, "b.recording: no room; what follows isn't recorded$"):
             refuse_lost("/", said)
         refuse_lost("/", b"out\n")
+
+
+class NothingToShowTest(ProgramCase):
+    """What is said of a plan that has no race."""
+
+    def test_what_is_said(self) -> None:
+        head, put = "rehearsal 1\nnode n0\njob app\nrank n0\n", "put global k v\n"
+        for body, is_rewrite in ((put, False), (put * 2, True)):
+            said: list[str] = []
+            plan = read_plan((head + body).encode())
+            session = Session((), (), "", None, None, Patience(1, 1))
+            trial = Trial(
+                session, Checker(self.program), plan, head + body, Naming(plan), {},
+                PlainRuns(session),
+            )
+            self.assertEqual([], find_races(trial, 8, said.append))
+            self.assertEqual([ONLY_REWRITES if is_rewrite else NOTHING_TO_SHOW], said)
 
 
 class PairsTest(ProgramCase):

@@ -51,7 +51,8 @@ def compare_targets(runs: Sequence[HeldRun], targets: Sequence[Target]) -> list[
     """The named calls that were answered otherwise in two runs."""
     found = []
     for it in targets:
-        whole = [call.whole_reply if call else NEVER_CAME for call in (run.find(it) for run in runs)]
+        calls = [run.find(it) for run in runs]
+        whole = [call.whole_reply if call else NEVER_CAME for call in calls]
         masked = [mask(it) for it in whole]
         if whole[0] != whole[1]:
             told = whole if masked[0] == masked[1] else masked

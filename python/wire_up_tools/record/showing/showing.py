@@ -45,8 +45,8 @@ NO_RACE = "no race"
 # What is said where nothing can be shown.
 NOTHING_TO_SHOW = "there is no race to show"
 ONLY_REWRITES = (
-    "there is no race to show: each finding is a put of a key that its rank had put before. One rank "
-    "makes both calls, always in this order"
+    "there is no race to show: each finding is a put of a key that its rank had put before. One "
+    "rank makes both calls, always in this order"
 )
 # How many runs a race takes, without those for messages of any source or the witness's orders.
 RUNS = 2
