@@ -99,6 +99,10 @@ class CallsTest(unittest.TestCase):
         self.hold({
             "a reserved key": one("put global pmix.hname text:n0", "", "1 puts of reserved keys"),
             "another scope": one("put other k text:v", "", "1 puts of a scope"),
+            "for itself alone": one("put internal k text:v", "", "1 puts for the process alone"),
+            "in two scopes": Case(
+                [("put internal k text:v", "0"), PUT], ["put global k v"], "1 puts of a scope"
+            ),
             "a put that failed": one("put global k text:v", "", "1 puts that failed", "-27"),
             "a commit": one("commit", "commit"),
             "a commit that failed": one("commit", "", "1 commits that failed", "-25"),
@@ -163,6 +167,10 @@ class CallsTest(unittest.TestCase):
             "what isn't put": Case([], [], not_there, got),
             "what isn't committed": Case([PUT], ["put global k v"], not_there, got),
             "an own get of what isn't put": Case(got, [], not_there),
+            "an own get of what is for itself alone": Case(
+                [("put internal k text:v", "0"), *got], [], "1 gets of what is put for the"
+            ),
+            "another's get of it": Case([("put internal k text:v", "0")], [], not_there, got),
         })
 
     def test_fences(self) -> None:

@@ -30,6 +30,7 @@ from wire_up_tools.record.showing.pairs import ASK, WAIT, find_pairs
 from wire_up_tools.record.showing.plain_runs import PlainRuns, leave_out_own
 from wire_up_tools.record.showing.same_program import hold_to_plan
 from wire_up_tools.record.showing.server import Patience, Server, open_hall_for
+from wire_up_tools.record.showing.showing import NOTHING_TO_SHOW, ONLY_REWRITES, find_races
 from wire_up_tools.record.showing.strikes import tell_strikes
 from wire_up_tools.record.showing.traces import Traces, read_traces
 from wire_up_tools.record.writing import write_plan
@@ -167,7 +168,7 @@ class DifferencesTest(unittest.TestCase):
             [(it.process, it.what, it.first, it.second) for it in compared.targets],
         )
         self.assertEqual(
-            [("app:1", "after 1 calls", "fence", "nothing more")],
+            [("app:1", "after lookup port", "fence", "nothing more")],
             [(it.process, it.what, it.first, it.second) for it in compared.partings],
         )
         self.assertTrue(compared.ends_otherwise)
@@ -175,11 +176,14 @@ class DifferencesTest(unittest.TestCase):
         self.assertFalse(compared.is_alike)
 
     def test_alike(self) -> None:
-        runs = [
-            make_run([[self.published], [self.look_up(f"0 port=text:{port}")]])
-            for port in ("123456.0", "654321.0")
-        ]
+        runs = [make_run([[self.published], [self.look_up("0 port=text:a")]])] * 2
         self.assertTrue(compare(runs, BOTH).is_alike)
+
+    def test_where_calls_part(self) -> None:
+        fence = ("fence nb all -", "0")
+        for before, said in (((), "from the start"), ((fence,) * 2, "after fence, number 2")):
+            runs = [make_run([[*before, it]]) for it in (self.published, ("commit", "0"))]
+            self.assertEqual([said], [it.what for it in compare(runs, ()).partings])
 
     def test_addresses_of_the_library_are_not_compared(self) -> None:
         other = ("get blocks job:0 :btl.tcp.5.0 -", "0 text:a")
@@ -229,6 +233,19 @@ class OwnTest(unittest.TestCase):
         """A run in which the name had this value."""
         found = ("lookup blocks :port -", f"{end} port=text:{value}" if end == "0" else f"{end} -")
         return make_run([[("publish blocks port=text:v -", "0")], [found, *more]])
+
+    def test_numbers_that_can_be_those_of_a_run(self) -> None:
+        """A large number that plain runs share is a difference; what each run has otherwise isn't
+        even told."""
+        held = [self.make(it) for it in ("1000001", "1000002")]
+        shared = self.leave_out(held, [self.make("1000001")] * 2)
+        self.assertEqual(
+            [("PMIX_SUCCESS 1000001", "PMIX_SUCCESS 1000002")],
+            [(it.first, it.second) for it in shared.targets],
+        )
+        other = self.leave_out(held, [self.make(it) for it in ("1000003", "1000004")])
+        self.assertTrue(other.is_alike)
+        self.assertEqual(([], []), (other.own, other.plain))
 
     def leave_out(self, held: Sequence[HeldRun], plain: Sequence[HeldRun]) -> Compared:
         """What is left of the differences between two runs."""
@@ -329,6 +346,23 @@ class LostTest(unittest.TestCase):
         with self.assertRaisesRegex(Refused, "b.recording: no room; what follows isn't recorded$"):
             refuse_lost("/", said)
         refuse_lost("/", b"out\n")
+
+
+class NothingToShowTest(ProgramCase):
+    """What is said of a plan that has no race."""
+
+    def test_what_is_said(self) -> None:
+        head, put = "rehearsal 1\nnode n0\njob app\nrank n0\n", "put global k v\n"
+        for body, is_rewrite in ((put, False), (put * 2, True)):
+            said: list[str] = []
+            plan = read_plan((head + body).encode())
+            session = Session((), (), "", None, None, Patience(1, 1))
+            trial = Trial(
+                session, Checker(self.program), plan, head + body, Naming(plan), {},
+                PlainRuns(session),
+            )
+            self.assertEqual([], find_races(trial, 8, said.append))
+            self.assertEqual([ONLY_REWRITES if is_rewrite else NOTHING_TO_SHOW], said)
 
 
 class PairsTest(ProgramCase):

@@ -5,8 +5,15 @@ import subprocess
 import sys
 import tempfile
 import unittest
+from types import SimpleNamespace
+from typing import cast
 
 import report_support
+from wire_up_tools.plan_reading import read_plan
+from wire_up_tools.report.contents import Report
+from wire_up_tools.report.findings import Finding
+from wire_up_tools.report.runs import Outcome
+from wire_up_tools.report.verdict import SHOWN_IN_PROGRAM, say_without_runs
 from wire_up_tools.words import EACH_RUN_SENTENCE
 
 RACE = "race app:0 6 app:1 6 name solver"
@@ -64,15 +71,31 @@ class TriedTest(unittest.TestCase):
                 ran = report_support.run_report("-o", self.page, "--sarif", self.sarif, self.plan)
                 self.assertEqual(1, ran.returncode, ran.stderr)
                 page = report_support.read(self.page)
-                self.assertIn(f"<h3>{title}</h3><p>2026-11-30: ", page)
+                made = word.startswith("shown")
+                orders = ", with app:0 6 first, and then with app:1 6 first" * made
+                self.assertIn(f"<h3>{title}</h3><p>2026-11-30{orders}: ", page)
                 self.assertIn("&#x27;./a &lt;b&gt;&#x27;</code>", page)
                 result = json.loads(report_support.read(self.sarif))["runs"][0]["results"][0]
                 self.assertEqual({"tried": word, "outcome": said}, result["properties"])
                 level = "error" if word == "shown" else "warning"
                 self.assertEqual(level, result["level"])
                 text = report_support.run_report("--text", self.plan).stdout
-                self.assertIn(f"   {title} on 2026-11-30: ", text)
+                self.assertIn(f" {title} on 2026-11-30{orders}: ", " ".join(text.split()))
                 self.assertIn("   This does it again: wire_up-record --of my.plan", text)
+
+    def test_a_race_that_the_program_alone_shows(self) -> None:
+        """Where `witness` has no two runs, and the program shows the race, the page says both."""
+        body = "rehearsal 1\nnode n0\njob app\nrank n0\nlookup a\nrank n0\npublish a v\n"
+        recorded = "# Recorded by wire_up-record on 2026-11-30: 2 processes\n"
+        calls = (SimpleNamespace(name="app:0 1"), SimpleNamespace(name="app:1 1"))
+        finding = cast(Finding, SimpleNamespace(calls=calls))
+        for start, is_shown in (("Shown in this program", True), ("Alike in both orders", False)):
+            tried = f"# {start} on 2026-11-30: race app:0 1 app:1 1 name a: x\n"
+            plan = read_plan((recorded + tried + body).encode())
+            report = cast(Report, SimpleNamespace(plan=plan))
+            said = say_without_runs(report, finding, Outcome.NOT_SHOWN)
+            self.assertEqual(is_shown, said == SHOWN_IN_PROGRAM, said)
+            self.assertIn("No runs", say_without_runs(report, finding, Outcome.LATE))
 
     def test_a_race_that_was_not_tried(self) -> None:
         other = RACE.replace("app:1 6", "app:1 5")

@@ -7,7 +7,8 @@ import re
 # in a communicator that isn't known is taken for none in another. Of events those are told of that
 # have a handler.
 HARMLESS = re.compile(
-    r"gets of a wildcard rank|(gets|puts) of reserved keys|.*, since they can't change a finding"
+    r"gets of a wildcard rank|(gets|puts) of reserved keys|puts for the process alone"
+    r"|gets of what is put for the process alone|.*, since they can't change a finding"
     r"|calls of MPI_\w+( in a communicator that isn't known)?"
     r"|calls of PMIx_(Store_internal|Job_control|Query_info|Log|Notify_event)(_nb)?"
     r"|directives pmix\.(timeout|persist|range)"

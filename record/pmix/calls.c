@@ -26,6 +26,7 @@ static const char *name_scope(pmix_scope_t scope)
     case PMIX_LOCAL: return "local";
     case PMIX_REMOTE: return "remote";
     case PMIX_GLOBAL: return "global";
+    case PMIX_INTERNAL: return "internal";
     default: return "other";
     }
 }

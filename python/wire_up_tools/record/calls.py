@@ -102,7 +102,7 @@ class Ending(enum.Enum):
 
 @dataclass(frozen=True)
 class Put:
-    """A put; a scope that plans don't have is `other`."""
+    """A put; a scope that plans don't have is `internal`, for the process alone, or `other`."""
 
     verb: ClassVar[str] = "put"
     scope: str

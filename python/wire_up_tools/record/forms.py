@@ -159,7 +159,7 @@ class Form:
 # What a record of a call that begins says after its number, thread and time.
 BEGINS = {
     "put": Form(
-        re.compile(rf"put (local|remote|global|other) ({WORD}) ({VALUE})"),
+        re.compile(rf"put (local|remote|global|internal|other) ({WORD}) ({VALUE})"),
         lambda it: calls.Put(it[0], decode(it[1]), read_value(it[2])),
     ),
     "commit": Form(re.compile(r"commit"), lambda it: calls.Commit()),

@@ -40,7 +40,7 @@ from wire_up_tools.record.notes import (
     note_unawaited,
 )
 from wire_up_tools.record.processes import Process, Processes
-from wire_up_tools.record.puts import OTHER_SCOPE, PutsByProcess
+from wire_up_tools.record.puts import WITHOUT_WORD, PutsByProcess
 from wire_up_tools.words import NOT_WAITED
 
 NOT_FOUND, DUPLICATE_KEY = -46, -53
@@ -127,7 +127,9 @@ class ProcessLines:
 
     def take_put(self, call: Call, put: Put) -> None:
         """Makes the line of a put."""
-        if put.scope == OTHER_SCOPE:
+        if self.puts.is_internal(self.process, put.key):
+            self.leave_out("puts for the process alone")
+        elif put.scope in WITHOUT_WORD:
             self.leave_out("puts of a scope other than local, remote and global")
         elif is_reserved_by_pmix(put.key):
             self.leave_out("puts of reserved keys")
@@ -176,7 +178,11 @@ class ProcessLines:
             self.note_unreached(owner, key)
             is_at_once = True
         if call.status == 0 and not self.puts.can_see(self.process, call, owner, key):
-            self.leave_out("gets of keys whose put isn't recorded")
+            is_own = owner is self.process and self.puts.is_internal(owner, key)
+            self.leave_out(
+                "gets of what is put for the process alone" if is_own
+                else "gets of keys whose put isn't recorded"
+            )
             return
         words = f"{'get-now' if is_at_once else 'get'} {owner.name} {self.spelling.keys[key]}"
         at = call.begins if is_at_once else call.ends or AT_THE_END

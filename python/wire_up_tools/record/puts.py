@@ -7,7 +7,9 @@ from wire_up_tools.record.calls import Call, Commit, Put
 from wire_up_tools.record.processes import Process
 from wire_up_tools.record.recordings import Recording
 
-OTHER_SCOPE = "other"
+# Scopes that plans don't have: the process alone sees what it puts in the first.
+INTERNAL_SCOPE, OTHER_SCOPE = "internal", "other"
+WITHOUT_WORD = (INTERNAL_SCOPE, OTHER_SCOPE)
 
 
 @dataclass(frozen=True)
@@ -34,7 +36,7 @@ def find_puts(recording: Recording) -> Puts:
         if isinstance(action, Put):
             scopes.setdefault(action.key, set()).add(action.scope)
             done.pop(action.key, None)
-            if action.scope != OTHER_SCOPE and not call.has_failed:
+            if action.scope not in WITHOUT_WORD and not call.has_failed:
                 first.setdefault(action.key, call.begins)
                 waiting.add(action.key)
         elif isinstance(action, Commit) and not call.has_failed:
@@ -63,6 +65,10 @@ class PutsByProcess:
         return puts.first.get(key, sys.maxsize) < call.begins if reader is owner else (
             key in puts.committed
         )
+
+    def is_internal(self, process: Process, key: bytes) -> bool:
+        """Whether a process puts a key for itself alone: no other can see it."""
+        return self.find(process).scopes.get(key) == {INTERNAL_SCOPE}
 
     def commits(self, owner: Process, key: bytes) -> bool:
         """Whether a process commits a key."""

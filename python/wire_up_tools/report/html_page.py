@@ -268,7 +268,7 @@ def link_with_place(plan: Plan, call: Call) -> str:
 def write_runs(report: Report, finding: Finding, runs: Runs) -> str:
     """The two runs that show a race, or what it means that there are none."""
     if runs.outcome is not Outcome.SHOWN:
-        said = escape(verdict.WITHOUT_RUNS[runs.outcome])
+        said = escape(verdict.say_without_runs(report, finding, runs.outcome))
         return f'<div class="runs"><h3>Two runs</h3><p>{said}</p></div>'
     parts = ['<div class="runs"><h3>Two runs that show it</h3><dl>']
     for which, run in zip(("first", "second"), runs.both):

@@ -74,7 +74,7 @@ def write_detail(report: Report, number: int, detail: Detail) -> list[str]:
         "",
         *draw_lines(detail.diagram),
         "",
-        *write_runs(detail.runs),
+        *write_runs(report, one, detail.runs),
         *write_tried_text(report.plan, one),
     ]
 
@@ -103,7 +103,7 @@ def write_placed(report: Report, placed: Placed) -> list[str]:
         "",
         *draw_lines(placed.diagram),
         "",
-        *write_runs(placed.runs),
+        *write_runs(report, one, placed.runs),
         f"   This placement as a plan: wire_up place {','.join(placed.ranks)} {report.plan_name}",
     ]
 
@@ -122,10 +122,10 @@ def describe_call(report: Report, call: Call) -> str:
     return f"{call.name} {name_kind(call)}, {report.plan_name}:{call.line}{in_pattern}{place}"
 
 
-def write_runs(runs: Runs) -> list[str]:
+def write_runs(report: Report, finding: Finding, runs: Runs) -> list[str]:
     """The two runs that show a race, or what it means that there are none."""
     if runs.outcome is not Outcome.SHOWN:
-        return [f"   Two runs: {verdict.WITHOUT_RUNS[runs.outcome]}"]
+        return [f"   Two runs: {verdict.say_without_runs(report, finding, runs.outcome)}"]
     return [line for run in runs.both for line in write_run(run)]
 
 

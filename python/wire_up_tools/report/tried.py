@@ -30,11 +30,20 @@ ENDED_OTHERWISE = re.compile(r"; ended [^;]+ and [^;]+(;|$)")
 
 @dataclass(frozen=True)
 class Tried:
-    """A race that was tried: the word for what came of it, on which day, and what that was."""
+    """A race that was tried: the word for what came of it, on which day, what that was, and its two
+    calls."""
 
     word: str
     day: str
     said: str
+    calls: tuple[str, str]
+
+    @property
+    def orders(self) -> str:
+        """Which order each of two things that are said comes from; nothing where none was made."""
+        first, second = self.calls
+        is_made = self.word.startswith("shown")
+        return f", with {first} first, and then with {second} first" if is_made else ""
 
     @property
     def title(self) -> str:
@@ -52,7 +61,7 @@ def find_tried(plan: Plan, finding: Finding) -> Optional[Tried]:
     names = {it.name for it in finding.calls}
     for it in map(TRIED.fullmatch, plan.declared.head if plan.is_recorded else ()):
         if it and {it[3], it[4]} == names:
-            return Tried(WORDS[it[1]], it[2], it[5])
+            return Tried(WORDS[it[1]], it[2], it[5], (it[3], it[4]))
     return None
 
 
@@ -107,7 +116,7 @@ def write_tried(plan: Plan, finding: Finding) -> list[str]:
     if tried is None:
         return []
     again = f"<p>This does it again: <code>{escape(command)}</code></p>" if command else ""
-    said = f"<p>{escape(tried.day)}: {escape(tried.said)}</p>{again}"
+    said = f"<p>{escape(tried.day + tried.orders)}: {escape(tried.said)}</p>{again}"
     return [f'<div class="runs"><h3>{tried.title}</h3>{said}</div>']
 
 
@@ -117,4 +126,4 @@ def write_tried_text(plan: Plan, finding: Finding) -> list[str]:
     if tried is None:
         return []
     again = [f"   This does it again: {command}"] if command else []
-    return [f"   {tried.title} on {tried.day}: {tried.said}", *again]
+    return [f"   {tried.title} on {tried.day}{tried.orders}: {tried.said}", *again]

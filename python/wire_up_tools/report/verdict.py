@@ -4,7 +4,7 @@ from collections.abc import Sequence
 from wire_up_tools.left_out import can_order
 from wire_up_tools.report.causes import Cause
 from wire_up_tools.report.contents import Report
-from wire_up_tools.report.findings import MOST_GROUPS, Kind
+from wire_up_tools.report.findings import MOST_GROUPS, Finding, Kind
 from wire_up_tools.report.library_page import say_otherwise
 from wire_up_tools.report.partial import (
     hides_race,
@@ -16,11 +16,15 @@ from wire_up_tools.report.patterns import find_groups, say_counterexample
 from wire_up_tools.report.phrases import count_of
 from wire_up_tools.report.placements import Placed
 from wire_up_tools.report.runs import SECONDS, Outcome
-from wire_up_tools.report.tried import say_all_kept, say_in_vain
+from wire_up_tools.report.tried import find_tried, say_all_kept, say_in_vain
 from wire_up_tools.words import EACH_RUN_SENTENCE
 
 # What helps where a counterexample is smaller than a job can be.
 SMALL = "If a group can't be that small in your job, say its least number, as in `many {} min N`."
+# The same where the program itself showed the race.
+SHOWN_IN_PROGRAM = (
+    "The rules alone gave no two runs that differ, as far as they were tried; your program did."
+)
 # What it means that there are no two runs.
 WITHOUT_RUNS = {
     Outcome.REWRITE: (
@@ -43,6 +47,14 @@ WITHOUT_RUNS = {
         f"No runs were looked for: {SECONDS} seconds went to others, or the plan is large."
     ),
 }
+
+
+def say_without_runs(report: Report, finding: Finding, outcome: Outcome) -> str:
+    """What it means that there are no two runs of the plan for a finding."""
+    tried = find_tried(report.plan, finding)
+    if tried and tried.word.startswith("shown") and outcome is Outcome.NOT_SHOWN:
+        return SHOWN_IN_PROGRAM
+    return WITHOUT_RUNS[outcome]
 
 
 def say_found(report: Report) -> str:

@@ -27,6 +27,11 @@ class Difference:
         """Whether it is of the same call, or of where the calls of the same process part."""
         return (self.process, self.what) == (other.process, other.what)
 
+    @property
+    def is_of_numbers(self) -> bool:
+        """Whether it is one of large numbers alone, which can be those of a run."""
+        return mask(self.first) == mask(self.second)
+
     def __str__(self) -> str:
         return f"{self.process} {self.what}: {self.first} | {self.second}"
 
@@ -46,9 +51,12 @@ def compare_targets(runs: Sequence[HeldRun], targets: Sequence[Target]) -> list[
     """The named calls that were answered otherwise in two runs."""
     found = []
     for it in targets:
-        replies = [call.reply if call else NEVER_CAME for call in (run.find(it) for run in runs)]
-        if replies[0] != replies[1]:
-            found.append(Difference(it.process, f"{it.number} {it.verb}", *replies))
+        calls = [run.find(it) for run in runs]
+        whole = [call.whole_reply if call else NEVER_CAME for call in calls]
+        masked = [mask(it) for it in whole]
+        if whole[0] != whole[1]:
+            told = whole if masked[0] == masked[1] else masked
+            found.append(Difference(it.process, f"{it.number} {it.verb}", *told))
     return found
 
 
@@ -63,6 +71,15 @@ def compare_replies(
             yield Difference(process, it.name, it.reply, other.reply)
 
 
+def say_last(calls: Sequence[TracedCall]) -> str:
+    """Behind which call something stands: the last of some calls, and the how-manieth of its name
+    it is, if others came before."""
+    if not calls:
+        return "from the start"
+    name, ordinal = calls[-1].name, calls[-1].keys[0][1]
+    return f"after {name}" if ordinal == 1 else f"after {name}, number {ordinal}"
+
+
 def find_parting(
     process: str, first: Sequence[TracedCall], second: Sequence[TracedCall]
 ) -> Optional[Difference]:
@@ -73,7 +90,7 @@ def find_parting(
     at = next((n for n, (one, other) in enumerate(zip(*names)) if one != other), None)
     at = min(map(len, names)) if at is None else at
     told = [", ".join(it[at:][:NAMED_NEXT]) or NOTHING_MORE for it in names]
-    return Difference(process, f"after {at} calls", *told)
+    return Difference(process, say_last(first[:at]), *told)
 
 
 @dataclass(frozen=True)

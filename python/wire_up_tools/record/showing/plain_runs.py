@@ -50,6 +50,12 @@ def tell_ends(runs: Sequence[HeldRun]) -> list[Difference]:
     return [Difference("the program", "ended", first, second)] if first != second else []
 
 
+def list_plain(plain: Compared, own: Sequence[Difference]) -> list[Difference]:
+    """What differs between two plain runs, but for what each run has otherwise."""
+    found = [it for it in plain.differences if not it.is_of_numbers]
+    return [it for it in found if not any(map(it.is_about, own))]
+
+
 def leave_out_own(
     compared: Compared, runs: Sequence[HeldRun], targets: Sequence[Target], plains: PlainRuns
 ) -> Compared:
@@ -68,6 +74,6 @@ def leave_out_own(
         targets=[it for it in compared.targets if it not in own],
         others=[it for it in compared.others if it not in own],
         partings=[it for it in compared.partings if it not in own],
-        own=own,
-        plain=[it for it in plain.differences if not any(map(it.is_about, own))] + tell_ends(two),
+        own=[it for it in own if not it.is_of_numbers],
+        plain=list_plain(plain, own) + tell_ends(two),
     )

@@ -25,7 +25,7 @@ STRUCK = "a limit of time can have struck:"
 def say_reply(run: HeldRun, target: Target) -> str:
     """How a named call ended in a run."""
     call = run.find(target)
-    return call.reply if call else NEVER_CAME
+    return call.whole_reply if call else NEVER_CAME
 
 
 def name_call(target: Target) -> str:
@@ -70,7 +70,7 @@ def say_ending(shown: Shown) -> str:
         return f"ended {endings}"
     if compared.others or compared.partings:
         return f"ended {shown.runs[0].ending} both times"
-    wrote = ", but write otherwise" if compared.writes_otherwise else ""
+    wrote = ", but write other lines" if compared.writes_otherwise else ""
     return f"{ENDED_ALIKE}{wrote}"
 
 

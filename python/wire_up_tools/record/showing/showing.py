@@ -42,6 +42,12 @@ from wire_up_tools.words import (
 )
 
 NO_RACE = "no race"
+# What is said where nothing can be shown.
+NOTHING_TO_SHOW = "there is no race to show"
+ONLY_REWRITES = (
+    "there is no race to show: each finding is a put of a key that its rank had put before. One "
+    "rank makes both calls, always in this order"
+)
 # How many runs a race takes, without those for messages of any source or the witness's orders.
 RUNS = 2
 
@@ -83,7 +89,7 @@ def find_races(trial: Trial, most: int, say: Say) -> list[Race]:
     groups = find_groups(Asker(trial.checker, trial.text.encode()), trial.plan)
     found = [it.first for it in find_causes(groups) if it.first.kind is not Kind.REWRITE]
     if not found:
-        say("there is no race to show")
+        say(NOTHING_TO_SHOW if not groups else ONLY_REWRITES)
     if len(found) > most:
         say(f"{len(found)} races have causes of their own: {most} are tried (--most)")
     return [make_race(trial, it, number) for number, it in enumerate(found[:most], 1)]

@@ -53,6 +53,11 @@ class TracedCall:
     @property
     def reply(self) -> str:
         """How it ended, in words, without what differs between runs anyhow."""
+        return mask(self.whole_reply)
+
+    @property
+    def whole_reply(self) -> str:
+        """How it ended, in words, with each number of its value."""
         if self.end is None:
             return WAITING
         status, _, rest = self.end.partition(" ")
@@ -60,7 +65,7 @@ class TracedCall:
         value = rest.partition("=")[2] if self.name.startswith("lookup") else rest
         said = f"{name} {value.removeprefix('text:')}".strip()
         plain = ESCAPED.sub(lambda it: chr(int(it[1], 16)), said)
-        return mask(OF_PRRTE.sub(MASK, plain))
+        return OF_PRRTE.sub(MASK, plain)
 
 
 @dataclass(eq=False)
