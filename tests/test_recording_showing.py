@@ -127,7 +127,7 @@ class ShownTest(ShowingCase):
 
     def test_another_branch_and_another_end(self) -> None:
         said = self.hold(["shown"], r"ended status 0 \| status 139", 2, "shown", "branch")
-        self.assertRegex(said, r"parts app:1 after \d+ calls: fence \| publish own")
+        self.assertRegex(said, r"parts app:1 after .*: fence \| publish own")
         # The launcher of Open MPI 5 can die of an abort itself.
         ended = r"ended status 0 \| (status 7|signal \d+)"
         self.hold(["shown"], ended, 2, "shown", "abort")
@@ -166,7 +166,7 @@ class ShownTest(ShowingCase):
     def test_what_is_seen_later(self) -> None:
         self.hold(["shown-later"], r"replies app:2 lookup port: ", 3, "shown", "value")
         said = self.hold(["shown", "shown"], r"replies app:2 lookup second", 3, "shown", "stop")
-        self.assertRegex(said, r"parts app:1 after \d+ calls: publish second, fence \| fence")
+        self.assertRegex(said, r"parts app:1 after .*: publish second, fence \| fence")
 
 
 class TurnedTest(ShowingCase):
