@@ -79,7 +79,7 @@ class Line(NamedTuple):
 
 
 class Loop(NamedTuple):
-    """A loop over one role: its line in the file, its role, its mode (`cyclic`, `some`, or nothing),
+    """A loop over one role: its line in the file, its role, its mode (`cyclic`, `some`, or none),
     and its lines. A loop over several roles is one over each."""
 
     at: int

@@ -147,7 +147,9 @@ class PatternTest(unittest.TestCase):
 
     def test_a_neighbour_with_calls_of_its_own(self) -> None:
         """The first rank publishes a port, and is a neighbour of others."""
-        scripts = [f"publish n[app:{n}] v; fence all; lookup n[app:{(n - 1) % 4}]" for n in range(4)]
+        scripts = [
+            f"publish n[app:{n}] v; fence all; lookup n[app:{(n - 1) % 4}]" for n in range(4)
+        ]
         scripts[0] = f"publish port v; {scripts[0]}"
         found = self.find(make_scripts(*scripts))
         self.assertIn("for some workers,root\nlookup n[each]\nend\n", found.text)
