@@ -136,7 +136,8 @@ class GroupsTest(OrderTest):
         tapes = [Tape(0), Tape(1)]
         for tape in tapes:
             tape.call(self.MADE, "-27").call(self.GONE, "-46")
-        self.become(tapes, [[], []], "4 calls that make or end groups")
+        said = "2 calls that make or end groups, and that the library refused, since they can't"
+        self.become(tapes, [[], []], said)
 
     def test_groups_in_two_orders(self) -> None:
         """The library matches them by their names."""
