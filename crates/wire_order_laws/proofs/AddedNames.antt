@@ -21,7 +21,7 @@ use Rattle.wire_runs.proofs.EmbeddedOrder.{live_back}
 use Rattle.wire_runs.proofs.MoreReads.{kind_in_place}
 use Rattle.wire_runs.proofs.Parts.{rising}
 use Rattle.wire_order_laws.specs.LessOrder.{LacksWaits, HasLessOrder}
-use Rattle.wire_order_laws.specs.OrderThere.{MayAdd, AddsNames, IsAhead, IsBehind, AwaitsNew, IsTold, AddsNoOrder}
+use Rattle.wire_order_laws.specs.OrderThere.{MayAdd, AddsNames, IsAhead, IsBehind, AwaitsNew, HearsOf, AddsNoOrder}
 use Rattle.wire_order_laws.proofs.LessOrder.{each as each_part, e as stands_in, kind_into as kind_there}
 
 adds_lack : (small large : Plan) (pieces : List Piece) → AddsNames small large pieces → LacksWaits small large pieces
@@ -241,7 +241,7 @@ module _ (small large : Plan) (pieces : ℕ → List Piece) (adds : AddsNoOrder 
   earlier_live w z l same lt = before_live (same_process large w z l same lt)
 
   -- then a publish of which it is told is live
-  publish_live : (u y : Event) → IsTold small large pieces u y → IsPastLive y → Live large u
+  publish_live : (u y : Event) → HearsOf small large pieces u y → IsPastLive y → Live large u
   publish_live u y t past = first_live u.proc (suc u.at) u.at (record {
     within = (let lt = event_within large u.proc u.at _ t.publishes.is in omega (arith, lt));
     images = λ v same lt. past v (adds.known u y t v (same, image_ahead v same lt));
@@ -341,7 +341,7 @@ module _ (small large : Plan) (pieces : ℕ → List Piece) (adds : AddsNoOrder 
         | inr ne ↦ omega (arith, le, ne)
       ]
 
-  leads_told : (u y : Event) → IsTold small large pieces u y → Leads u y
+  leads_told : (u y : Event) → HearsOf small large pieces u y → Leads u y
   leads_told u y t = record {
     ahead = λ x a. inr (adds.known u y t x a);
     self = λ x s. absurd (publishes_alone x t.name t.waits.new (ap (kind large) s ∙ t.publishes.is));
@@ -382,7 +382,7 @@ module _ (small large : Plan) (pieces : ℕ → List Piece) (adds : AddsNoOrder 
     | inr t ↦ (
         let r = d.waits w t.0 t.2 refl (omega arith) in
         let there = alive_there r.0 y l r.2 in
-        let told : IsTold small large pieces v r.0 = record { name = t.0; publishes = t.1; wait = w; waits = t.2; behind = r.1; alive = there } in
+        let told : HearsOf small large pieces v r.0 = record { name = t.0; publishes = t.1; wait = w; waits = t.2; behind = r.1; alive = there } in
         on x r.0 y (rest r.0 (leads_told v r.0 told) there) r.2)
   ]
 

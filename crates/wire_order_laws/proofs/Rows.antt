@@ -17,7 +17,7 @@ use Rattle.wire_runs.proofs.Histories.{before_live, joined, same_process}
 use Rattle.wire_runs.proofs.FenceChains.{last_edge}
 use Rattle.wire_order_laws.specs.Unread.{IsGot, GetsAtOnce, IsBareAt, Same, Unread, Empty, Uncollected, IsBare}
 use Rattle.wire_order_laws.specs.WholeFences.{IsWithoutAt, Stays, Goes, IsWithoutFences}
-use Rattle.wire_order_laws.specs.OrderThere.{IsNew, AddsNames, AwaitsNew, IsAhead, IsBehind, IsTold, AddsNoOrder}
+use Rattle.wire_order_laws.specs.OrderThere.{IsNew, AddsNames, AwaitsNew, IsAhead, IsBehind, HearsOf, AddsNoOrder}
 
 -- a name is published, waited for and looked up; in the larger plan the publisher says by a second name that it has
 -- published, and the other waits for that too
@@ -209,7 +209,7 @@ not_known adds =
     let new = n.0 in
     let u = new.0.0 in
     let u_is : at 0 1 ≡ u = new.0.1.only (at 0 1) refl in
-    let told : IsTold asked ordered asked_pieces u (at 1 0) = record {
+    let told : HearsOf asked ordered asked_pieces u (at 1 0) = record {
       name = 9;
       publishes = new.0.1;
       wait = at 1 0;

@@ -36,7 +36,7 @@ pub record AwaitsNew (small large : Plan) (w : Event) (name : ℕ) : Type 0 wher
   pub new : ¬ (IsNameOf small name)
 
 -- y is a live event of the small plan, and stands behind an added wait for the name that u publishes
-pub record IsTold (small large : Plan) (pieces : ℕ → List Piece) (u y : Event) : Type 0 where
+pub record HearsOf (small large : Plan) (pieces : ℕ → List Piece) (u y : Event) : Type 0 where
   pub name : ℕ
   pub publishes : PublishesOnce large u name
   pub wait : Event
@@ -53,8 +53,8 @@ pub record AddsNoOrder (small large : Plan) (pieces : ℕ → List Piece) : Type
   pub adds : (p : ℕ) → AddsNames small large (pieces p)
   pub nodes : (p : ℕ) → node_of large p ≡ node_of small p
   pub keeps : large.keep ≡ small.keep
-  pub known : (u y : Event) → IsTold small large pieces u y → (x : Event) → IsAhead pieces x u → Before small x y
-  pub passed : (u y : Event) → IsTold small large pieces u y → (v : Event) (name : ℕ) → AwaitsNew small large v name
+  pub known : (u y : Event) → HearsOf small large pieces u y → (x : Event) → IsAhead pieces x u → Before small x y
+  pub passed : (u y : Event) → HearsOf small large pieces u y → (v : Event) (name : ℕ) → AwaitsNew small large v name
       → v.proc ≡ u.proc → v.at < u.at → (x : Event) × IsBehind pieces x v × Before small x y
 
 -- nothing is found with such names exactly where nothing is found without them

@@ -1,4 +1,4 @@
-//! The laws of less order. Each is the contract of a function that does nothing.
+//! The laws of a plan with fewer calls. Each is the contract of a function that does nothing.
 
 ghost use Rattle.wire_order_laws.specs.Leaner.{LeanerTells};
 ghost use Rattle.wire_order_laws.specs.LessOrder.{LessOrderFinds};
