@@ -6,7 +6,7 @@ PREFIX ?= /usr/local
 # No program leaves compiled files in the tree.
 export PYTHONDONTWRITEBYTECODE = 1
 
-.PHONY: help run libraries parts try test quick lint lint-c edits soak waits bench figures
+.PHONY: help run libraries parts try test quick lint lint-c edits soak waits inferred bench figures
 .PHONY: record record-mpi record-suite newer-root ranks install deb picture
 
 MPICC ?= mpicc
@@ -65,11 +65,16 @@ edits:
 # Random and damaged files, for so many minutes: `make soak MINUTES=60`, and `SEED=1` for the same
 # files again.
 soak:
-	@PYTHONPATH=tests python3 -m build.soak --minutes $(or $(MINUTES),1) $(if $(SEED),--seed $(SEED))
+	@PYTHONPATH=tests:python python3 -m build.soak --minutes $(or $(MINUTES),1) $(if $(SEED),--seed $(SEED))
 
 # The same of patterns whose calls wait for each other, with plans of them at larger sizes.
 waits:
-	@PYTHONPATH=tests python3 -m build.soak --waits --minutes $(or $(MINUTES),1) \
+	@PYTHONPATH=tests:python python3 -m build.soak --waits --minutes $(or $(MINUTES),1) \
+		$(if $(SEED),--seed $(SEED))
+
+# Random patterns that are expanded, inferred from their plans, and judged again.
+inferred:
+	@PYTHONPATH=tests:python python3 -m build.soak --inferred --minutes $(or $(MINUTES),1) \
 		$(if $(SEED),--seed $(SEED))
 
 # Times ./wire_up on files near the limits, beside the unproved program of build/plain, where there is

@@ -19,11 +19,11 @@ PICTURE = os.path.join(TOP, "docs", "crates.svg")
 # All lengths are in pixels.
 WIDTH = 900
 MARGIN = 8
-BOX_WIDTH = 154
+BOX_WIDTH = 161
 BOX_HEIGHT = 28
 ROW_HEIGHT = 58
 LEGEND_HEIGHT = 34
-GAP = 8
+GAP = 6
 
 # The colours of the layers, in the order of crates.txt: that of the box and that of its border.
 COLOURS = (

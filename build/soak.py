@@ -1,12 +1,14 @@
 """Runs the program on random plans and patterns, most of them damaged, and holds it to itself, to
 second readers, and to a model of plans and a reference for patterns: tests/soaking.py says what it
 holds for each plan, and tests/pattern_soaking.py for each pattern. With --waits it holds patterns,
-most of which wait, to plans of them: tests/answer_soaking.py.
+most of which wait, to plans of them: tests/answer_soaking.py. With --inferred it infers patterns
+from plans of random ones, and holds their verdicts to those of the first: tests/sized_patterns.py.
 
-Usage: make soak [MINUTES=N] [SEED=N], or make waits for --waits
-       PYTHONPATH=tests python3 -m build.soak [PROGRAM] [--minutes N | --seconds N] [--seed N]
-                                              [--keep FOLDER] [--patterns | --waits]
-       PYTHONPATH=tests python3 -m build.soak [PROGRAM] --again FILE     looks at one file once more
+Usage: make soak [MINUTES=N] [SEED=N], or make waits, make inferred for --waits, --inferred
+       PYTHONPATH=tests:python python3 -m build.soak [PROGRAM] [OPTION..], of these options:
+           [--minutes N | --seconds N] [--seed N] [--keep FOLDER]
+           [--patterns | --waits | --inferred]
+           [--again FILE]     looks at one file once more
 Without PROGRAM it takes ./wire_up. If it checks patterns, one file of five is a pattern, and with
 --patterns each is. FILE is looked at as a pattern if its name ends with `.pattern`. It ends by
 itself after so many minutes (1 if not told), and at the first 20 differences. A file that shows one
@@ -29,6 +31,7 @@ import answer_soaking
 import pattern_soaking
 import random_patterns
 import random_plans
+import sized_patterns
 import soaking
 from soak_runner import Difference, Runner
 
@@ -58,6 +61,7 @@ class Files(NamedTuple):
 PLANS = Files(".plan", random_plans.random_file, soaking.difference_of)
 PATTERNS = Files(".pattern", random_patterns.random_file, pattern_soaking.difference_of)
 WAITS = Files(".pattern", answer_soaking.random_file, answer_soaking.difference_of)
+INFERRED = Files(".pattern", sized_patterns.random_file, sized_patterns.difference_of)
 
 
 class Reducer:
@@ -109,7 +113,7 @@ class Soak:
         self.runner = runner_of(args, room)
         takes_patterns = pattern_soaking.has_patterns(self.runner.program)
         self.one_in = 1 if args.patterns else PATTERNS_ONE_IN if takes_patterns else 0
-        self.waits: bool = args.waits
+        self.only = only_files(args)
         self.kinds: Counter[str] = Counter()
         self.damaged, self.bytes = 0, 0
         self.differences: list[str] = []
@@ -128,8 +132,8 @@ class Soak:
 
     def files_of(self, seed: int) -> Files:
         """Of which files that of a seed is."""
-        if self.waits:
-            return WAITS
+        if self.only:
+            return self.only
         return PATTERNS if self.one_in and seed % self.one_in == 0 else PLANS
 
     def try_file(self, seed: int) -> None:
@@ -183,12 +187,21 @@ def listed(counts: Counter[str]) -> str:
     return ", ".join(f"{count:,} {name}" for name, count in sorted(counts.items()))
 
 
+def only_files(args: argparse.Namespace) -> Optional[Files]:
+    """The files of a soak of one kind alone, if one is asked for."""
+    if args.inferred:
+        return INFERRED
+    return WAITS if args.waits else None
+
+
 def runner_of(args: argparse.Namespace, room: str) -> Runner:
     """What runs the program, with the unproved one beside it. Where that can't be built, a line
     says why."""
-    unproved, why = build_plain()
-    if not unproved:
-        print(f"the unproved program is left out: {why}", flush=True)
+    unproved = None
+    if not args.inferred:
+        unproved, why = build_plain()
+        if not unproved:
+            print(f"the unproved program is left out: {why}", flush=True)
     return Runner(os.path.abspath(args.program), room, unproved)
 
 
@@ -198,7 +211,7 @@ def look_again(args: argparse.Namespace, room: str) -> int:
     with open(args.again, "rb") as it:
         text = it.read()
     files = PATTERNS if args.again.endswith(PATTERNS.ending) else PLANS
-    files = WAITS if args.waits else files
+    files = only_files(args) or files
     runner, found = runner_of(args, room), None
     for n in range(10):
         found, kind = files.difference_of(runner, text, args.seed + n)
@@ -220,6 +233,7 @@ def arguments() -> argparse.Namespace:
     kinds = parser.add_mutually_exclusive_group()
     kinds.add_argument("--patterns", action="store_true")
     kinds.add_argument("--waits", action="store_true")
+    kinds.add_argument("--inferred", action="store_true")
     args = parser.parse_args()
     args.seconds = args.seconds if args.seconds is not None else 60 * args.minutes
     args.seed = args.seed if args.seed is not None else int(time.time())

@@ -59,18 +59,26 @@ static void set_true(pmix_info_t *info, const char *key)
     PMIX_INFO_LOAD(info, key, &yes, PMIX_BOOL);
 }
 
+/* The scope that a word names. */
+static pmix_scope_t read_scope(const char *word)
+{
+    if (!strcmp(word, "local"))
+        return PMIX_LOCAL;
+    if (!strcmp(word, "remote"))
+        return PMIX_REMOTE;
+    if (!strcmp(word, "global"))
+        return PMIX_GLOBAL;
+    give_up("a scope that isn't known");
+}
+
 static struct reply do_put(const struct call *call)
 {
-    const char *scope = call->words[1];
-    pmix_scope_t found = PMIX_GLOBAL;
-    if (!strcmp(scope, "local"))
-        found = PMIX_LOCAL;
-    else if (!strcmp(scope, "remote"))
-        found = PMIX_REMOTE;
     pmix_value_t value;
     PMIX_VALUE_CONSTRUCT(&value);
     PMIX_VALUE_LOAD(&value, call->words[3], PMIX_STRING);
-    return (struct reply){.status = PMIx_Put(found, call->words[2], &value)};
+    struct reply made = {.status = PMIx_Put(read_scope(call->words[1]), call->words[2], &value)};
+    PMIX_VALUE_DESTRUCT(&value);
+    return made;
 }
 
 static struct reply do_commit(const struct call *call)
@@ -95,6 +103,8 @@ static struct reply do_fence(const struct call *call)
     if (directives)
         set_true(&collect, PMIX_COLLECT_DATA);
     pmix_status_t status = PMIx_Fence(members, count, directives ? &collect : NULL, directives);
+    if (directives)
+        PMIX_INFO_DESTRUCT(&collect);
     free(members);
     return (struct reply){.status = status};
 }
@@ -110,6 +120,8 @@ static struct reply ask(const struct call *call, const pmix_info_t *directives, 
         write_value(value, made.value, sizeof made.value);
     else if (made.status == PMIX_SUCCESS)
         snprintf(made.value, sizeof made.value, "(none)");
+    if (value)
+        PMIX_VALUE_RELEASE(value);
     return made;
 }
 
@@ -122,7 +134,9 @@ static struct reply do_get_now(const struct call *call)
 {
     pmix_info_t at_once;
     set_true(&at_once, PMIX_IMMEDIATE);
-    return ask(call, &at_once, 1);
+    struct reply made = ask(call, &at_once, 1);
+    PMIX_INFO_DESTRUCT(&at_once);
+    return made;
 }
 
 static struct reply do_publish(const struct call *call)
@@ -130,7 +144,9 @@ static struct reply do_publish(const struct call *call)
     pmix_info_t said;
     PMIX_INFO_CONSTRUCT(&said);
     PMIX_INFO_LOAD(&said, library_key(call->words[1]), call->words[2], PMIX_STRING);
-    return (struct reply){.status = PMIx_Publish(&said, 1)};
+    struct reply made = {.status = PMIx_Publish(&said, 1)};
+    PMIX_INFO_DESTRUCT(&said);
+    return made;
 }
 
 /* A lookup, with directives or without. */
@@ -143,6 +159,7 @@ static struct reply look_up(const struct call *call, const pmix_info_t *directiv
     made.status = PMIx_Lookup(&found, 1, directives, count);
     if (made.status == PMIX_SUCCESS)
         write_value(&found.value, made.value, sizeof made.value);
+    PMIX_PDATA_DESTRUCT(&found);
     return made;
 }
 
@@ -157,7 +174,9 @@ static struct reply do_lookup_wait(const struct call *call)
     int all = 1;
     PMIX_INFO_CONSTRUCT(&wait);
     PMIX_INFO_LOAD(&wait, PMIX_WAIT, &all, PMIX_INT);
-    return look_up(call, &wait, 1);
+    struct reply made = look_up(call, &wait, 1);
+    PMIX_INFO_DESTRUCT(&wait);
+    return made;
 }
 
 static struct reply do_unpublish(const struct call *call)
@@ -221,5 +240,9 @@ pmix_status_t start_job(char **program, const char *job, char *hosts, char *name
     pmix_app_t *apps = take(strlen(hosts) + 1, sizeof *apps);
     for (char *it = strtok_r(hosts, ",", &rest); it; it = strtok_r(NULL, ",", &rest))
         fill_application(&apps[count++], program, job, it);
-    return PMIx_Spawn(NULL, 0, apps, count, name);
+    pmix_status_t status = PMIx_Spawn(NULL, 0, apps, count, name);
+    for (size_t i = 0; i < count; i++)
+        PMIX_APP_DESTRUCT(&apps[i]);
+    free(apps);
+    return status;
 }

@@ -39,12 +39,12 @@ def pattern_as_json(verdict: bytes) -> bytes:
         said = [it.decode()[2:-1] for it in lines[1:] if it.startswith(b"# ")]
         ranks = int(lines[0].split()[2])
         return one_line({"counterexample": plan, "findings": said[:-1], "ranks": ranks})
-    told: dict[str, Any] = {"findings": [], "least": [], "waits": []}
+    told: dict[str, Any] = {"findings": [], "later": [], "least": [], "waits": []}
     told["for"] = lines[0].decode().split(" for ")[1].strip()
     for line in lines[1:]:
         words = line.decode().strip()
         if words.startswith("every call is answered for "):
-            told["answered"] = words.split(" for ")[1]
+            told["answered"] = words.partition(" for ")[2].partition(",")[0]
         else:
             told.setdefault(words.split(" ")[words.startswith("at ")], []).append(words)
     return one_line(told)

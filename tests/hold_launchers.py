@@ -137,6 +137,12 @@ def run(place: Place, name: str, before: Sequence[str] = ()) -> Ran:
     return launch(place, OTHERS[name].processes, [name_built(place.folder, name)], before)
 
 
+def what_lacks(name: str) -> str:
+    """What of a launcher isn't there; empty where it is. That of Slurm takes Munge too."""
+    needed = [name, *(["munged"] if name == "srun" else [])]
+    return next((it for it in needed if not shutil.which(it)), "")
+
+
 def launch(place: Place, count: int, words: Sequence[str], before: Sequence[str]) -> Ran:
     """Runs so many processes of a program with its words."""
     kind, program = place.launcher.kind, ["-n", str(count), *words]
@@ -227,8 +233,9 @@ def main(words: Sequence[str]) -> int:
     with tempfile.TemporaryDirectory(prefix="wire-up-") as folder:
         build(folder)
         for name in words:
-            if not shutil.which(name):
-                print(f"{name}: left out: it isn't there")
+            lacking = what_lacks(name)
+            if lacking:
+                print(f"{name}: left out: {lacking} isn't there")
                 continue
             # Slurm starts its own daemons.
             nodes = "tests.slurm_nodes" if name == "srun" else "tests.two_nodes"

@@ -1,66 +1,241 @@
-"""Says what `wire_up-record --sizes` answers on programs, as a table.
+"""Says what `wire_up-record --sizes` answers on programs that run with any number of ranks, as a
+table.
 
-Usage: python3 -m tests.hold_sizes 3,4,8 COMMANDS. In the file COMMANDS each line is a command, with
-`{}` where the number of ranks goes. WIRE_UP_PROGRAM names the checker.
+Usage: python3 -m tests.hold_sizes ANSWERS [--nodes 2] [--sizes 3,4,8] [--suite ROOM]
+                                   [--only WORD..]
+The programs are record/programs/shapes.c with each of its words, wireups.c with each of its own,
+and some others of record/programs; of `--suite`, those of MPICH's suite that `make record-suite`
+has built in ROOM. With `--nodes 2` the ranks stand on two nodes that are none, in turn, which takes
+root. ANSWERS is a file: what was answered is added to it, and what stands in it isn't asked again;
+the table is of all that stands in it. Only programs with all of WORD.. in their lines are asked.
+WIRE_UP_PROGRAM names the checker.
 """
+import argparse
 import collections
+import itertools
 import json
 import os
+import re
+import subprocess
 import sys
 import tempfile
-from collections.abc import Sequence
+from collections.abc import Iterator, Sequence
+from typing import Any, NamedTuple, Optional
 
-from support import program
-from tapes import run_recorder
+import support
+from build.suite.source import SuiteProgram, find_programs
+from hold_launchers import ENVIRONMENT, PLACES, tell_daemons
+from live import COMPILED
+from tapes import COMMAND, PROGRAMS
+from two_nodes import NODES
+from wire_up_tools.run.launchers import Kind
 
+PLACE, MOST_RANKS = "{}", 64
+# How long the runs of a program may take. One of OpenPMIx may wait for ever on two nodes.
+MOST_SECONDS = 150
+FORMS = ("", "root", "each", "both")
+OTHERS = ("alone", "calls", "collectives", "early", "messages", "names", "ring", "told")
+# The parts of MPICH's suite.
+PARTS = ("coll", "comm", "group", "pt2pt", "topo")
+WORDS_OF = {"shapes": r"SHAPE\((\w+)\)", "wireups": r"WIREUP\((\w+)\)"}
 COLUMNS = (
+    "programs",
+    "patterns",
     "nothing found",
-    "of these no call that can race",
-    "race in a recording",
-    "race in the pattern alone",
-    "no answer",
+    "none can race",
+    "race in a run",
+    "pattern alone",
     "contradicted",
 )
-CLEAN, IDLE, RECORDED, ALONE, NOTHING, WRONG = COLUMNS
+EVERY, PATTERN, CLEAN, IDLE, RECORDED, ALONE, WRONG = COLUMNS
+# What makes a run of no use: it isn't meant for that number of ranks.
+FAILS = re.compile(r"the run with \d+ ranks (ended|has)|was cut off|\d+ jobs|took too long")
+SAID = "wire_up-record: "
 
 
-def find_columns(answer: str) -> list[str]:
-    """What an answer counts as, as JSON; nothing stands for none."""
-    if not answer:
-        return [NOTHING]
-    said = json.loads(answer)
-    if any("mistake of wire_up-record" in it for it in said["notes"]):
-        return [WRONG]
-    if said["findings"]:
-        return [RECORDED if said["shown"] == "recording" else ALONE]
-    is_idle = any(it.startswith("no call of these runs can race") for it in said["notes"])
-    return [CLEAN, IDLE] if is_idle else [CLEAN]
+class Case(NamedTuple):
+    """A program: of which family, where it is, and with which words."""
+
+    family: str
+    folder: str
+    words: Sequence[str]
 
 
-def ask(sizes: str, command: Sequence[str]) -> list[str]:
-    """What is answered on a command, with a line for it."""
-    with tempfile.TemporaryDirectory() as room:
-        words = ["--sizes", sizes, "--json", "--checker", program()]
-        ran = run_recorder(*words, "-o", os.path.join(room, "pattern"), *command)
-    found = find_columns(ran.stdout)
-    said = [it for it in ran.stderr.splitlines() if it.startswith("wire_up-record: ")]
-    print(" ".join(command), "|", ", ".join(found), "|", *said[-1:], flush=True)
-    return found
+class Asked(NamedTuple):
+    """What was answered on a program, on so many nodes: its line, the status, what was written and
+    the last line that was said."""
+
+    family: str
+    nodes: int
+    line: str
+    status: Optional[int]
+    wrote: str
+    said: str
+
+    @property
+    def counts(self) -> Sequence[str]:
+        """As what it counts; as nothing if its runs fail."""
+        if not self.wrote:
+            return [] if FAILS.search(self.said) or self.status is None else [EVERY]
+        said: dict[str, Any] = json.loads(self.wrote)
+        notes = said["notes"]
+        found = [EVERY]
+        if not any(it.startswith("no pattern fits") for it in notes):
+            found.append(PATTERN)
+        if any("mistake of wire_up-record" in it for it in notes):
+            found.append(WRONG)
+        if said["findings"]:
+            return [*found, RECORDED if said["shown"] == "recording" else ALONE]
+        is_idle = any(it.startswith("no call of these runs can race") for it in notes)
+        return [*found, CLEAN, *([IDLE] if is_idle else [])]
 
 
-def main(words: Sequence[str]) -> int:
-    """Asks about all commands, and writes the table."""
-    if len(words) != 2:
-        print(__doc__, file=sys.stderr)
-        return 2
-    with open(words[1], encoding="utf-8") as it:
-        commands = [line.split() for line in it if line.strip()]
-    counted = collections.Counter(name for it in commands for name in ask(words[0], it))
-    print("|".join(["", "programs", *COLUMNS, ""]))
-    print("|".join(["", *["---"] * (len(COLUMNS) + 1), ""]))
-    print("|".join(["", str(len(commands)), *(str(counted[it]) for it in COLUMNS), ""]))
-    return int(counted[WRONG] > 0)
+def list_words(name: str) -> Sequence[str]:
+    """The words that a program takes, in its own order."""
+    with open(os.path.join(PROGRAMS, f"{name}.c"), encoding="utf-8") as it:
+        return re.findall(WORDS_OF[name], it.read().partition("[] = {")[2])
+
+
+def list_cases(folder: str) -> Iterator[Case]:
+    """The programs of the repository, built in a folder."""
+    for form, shape in itertools.product(FORMS, list_words("shapes")):
+        words = [os.path.join(folder, "shapes"), shape, *([form] if form else [])]
+        yield Case(f"shapes {form}".strip(), folder, words)
+    for word in list_words("wireups"):
+        yield Case("wireups", folder, [os.path.join(folder, "wireups"), word])
+    for name in OTHERS:
+        yield Case("others", folder, [os.path.join(folder, name)])
+
+
+def list_suite(room: str) -> Iterator[Case]:
+    """The programs of MPICH's suite that are built."""
+    built = os.path.join(room, "built")
+    programs: dict[tuple[str, str], SuiteProgram] = {}
+    for it in find_programs(built, os.path.join(room, "source"), PARTS):
+        programs.setdefault((it.part, it.name), it)
+    for it in programs.values():
+        folder = os.path.join(built, it.part)
+        path = os.path.join(folder, it.name)
+        if os.access(path, os.X_OK):
+            settings = [f"{name}={value}" for name, value in it.variables.items()]
+            before = ["env", *settings] if settings else []
+            yield Case(f"MPICH {it.part}", folder, [*before, path, *it.words])
+
+
+def build(folder: str) -> None:
+    """Builds the recorder, and the programs into a folder."""
+    subprocess.run(["make", "-s", "record", "record-mpi"], cwd=support.TOP, check=True)
+    asked = ["pkg-config", "--cflags", "--libs", "pmix"]
+    of_pmix = subprocess.run(asked, capture_output=True, text=True, check=True).stdout.split()
+    for name in ("shapes", "wireups", *OTHERS):
+        compiler, *words = COMPILED.get(name, ("mpicc", f"{name}.c"))
+        path, words = os.path.join(folder, name), [os.path.join(PROGRAMS, words[-1]), *words[:-1]]
+        subprocess.run([compiler, "-g", "-o", path, *words, *of_pmix], check=True)
+
+
+def launch(nodes: int, room: str) -> Sequence[str]:
+    """The words that start as many ranks as are asked for."""
+    hosts, words = os.path.join(room, "hosts"), ["mpirun"]
+    with open(hosts, "w", encoding="ascii") as to:
+        to.writelines(f"{NODES[rank % nodes]}\n" for rank in range(MOST_RANKS))
+    if nodes > 1:
+        words += tell_daemons(Kind.OPEN_MPI_4, hosts, room) + list(PLACES[Kind.OPEN_MPI_4])
+    return [*words, *([] if nodes > 1 else ["--oversubscribe"]), "-n", PLACE]
+
+
+def ask(case: Case, nodes: int, sizes: str) -> Asked:
+    """What is answered on a program."""
+    line = " ".join([os.path.basename(case.words[0]), *case.words[1:]])
+    with tempfile.TemporaryDirectory(prefix="sizes-") as room:
+        options = ["--sizes", sizes, "--json", "--checker", support.program()]
+        words = [sys.executable, COMMAND, *options, "-o", os.path.join(room, "pattern")]
+        words = ["timeout", "-k", "5", str(MOST_SECONDS), *words, *launch(nodes, room), *case.words]
+        # On one node messages go through memory.
+        environment = ENVIRONMENT if nodes > 1 else {
+            name: it for name, it in ENVIRONMENT.items() if name != "OMPI_MCA_btl_tcp_if_include"
+        }
+        ran = subprocess.run(
+            words, cwd=case.folder, env=environment, stdin=subprocess.DEVNULL,
+            capture_output=True, text=True, errors="replace", check=False,
+        )
+    told = [it.removeprefix(SAID) for it in ran.stderr.splitlines() if it.startswith(SAID)]
+    said = "took too long" if ran.returncode == 124 else "".join(told[-1:])
+    return Asked(case.family, nodes, line, ran.returncode, ran.stdout, said)
+
+
+def read_answers(path: str) -> list[Asked]:
+    """What was answered before."""
+    if not os.path.exists(path):
+        return []
+    with open(path, encoding="utf-8") as lines:
+        return [Asked(*json.loads(it)) for it in lines]
+
+
+def ask_all(words: argparse.Namespace, folder: str) -> None:
+    """Asks about all programs of which nothing stands in the file of answers."""
+    cases = [*list_cases(folder), *(list_suite(words.suite) if words.suite else ())]
+    known = {(it.family, it.nodes, it.line) for it in read_answers(words.answers)}
+    for case in cases:
+        line = " ".join([os.path.basename(case.words[0]), *case.words[1:]])
+        is_known = (case.family, words.nodes, line) in known
+        if is_known or not all(it in f"{case.family} {line}" for it in words.only):
+            continue
+        asked = ask(case, words.nodes, words.sizes)
+        with open(words.answers, "a", encoding="utf-8") as to:
+            to.write(f"{json.dumps(asked)}\n")
+        tell(asked)
+
+
+def tell(asked: Asked) -> None:
+    """Prints what a program counts as."""
+    counted = [it for it in asked.counts if it not in (EVERY, PATTERN)]
+    what = ", ".join(counted) or ("no pattern" if asked.counts else "no runs")
+    where = "two nodes" if asked.nodes > 1 else "one node"
+    print(asked.family, where, asked.line, what, asked.said, sep=" | ", flush=True)
+
+
+def write_table(answers: Sequence[Asked]) -> Iterator[str]:
+    """The table of all answers: a row for each family on each number of nodes, and one for all."""
+    yield f"| |{'|'.join([EVERY, 'nodes', *COLUMNS[1:]])}|"
+    yield f"|{'|'.join(['---'] * (len(COLUMNS) + 2))}|"
+    rows = dict.fromkeys((it.family, it.nodes) for it in answers)
+    for family, nodes in [*rows, *(("all", it) for it in sorted({it.nodes for it in answers}))]:
+        here = [it for it in answers if it.nodes == nodes and family in (it.family, "all")]
+        counted = collections.Counter(name for it in here for name in it.counts)
+        cells = [family, str(counted[EVERY]), str(nodes), *(str(counted[it]) for it in COLUMNS[1:])]
+        yield f"|{'|'.join(cells)}|"
+
+
+def read_words() -> argparse.Namespace:
+    """What the command line asks for."""
+    parser = argparse.ArgumentParser(add_help=False, usage=__doc__)
+    parser.add_argument("answers")
+    parser.add_argument("--nodes", type=int, default=1, choices=(1, len(NODES)))
+    parser.add_argument("--sizes", default="3,4,8")
+    parser.add_argument("--suite")
+    parser.add_argument("--only", nargs="*", default=[])
+    parser.add_argument("--built")
+    return parser.parse_args()
+
+
+def main() -> int:
+    """Asks about all programs, and writes the table. Answers 1 if an answer is contradicted."""
+    words = read_words()
+    if words.built:
+        ask_all(words, words.built)
+        return 0
+    with tempfile.TemporaryDirectory(prefix="wire-up-") as folder:
+        build(folder)
+        again = [sys.executable, "-m", "tests.hold_sizes", *sys.argv[1:], "--built", folder]
+        if words.nodes > 1:
+            again = [sys.executable, "-m", "tests.two_nodes", *again]
+        subprocess.run(again, cwd=support.TOP, check=True)
+    answers = read_answers(words.answers)
+    lacking = [it for it in answers if it.counts and PATTERN not in it.counts]
+    print("", *(f"no pattern: {it.line}, nodes {it.nodes}: {it.said}" for it in lacking), sep="\n")
+    print("", *write_table(answers), sep="\n")
+    return int(any(WRONG in it.counts for it in answers))
 
 
 if __name__ == "__main__":
-    sys.exit(main(sys.argv[1:]))
+    sys.exit(main())

@@ -1,6 +1,7 @@
 """A reference for patterns, slow and unproved: says what `check --pattern` must write, byte for
-byte, but for the line that every call is answered for every number of ranks. It judges all casts to
-the cutoff, by the checker of tests/pattern_plan.py.
+byte, but for the lines about larger numbers of ranks: where a call waits later, and for which
+numbers of ranks every call is answered. It judges all casts to the cutoff, by the checker of
+tests/pattern_plan.py.
 
 Usage: python3 tests/pattern_reference.py [--answers] FILE
 """
@@ -20,6 +21,7 @@ from pattern_plan import NOT_FOUND, OUTSIDE, SUCCESS, Finding, Plan, Verdict, an
 CLEAN = b"findings 0 for every number of ranks on every placement"
 # What a judge can say besides, and the reference can't: it judges few sizes.
 ANSWERED = b"every call is answered for every number of ranks\n"
+BEYOND = (b"later ", b"every call is answered for ")
 # How many turns may be left out or taken in the largest instance that is judged.
 MOST_TURNS = 20
 STATUSES = (SUCCESS, NOT_FOUND, OUTSIDE)
@@ -333,6 +335,36 @@ def all_statuses(verdict: Verdict, event: tuple[int, int], call: Call) -> set[by
     return {verdict.status(event, call, it) for it in shared}
 
 
+class Wait(NamedTuple):
+    """An instance in which a rank waits for ever: how many ranks each role has, and its text."""
+
+    ranks: Ranks
+    text: bytes
+
+    def words(self) -> bytes:
+        """How many ranks it has, and each of its groups."""
+        said = b"1 rank" if self.ranks.count == 1 else b"%d ranks" % self.ranks.count
+        for role in self.ranks.pattern.roles:
+            if role.least is not None:
+                said += b", %s=%d" % (role.name, len(self.ranks.group[role.name]))
+        return said
+
+    def line(self) -> bytes:
+        """The line above who waits."""
+        return b"ranks wait for ever with %s:\n" % self.words()
+
+
+def find_first_wait(pattern: Pattern) -> Optional[Wait]:
+    """The first instance that is judged in which a rank waits for ever."""
+    for sizes in sizes_of(pattern):
+        ranks = Ranks(pattern, sizes)
+        for plan in ranks.plans():
+            ends = zip(plan.scripts, answered(plan))
+            if any(count < len(script.calls) for script, count in ends):
+                return Wait(ranks, instance_text(ranks, plan.scripts, range(ranks.count)))
+    return None
+
+
 def judge(text: bytes) -> tuple[int, bytes, bytes]:
     """The exit status, what is written, and what `--answers` adds."""
     judge = Judge(read_pattern(text))
@@ -343,8 +375,8 @@ def judge(text: bytes) -> tuple[int, bytes, bytes]:
 
 
 def without_answered(wrote: bytes) -> bytes:
-    """What is written without the line that every call is answered for every number of ranks."""
-    return b"".join(it for it in wrote.splitlines(True) if it != ANSWERED)
+    """What is written without the lines about larger numbers of ranks."""
+    return b"".join(it for it in wrote.splitlines(True) if not it.startswith(BEYOND))
 
 
 def main(words: list[str]) -> int:

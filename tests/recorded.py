@@ -5,6 +5,7 @@ from typing import Optional
 
 from tapes import ask_program, read_file
 from wire_up_tools import words
+from wire_up_tools.report.singular import say_counted
 
 RACE = re.compile(r"race app:\d+ \d+ app:\d+ \d+ name \w+\n")
 
@@ -14,17 +15,18 @@ NOT_FINALIZED = (
 )
 LAST_LINES = "2 last lines of recordings, which were cut, "
 UNAWAITED = (
-    "1 calls of the program that don't block and ended before others: in the plan it waited for "
-    "them\n"
+    "1 call of the program that doesn't block and ended before others: in the plan it waited for "
+    "it\n"
 )
-UNAWAITED_LAST = UNAWAITED.replace("1", "2", 1).rstrip("\n") + (
-    ", 1 processes that called from several threads: their calls stand in the order in which they "
+UNAWAITED_LAST = (
+    "2 calls of the program that don't block and ended before others: in the plan it waited for "
+    "them, 1 process that called from several threads: its calls stand in the order in which it "
     "began\n"
 )
 SHORT_WAIT = (
-    "1 waits for less than a minute at most (pmix.timeout): in the plan they wait for an answer\n"
+    "1 wait for less than a minute at most (pmix.timeout): in the plan it waits for an answer\n"
 )
-GOES_AWAY = "1 names that go away by themselves (pmix.persist): in the plan they stay\n"
+GOES_AWAY = "1 name that goes away by itself (pmix.persist): in the plan it stays\n"
 PAST_RECORDER = (
     "2 processes in which plugin.so calls MPI past the recorder: its calls aren't seen\n"
 )
@@ -34,8 +36,8 @@ PMIX_PAST_RECORDER = (
 
 
 OPENED = "2 processes in which lookups.so calls MPI past the recorder: its calls aren't seen\n"
-OPENED_AGAIN = "1 processes with libmpi in a namespace of its own: calls of it aren't seen\n"
-CHILD = "1 processes of which a child called PMIx or MPI by fork: its calls aren't seen\n"
+OPENED_AGAIN = "1 process with libmpi in a namespace of its own: calls of it aren't seen\n"
+CHILD = "1 process of which a child called PMIx or MPI by fork: its calls aren't seen\n"
 FAILED = (
     "2 collectives that failed, or were left by a jump: whether they met those of the others isn't "
     "known\n"
@@ -47,14 +49,13 @@ ONCE_OTHERWISE = (
     "hold of this library's run\n"
 )
 FOUND_BY_TEST = "MPI_Test that found a request complete"
-FREED = "not in the plan: 1 calls of MPI_Request_free of a receive\n"
-HANDLER = "1 processes that called in a handler of a signal: another run may call elsewhere\n"
+FREED = "not in the plan: 1 call of MPI_Request_free of a receive\n"
+HANDLER = "1 process that called in a handler of a signal: another run may call elsewhere\n"
 CALLBACK = (
-    "1 processes that called PMIx in a function that MPI calls: another run may call elsewhere\n"
+    "1 process that called PMIx in a function that MPI calls: another run may call elsewhere\n"
 )
 THREADS = (
-    "1 processes that called from several threads: their calls stand in the order in which they "
-    "began\n"
+    "1 process that called from several threads: its calls stand in the order in which it began\n"
 )
 
 
@@ -116,7 +117,9 @@ class Program:
         if with_mpi:
             ends += self.ends if is_checked else self.ends or self.luck
         told += [f"{ends} {words.LEFT_TO_LUCK}"] if ends else []
-        said = f"wire_up-record: {', '.join(told)}: another run may do otherwise after them\n"
+        counted = ", ".join(map(say_counted, told))
+        what = "it" if len(told) == 1 and counted.startswith("1 ") else "them"
+        said = f"wire_up-record: {counted}: another run may do otherwise after {what}\n"
         return said if told else ""
 
     @property

@@ -10,7 +10,6 @@ import concurrent.futures
 import itertools
 import os
 import re
-import shutil
 import subprocess
 import sys
 import tempfile
@@ -19,7 +18,17 @@ from collections.abc import Sequence
 from dataclasses import dataclass
 
 import support
-from hold_launchers import AGAIN, AT_A_TIME, INSIDE, TRIES, WRONG, Place, launch, name_built
+from hold_launchers import (
+    AGAIN,
+    AT_A_TIME,
+    INSIDE,
+    TRIES,
+    WRONG,
+    Place,
+    launch,
+    name_built,
+    what_lacks,
+)
 from live import COMPILED, SOURCES, WITH_PMIX
 from tapes import COMMAND, PROGRAMS
 from two_nodes import NODES
@@ -40,19 +49,21 @@ HOLD = "4"
 @dataclass(frozen=True)
 class Case:
     """A program with its words, on so many processes; what it is asked for, the words that its
-    races or orders must have, and the launchers under which they have them."""
+    races or orders must have, and the launchers under which they have them; and the words where a
+    library refuses a name that is there, as OpenPMIx 7 does."""
 
     processes: int
     words: Sequence[str]
     task: str
     expected: Sequence[str]
     kinds: Sequence[Kind] = WITH_NAMES
+    refused: Sequence[str] = ()
 
 
 CASES = (
     Case(2, ("shown", "branch"), SHOW, ["shown"]),
     Case(2, ("shown", "bigsend"), SHOW, ["shown"]),
-    Case(3, ("shown", "third"), SHOW, ["shown", "shown-later"]),
+    Case(3, ("shown", "third"), SHOW, ["shown", "shown-later"], WITH_NAMES, ["shown", "shown"]),
     Case(3, ("shown", "value"), SHOW, ["shown-later"], OPEN_MPI_4),
     Case(2, ("unseen", "barrier"), SHOW, ["shown"]),
     Case(3, ("cases", "wild1"), SHOW, ["shown"]),
@@ -78,7 +89,7 @@ def try_once(place: Place, case: Case, room: str) -> tuple[list[str], bool]:
     path, *more = case.words
     ran = launch(place, case.processes, [name_built(place.folder, path), *more], before)
     found = find_words(ran.said)
-    if found == case.expected:
+    if found in (case.expected, case.refused):
         return found, True
     return [*found, f"not {', '.join(case.expected)}", *ran.said.splitlines()], False
 
@@ -135,8 +146,9 @@ def main(words: Sequence[str]) -> int:
         build(folder)
         for word in words:
             name, _, least = word.partition(":")
-            if not shutil.which(name):
-                print(f"{name}: left out: it isn't there")
+            lacking = what_lacks(name)
+            if lacking:
+                print(f"{name}: left out: {lacking} isn't there")
                 continue
             # Slurm starts its own daemons.
             nodes = "tests.slurm_nodes" if name == "srun" else "tests.two_nodes"

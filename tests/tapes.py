@@ -1,5 +1,6 @@
 """Recordings that tests write themselves, and what becomes of them."""
 import os
+import re
 import subprocess
 import sys
 from collections.abc import Sequence
@@ -19,6 +20,8 @@ PATIENCE = 60
 Scripts = Sequence[Sequence[str]]
 # A call as a recording has it, and how it ended.
 Recorded = tuple[str, str]
+# What the recorder says of libraries.
+LIBRARIES = re.compile(r"^wire_up-record: portable for .*\n", re.MULTILINE)
 
 
 class Tape:
@@ -123,10 +126,11 @@ def ask_program(program: str, *words: str) -> "subprocess.CompletedProcess[str]"
 
 
 def run_recorder(
-    *words: str, environment: Optional[dict[str, str]] = None
+    *words: str, environment: Optional[dict[str, str]] = None, says_libraries: bool = False
 ) -> "subprocess.CompletedProcess[str]":
-    """Runs `wire_up-record`."""
-    return subprocess.run(
+    """Runs `wire_up-record`. The line that says for which libraries the plan is portable is left
+    out of what it says, if that isn't asked for."""
+    ran = subprocess.run(
         [sys.executable, COMMAND, *words],
         capture_output=True,
         text=True,
@@ -134,3 +138,6 @@ def run_recorder(
         check=False,
         env=environment,
     )
+    if not says_libraries:
+        ran.stderr = LIBRARIES.sub("", ran.stderr)
+    return ran

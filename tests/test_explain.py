@@ -1,8 +1,10 @@
 """Runs the built program with `--explain`."""
 import os
+import re
 import unittest
+from collections.abc import Iterator
 
-from explained import ASKED, EXPLAINED, ORDERED, REFUSED_PATTERNS, STANDING, STOPPED
+from explained import ASKED, EXPLAINED, NEVER, ORDERED, REFUSED_PATTERNS, STANDING, STOPPED
 from running import (
     CARDS,
     CARDS_REPORT,
@@ -13,11 +15,14 @@ from running import (
     Runs,
     closed,
     onto,
+    text_of,
     written,
 )
 
 # What stands in each report of ranks that wait.
 WAITING = (b"waiting",)
+# A line of a rank that waits.
+LINE = re.compile(rb"^    (\S+) (\d+) (\S+) waits for (.*)$", re.MULTILINE)
 
 
 def explanations(room: str) -> Runs:
@@ -181,11 +186,30 @@ def explained_waits() -> Runs:
     """Plans of which ranks wait for ever."""
     for name, plan, lines in STANDING:
         said = b"wire_up: ranks wait for ever\n" + lines
-        for options in ("", " --json", " --anyway", " --large --workers 4"):
+        for options in ("", " --anyway", " --large --workers 4"):
             words = f"replay --explain{options}"
             yield Run(f"{name}, by {words}", words.split(), plan, wrote=WAITING, said=said)
+        for options in ("", " --anyway", " --large --workers 4"):
+            words = f"replay --json --explain{options}"
+            wrote = (members_of(lines),)
+            yield Run(f"{name}, by {words}", words.split(), plan, wrote=wrote, said=said)
         yield Run(f"{name}, not explained", ["replay"], plan, wrote=WAITING)
         yield Run(f"{name}, only checked", ["check", "--explain"], plan, wrote=NOTHING)
+
+
+def members_of(lines: bytes) -> bytes:
+    """How JSON begins where these lines are said, up to those that are only counted there."""
+    deadlock, _, never = lines.partition(NEVER)
+    first = b'{"deadlock":[' + b",".join(objects_of(deadlock)) + b'],"never":['
+    rest = b"" if b" more\n" in never else b'],"ranks":['
+    return first + b",".join(objects_of(never)) + rest
+
+
+def objects_of(lines: bytes) -> Iterator[bytes]:
+    """The objects of the ranks that these lines name."""
+    for rank, call, verb, what in LINE.findall(lines):
+        members = (b'"call":' + call, b'"proc":"%s"' % rank, b'"verb":"%s"' % verb)
+        yield b"{%s}" % b",".join([*members, b'"waits_for":"%s"' % what])
 
 
 def nothing_to_explain(room: str) -> Runs:
@@ -194,6 +218,11 @@ def nothing_to_explain(room: str) -> Runs:
     cards = written(room, "explained-cards.plan", CARDS)
     yield Run("nothing to explain", ["check", "--explain", cards], wrote=NOTHING)
     yield Run("a report and nothing to explain", ["replay", "--explain", cards], wrote=CARDS_REPORT)
+    yield Run(
+        "JSON and nothing to explain",
+        ["replay", "--json", "--explain", cards],
+        wrote=(b'{"deadlock":[],"never":[],"ranks":[',),
+    )
     yield Run(
         "a race and nothing to explain",
         ["check", "--explain", racy],
@@ -207,6 +236,11 @@ def nothing_to_explain(room: str) -> Runs:
         status=1,
         wrote=(b"unsettled\n", b"waiting 1\n"),
     )
+    for name, status in ("same-node", 1), ("direct-modex", 0):
+        path = f"examples/patterns/{name}"
+        said = text_of(f"{path}.verdict")
+        words = ["check", "--pattern", "--explain", f"{path}.pattern"]
+        yield Run(f"a pattern and nothing to explain: {name}", words, status=status, wrote=said)
 
 
 def unread(about: str, path: str, name: str, reason: str) -> Run:

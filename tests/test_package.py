@@ -63,7 +63,7 @@ LINES = {
     "wire_up replay --w": ["--workers"],
     "wire_up check --l": ["--large", "--lines"],
     "wire_up check --e": ["--explain"],
-    "wire_up check --p": ["--pattern"],
+    "wire_up check --p": ["--pattern", "--portable"],
     "wire_up check --ans": ["--answers"],
     "wire_up why --j": ["--json"],
     "wire_up why --l": ["--large", "--lines"],

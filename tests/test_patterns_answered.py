@@ -1,17 +1,22 @@
 """`check --pattern` of the built program: whether every call is answered with any number of ranks,
-for the table of rows/answered.py, beside what `replay` says of instances of each pattern."""
+for the table of rows/answered.py, beside what `replay` says of instances of each pattern. And with
+`--explain`, who waits for ever in the first instance in which a rank does."""
+import json
 import unittest
 from collections.abc import Iterator
 
 import pattern_faults
 import pattern_reference
-from forms import pattern_as_json
+from forms import one_line, pattern_as_json
 from pattern_reference import Ranks
 from pattern_soaking import Instance
-from rows.answered import ANSWERED, ROWS, SIZES, Told
+from rows.answered import ANSWERED, ROWS, SIZES, UP_TO_3, Told
 from running import ProgramCase, Run, Runs, start
 
 CHECK = ["check", "--pattern"]
+EXPLAIN = [*CHECK, "--explain"]
+# How `replay --explain` begins on standard error where ranks wait.
+WAIT = b"wire_up: ranks wait for ever\n"
 
 
 def instances(row: Told) -> Iterator[tuple[int, bytes]]:
@@ -40,6 +45,26 @@ class Answered(ProgramCase):
     def test_rows(self) -> None:
         self.hold_all(self.runs_of_rows())
 
+    def explained(self, row: Told, given: bytes) -> Iterator[Run]:
+        """What `--explain` adds, by what it adds to `replay` of the first plan that waits."""
+        said = pattern_reference.CLEAN + b"\n" + row.told
+        form = json.loads(pattern_as_json(said))
+        first = pattern_reference.find_first_wait(pattern_reference.read_pattern(given))
+        form["where"] = None
+        if first:
+            ran = start(self.program, Run(row.name, ["replay", "--explain"], first.text))
+            self.assertTrue(ran.stderr.startswith(WAIT), ran.stderr)
+            said += first.line() + ran.stderr[len(WAIT):]
+            ran = start(self.program, Run(row.name, ["replay", "--json", "--explain"], first.text))
+            form["where"] = {it: json.loads(ran.stdout)[it] for it in ("deadlock", "never")}
+            form["where"] |= {"plan": first.text.decode(), "with": first.words().decode()}
+        yield Run(f"{row.name}: explained", EXPLAIN, given, wrote=said)
+        yield Run(f"{row.name}: explained, JSON", [*EXPLAIN, "--json"], given, wrote=one_line(form))
+
+    def test_explained(self) -> None:
+        for row in ROWS:
+            self.hold_all(self.explained(row, pattern_faults.text_of(row.lines)))
+
     def hold_instance(self, row: Told, size: int, plan: bytes) -> None:
         """Tests that a rank of an instance waits where it is to, and of a pattern with status 0
         that each call succeeds."""
@@ -61,8 +86,9 @@ class Answered(ProgramCase):
         """A call waits at a size that is judged, or at a larger one alone; it is known that none
         does, or it isn't; and of those where none does a call fails."""
         told = [ANSWERED in it.told for it in ROWS]
-        self.assertTrue(any(it.first and it.first > 3 and not it.told for it in ROWS))
-        self.assertTrue(any(not it.first and not it.told for it in ROWS))
+        self.assertTrue(any(it.first and b"waits " in it.told for it in ROWS))
+        self.assertTrue(any(it.told.startswith(b"later %d " % (it.first or 0)) for it in ROWS))
+        self.assertTrue(any(UP_TO_3 in it.told for it in ROWS))
         self.assertTrue(any(known and it.status for known, it in zip(told, ROWS)))
         self.assertFalse(any(known and it.first for known, it in zip(told, ROWS)))
         self.assertFalse(any(not known and not it.status for known, it in zip(told, ROWS)))

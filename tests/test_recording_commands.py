@@ -221,7 +221,7 @@ class InPartTest(RoomTest):
         ran = run_recorder("-o", self.plan, "--from", *files)
         said = (
             "a verdict over this plan holds only in part: "
-            "1 calls made while one that doesn't block was open"
+            "1 call made while one that doesn't block was open"
         )
         self.assertEqual(ran.returncode, 0)
         self.assertIn(said, ran.stderr)
@@ -252,6 +252,12 @@ class LibraryTest(RoomTest):
         ran = run_recorder("--checker", support.program(), "-o", self.plan, "--from", self.room)
         self.assertEqual(ran.returncode, 0, ran.stderr)
         return ran.stderr.splitlines()[-1] if ran.stderr else ""
+
+    def test_for_which_libraries_it_is_portable(self) -> None:
+        self.record(OF_LIBRARY, "7001")
+        words = ("--checker", support.program(), "-o", self.plan, "--from", self.room)
+        said = run_recorder(*words, says_libraries=True).stderr.splitlines()[-1]
+        self.assertTrue(said.startswith("wire_up-record: portable for no library"), said)
 
     def test_calls_that_it_answers_otherwise(self) -> None:
         self.assertEqual(

@@ -8,7 +8,10 @@ from tapes import Tape, read_file, run_recorder, write_file
 from wire_up_tools.plan_reading import read_plan
 from wire_up_tools.record.notes import FLOATING, UNAWAITED
 from wire_up_tools.report.partial import find_reasons, say_awaited
+from wire_up_tools.report.singular import say_counted
 from wire_up_tools.words import AWAITED, MORE_ORDERED, WRITTEN_OTHERWISE
+
+ONE_FLOATING, ONE_UNAWAITED = (say_counted(f"1 {it}") for it in (FLOATING, UNAWAITED))
 
 
 def put_and_commit(*keys: str) -> Tape:
@@ -64,33 +67,33 @@ class FloatingTest(unittest.TestCase):
         """The get of `k` is all that brings the commit before the get of `other`."""
         later = get_without_waiting("get blocks job:0 :other pmix.immediate=number:1:1")
         plan, said = self.record(put_and_commit("k", "other"), later)
-        self.assertIn(f"holds only in part: 1 {FLOATING}\n", said)
+        self.assertIn(f"holds only in part: {ONE_FLOATING}\n", said)
         self.assertIn(f"# {MORE_ORDERED}\n#   1 {FLOATING}\n", plan)
 
     def test_where_something_is_found(self) -> None:
         """Others may be missed then."""
         others = [Tape(n).call("publish blocks n=text:v -", "0") for n in (2, 3)]
         plan, said = self.record(put_and_commit("k"), get_without_waiting(), *others)
-        self.assertIn(FLOATING, said)
+        self.assertIn(ONE_FLOATING, said)
         self.assertIn(MORE_ORDERED, plan)
 
     def test_without_a_checker(self) -> None:
         plan, said = self.record(put_and_commit("k"), get_without_waiting(), checker="/bin/false")
-        self.assertIn(FLOATING, said)
+        self.assertIn(ONE_FLOATING, said)
         self.assertIn(MORE_ORDERED, plan)
 
     def test_calls_that_change_something(self) -> None:
         """What doesn't block and isn't such a get is told of as before."""
         tape = Tape(0).call("publish own n=text:v -").call("commit")
         plan, said = self.record(tape)
-        self.assertIn(f"1 {UNAWAITED}\n", said)
+        self.assertIn(f"{ONE_UNAWAITED}\n", said)
         self.assertIn(MORE_ORDERED, plan)
 
     def test_a_get_that_was_answered_with_an_error(self) -> None:
         """It didn't wait for its key, so that it can't stand anywhere."""
         tape = Tape(1).call("get own job:0 :k -", "-46").call("fence blocks all -")
         _, said = self.record(put_and_commit("k"), tape)
-        self.assertIn(f"1 {UNAWAITED}\n", said)
+        self.assertIn(f"{ONE_UNAWAITED}\n", said)
 
 
 if __name__ == "__main__":

@@ -342,7 +342,7 @@ class OtherWaysTest(LiveTest):
         if run_plainly(run).returncode:
             self.skipTest("this launcher can't start two programs at once")
         ran = self.record(*run)
-        said = "1 processes of a job that left no recording: their calls aren't in the plan\n"
+        said = "1 process of a job that left no recording: its calls aren't in the plan\n"
         said = f"wire_up-record: {IN_PART}{said}"
         self.assertEqual((ran.returncode, drop_each_run(ran.stderr)), (0, said))
 

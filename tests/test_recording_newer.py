@@ -14,6 +14,8 @@ SHOWN = (
     "ShownTest.test_messages_of_any_source",
     "ShownTest.test_another_branch_and_another_end",
     "TurnedTest.test_orders_that_programs_keep",
+    "TurnedTest.test_a_get_with_a_limit",
+    "TurnedTest.test_calls_that_the_plan_leaves_out",
     "CommandTest.test_signals_in_the_middle",
     "CommandTest.test_another_launcher",
 )

@@ -178,7 +178,7 @@ class CollectivesTest(OrderTest):
         for tape in tapes:
             tape.call(f"fence blocks all {COLLECTS}").call(*BARRIER).call("fence nb all -")
         scripts = [["fence all collect", "fence all", "fence all"]] * 2
-        self.become(tapes, scripts, "0 messages and 1 collectives")
+        self.become(tapes, scripts, "0 messages and 1 collective. ")
 
     def test_a_barrier_and_a_fence_in_two_orders(self) -> None:
         """By a fence that doesn't block: it is names."""

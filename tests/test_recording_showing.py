@@ -98,7 +98,7 @@ class ShownTest(ShowingCase):
 
     def test_a_program_that_stops(self) -> None:
         said = self.hold(["shown"], r"ended status 0 \| status \d+", 2, "early")
-        self.assertIn("it does again", said.splitlines()[0])
+        self.assertIn("and does again what it does to files", said.splitlines()[0])
         head = read_file(self.plan)
         self.assertRegex(
             head,
@@ -127,7 +127,7 @@ class ShownTest(ShowingCase):
 
     def test_another_branch_and_another_end(self) -> None:
         said = self.hold(["shown"], r"ended status 0 \| status 139", 2, "shown", "branch")
-        self.assertRegex(said, r"parts app:1 after .*: fence \| publish own")
+        self.assertRegex(said, r"goes on otherwise: app:1 after .*: fence \| publish own")
         # The launcher of Open MPI 5 can die of an abort itself.
         ended = r"ended status 0 \| (status 7|signal \d+)"
         self.hold(["shown"], ended, 2, "shown", "abort")
@@ -141,9 +141,9 @@ class ShownTest(ShowingCase):
         self.hold(["not-made"], said, 2, "shown", "file", flag)
 
     def test_the_orders_of_the_witness(self) -> None:
-        self.hold(["shown", "shown-later"], "witness's orders", 3, "shown", "third")
+        self.hold(["shown", "shown-later"], "two orders of `wire_up witness`", 3, "shown", "third")
         three = ["shown", "shown-later", "shown"]
-        self.hold(three, "witness's orders", 3, "shown", "unpublished")
+        self.hold(three, "two orders of `wire_up witness`", 3, "shown", "unpublished")
 
     def test_a_job_that_another_started(self) -> None:
         """Both processes have the rank 0."""
@@ -164,9 +164,10 @@ class ShownTest(ShowingCase):
         self.assertIn(said, read_file(self.plan))
 
     def test_what_is_seen_later(self) -> None:
-        self.hold(["shown-later"], r"replies app:2 lookup port: ", 3, "shown", "value")
-        said = self.hold(["shown", "shown"], r"replies app:2 lookup second", 3, "shown", "stop")
-        self.assertRegex(said, r"parts app:1 after .*: publish second, fence \| fence")
+        self.hold(["shown-later"], r"answered otherwise: app:2 lookup port: ", 3, "shown", "value")
+        other = r"answered otherwise: app:2 lookup second"
+        said = self.hold(["shown", "shown"], other, 3, "shown", "stop")
+        self.assertRegex(said, r"goes on otherwise: app:1 after .*: publish second, fence \| fence")
 
 
 class TurnedTest(ShowingCase):
@@ -196,11 +197,24 @@ class TurnedTest(ShowingCase):
         self.assertEqual({"kept"}, set(self.find_words(ran)), ran.stderr)
 
     def test_a_get_that_is_given_up(self) -> None:
-        """It waits by the rules, and so isn't among the orders that are turned round at first."""
-        ran = self.show(["--turn", "--turn-waits", "2"], self.words(2, "cards", "brief"))
-        self.assertEqual(["gave-up"], self.find_words(ran), ran.stderr)
-        said = r"gave-up app:0 2 commit, app:1 1 get: PMIX_ERR_TIMEOUT after 1\.\d s"
-        self.assertRegex(ran.stderr, said)
+        """It waits by the rules, and so isn't among the orders that are turned round at first.
+        Newer libraries may wait."""
+        ran = self.show(["--turn", "--turn-waits", "2"], self.words(2, "cards", "waits"))
+        self.assertIn(self.find_words(ran), (["gave-up"], ["kept"]), ran.stderr)
+        said = r"gave-up app:0 2 commit, app:1 1 get: the library ended the wait with PMIX_ERR_"
+        self.assertRegex(ran.stderr, f"{said}|stood in get 0 card")
+
+    def test_a_get_with_a_limit(self) -> None:
+        said = r"app:1 1 get: PMIX_SUCCESS address \| PMIX_ERR_TIMEOUT"
+        self.hold("turned", said, 2, "cards", "brief")
+
+    def test_calls_that_the_plan_leaves_out(self) -> None:
+        """The library may answer a get of every key alike, whether the card is there or not."""
+        said = r"app:1 lookup pmix-name: PMIX_SUCCESS v \| PMIX_ERR_NOT_FOUND"
+        self.hold("turned", said, 2, "cards", "reserved")
+        ran = self.show(["--turn"], self.words(2, "cards", "every"), LONG_HOLD)
+        self.assertIn(self.find_words(ran), (["turned-alike"], ["turned"]), ran.stderr)
+        self.assertIn("app:0 2 commit, app:1 get of every key of rank 0: the second", ran.stderr)
 
     def test_orders_by_luck(self) -> None:
         said = r"app:0 \d+ lookup: PMIX_SUCCESS port \| PMIX_ERR_NOT_FOUND"

@@ -27,7 +27,7 @@ class SilentCase(PremisesCase):
     def hold(self, tapes: Sequence[Tape], title: str, what: str, *words: str) -> str:
         """Tests that it is said everywhere, and answers what is said on standard error."""
         said = self.record(tapes, *words)
-        self.assertIn(what, said)
+        self.assertIn(say_counted(what), said)
         self.assertNotIn("each run", said)
         head = read_file(self.plan).partition("\nrehearsal 1\n")[0]
         self.assertIn(f"\n# {title}\n", head)
@@ -139,7 +139,8 @@ class LuckTest(SilentCase):
             look_up_behind(tapes)
             said = self.record(tapes, *words)
             ends = "1 ends of requests that another run may have found open"
-            self.assertIn(f"{ends}: another run may do otherwise after them\n", said)
+            told = "1 end of requests that another run may have found open"
+            self.assertIn(f"{told}: another run may do otherwise after it\n", said)
             self.assertIn(f"\n# {ends}", read_file(self.plan))
             self.assertIn("1 polled request", self.report().reasons[0])
 
@@ -242,7 +243,7 @@ class GetsTest(SilentCase):
         tapes[0].call("put global a text:1").call("commit")
         tapes[1].call(f"get blocks job:0 every {AT_ONCE}", "0")
         said = self.hold(tapes, LEFT_OUT, "1 gets of every key")
-        self.assertIn(f"{IN_PART}not in the plan: 1 gets of every key\n", said)
+        self.assertIn(f"{IN_PART}not in the plan: 1 get of every key\n", said)
 
     def test_names_and_keys_that_begin_like_those_of_pmix(self) -> None:
         tapes = make_world(2)

@@ -94,6 +94,19 @@ def ask_between(size: int) -> list[Tape]:
     return tapes
 
 
+def count_rounds(size: int) -> list[Tape]:
+    """In each of two rounds each rank publishes a name with the round and its rank. Behind a
+    barrier each looks up that of the rank before it."""
+    tapes = make_world(size)
+    for round_of in range(2):
+        for rank, it in enumerate(tapes):
+            publish(it, f"round{round_of}of{rank}")
+            it.call("collective barrier 1", "0 all")
+        for rank, it in enumerate(tapes):
+            look_up(it, f"round{round_of}of{(rank - 1) % size}")
+    return tapes
+
+
 # The sides of grids, as MPI_Dims_create chooses them.
 SIDES = {4: (2, 2, 1), 8: (2, 2, 2), 27: (3, 3, 3)}
 
@@ -225,7 +238,7 @@ class AnswerTest(unittest.TestCase):
         said = self.ask(tell, (3, 4), (8,))
         self.assertEqual(said["findings"], [])
         (rests,) = said["notes"]
-        self.assertRegex(rests, "^the verdict rests on the order of messages .*, such as 27$")
+        self.assertRegex(rests, "^without the messages of MPI there would be a race: .* with 27$")
         self.assertEqual(
             self.read_pattern(),
             "pattern 1\njob app\none root\npublish port x\npublish done.root.1 sent\n"
@@ -237,6 +250,8 @@ class AnswerTest(unittest.TestCase):
         said = self.ask(meet, (3, 4), (8,))
         self.assertEqual((said["findings"], said["notes"]), ([], []))
         self.assertIn("many workers\nlookup-wait done.root.1\n", self.read_pattern())
+        with open(self.pattern, encoding="utf-8") as it:
+            self.assertIn("# Who waits for a name that begins with done. knows by MPI", it.read())
 
     def test_a_race_that_recordings_have(self) -> None:
         said = self.ask(forget, (3, 4), (8,))
@@ -255,6 +270,13 @@ class AnswerTest(unittest.TestCase):
         self.assertIn("for some ranks\n", self.read_pattern().replace("workers", "ranks"))
         self.assertIn("lookup port#[each]\n", self.read_pattern())
 
+    def test_names_with_the_round(self) -> None:
+        """It is less than the number of ranks, and none of them."""
+        said = self.ask(count_rounds, (3, 4), (8,))
+        self.assertEqual(said["findings"], [])
+        for line in ("publish round0of#[self] x\n", "lookup round1of#[each]\n"):
+            self.assertIn(line, self.read_pattern())
+
     def test_ranks_without_a_turn(self) -> None:
         """They don't say that they are past a loop before they have waited ahead of it: each would
         wait for the others, and the pattern hide the race."""
@@ -270,12 +292,12 @@ class AnswerTest(unittest.TestCase):
         """In a grid all hear of all while its sides are short; that can't be so in any."""
         said = self.ask(go_round, (4,), (8,))
         self.assertEqual(said["findings"], [])
-        self.assertIn("in a grid of 8 ranks a side may have 2", said["notes"][0])
+        self.assertIn("a side of 8 ranks may be so short", said["notes"][0])
         for make in (go_round, meet_and_go_round):
             said = self.ask(make, (4,), (8, 27))
             self.assertEqual(said["findings"], ["race app:0 1 app:1 1 name port"])
             self.assertEqual((said["shown"], said["ranks"]), ("pattern", 2))
-            self.assertIn("doesn't grow with their number, and was left out", said["notes"][0])
+            self.assertRegex(said["notes"][0], "^the pattern leaves out order: ")
 
     def test_no_call_that_can_race(self) -> None:
         said = self.ask(put_cards, (3, 4), (8,))
@@ -292,7 +314,8 @@ class AnswerTest(unittest.TestCase):
         """A run that has it is enough."""
         said = self.ask(lambda size: forget(size) if size > 3 else put_cards(size), (3, 4), ())
         self.assertEqual((said["shown"], said["ranks"]), ("recording", 4))
-        self.assertRegex(said["notes"][0], "^no pattern fits these runs: with . ranks, call 1 of ")
+        (why,) = said["notes"]
+        self.assertRegex(why, "^no pattern fits these runs: with . ranks, app:. calls `")
 
     def test_a_call_that_fails_at_every_size(self) -> None:
         said = self.ask(forget_cards, (3, 4), (8,))
@@ -319,7 +342,11 @@ class AnswerTest(unittest.TestCase):
         self.assertEqual(ran.returncode, 0, ran.stderr)
         first, second, *_ = ran.stdout.splitlines()
         self.assertEqual(first, "findings 0 for every number of ranks on every placement")
-        self.assertEqual(second, "from runs with 3 and 4 ranks, held against none")
+        self.assertEqual(
+            second,
+            "from runs with 3 and 4 ranks, held against none; that other numbers do the same is a "
+            "guess, which one more size would test",
+        )
 
     def refuse(self, *words: str) -> str:
         """What is said where there is no answer, in one line."""
@@ -345,8 +372,8 @@ class AnswerTest(unittest.TestCase):
             ((tell(3),), "one size isn't enough: name the recordings of a second one by --from"),
             (
                 (part_ways(3), part_ways(4)),
-                "no pattern fits these runs: with 4 ranks, call 2 of app:0: `publish more#[app:0] "
-                "x`",
+                "no pattern fits these runs: with 4 ranks, app:0 calls `publish more0 x`: no "
+                "script of all ranks in all runs has that",
             ),
         ):
             self.assertEqual(self.refuse_runs(*runs), said)

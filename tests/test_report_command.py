@@ -168,11 +168,12 @@ class StartsTest(CommandCase):
         return len(report_support.read(self.find("starts")).splitlines())
 
     def test_a_plan_with_a_race(self) -> None:
-        # Its version, what is found as written and anywhere, two runs, and what comes of each.
-        self.assertEqual(self.count("early-get.plan"), 6)
+        # Its version, what is found as written and anywhere, its options, on which libraries each run
+        # does as the rules say, two runs, and what comes of each.
+        self.assertEqual(self.count("early-get.plan"), 8)
 
     def test_a_plan_without_findings(self) -> None:
-        self.assertEqual(self.count("ordered-get.plan"), 4)
+        self.assertEqual(self.count("ordered-get.plan"), 6)
 
     def test_a_pattern(self) -> None:
         self.assertEqual(self.count(os.path.join("patterns", "business-cards.pattern")), 2)

@@ -108,11 +108,16 @@ class TriedTest(unittest.TestCase):
     def test_orders(self) -> None:
         in_vain = "# Turned round in vain on 2026-11-30: 12 of 13 pairs\n"
         every = "# Turned round in vain on 2026-11-30: 2 of 2 pairs, all that the plan orders\n"
+        on = "# Turned round on 2026-11-30, "
+        alike = f"{on}turned-alike: app:0 9 publish, app:1 10 lookup: the second was over first\n"
+        gave_up = f"{on}gave-up: app:0 9 commit, app:1 10 get: the library ended the wait\n"
         said = "12 orders of 13 that were turned round in the program on 2026-11-30 held"
         for head, badge, found in (
             ((in_vain,), "no race", said),
             ((every,), "no race", "the later call never came first. These are all that the plan"),
-            ((in_vain, TURNED), "in part", "an order that the plan has isn"),
+            ((in_vain, TURNED), "in part", "an order of the recorded run isn"),
+            ((alike,), "no race", "t imposed, but nothing differed: app:0 9 publish, app:1 10"),
+            ((gave_up,), "no race", "t wait as the rules say: app:0 9 commit, app:1 10 get: the"),
         ):
             self.write("told", *head)
             report_support.run_report("-o", self.page, self.plan)

@@ -7,6 +7,7 @@ import unittest
 import support
 
 TESTS = os.path.dirname(os.path.abspath(__file__))
+PATHS = os.pathsep.join([TESTS, os.path.join(support.TOP, "python")])
 
 
 class Soak(unittest.TestCase):
@@ -17,7 +18,7 @@ class Soak(unittest.TestCase):
         ran = subprocess.run(
             [sys.executable, "-m", "build.soak", support.program(), *words, "--seed", "1"],
             cwd=support.TOP,
-            env={**os.environ, "PYTHONPATH": TESTS},
+            env={**os.environ, "PYTHONPATH": PATHS},
             stdin=subprocess.DEVNULL,
             capture_output=True,
             text=True,
@@ -39,6 +40,12 @@ class Soak(unittest.TestCase):
         wrote = self.soak("--waits", "--seconds", "6")
         self.assertRegex(wrote, r"\d every call answered")
         self.assertRegex(wrote, r"\d waits\b")
+
+    def test_inferred(self) -> None:
+        """Patterns that are inferred again have the verdict of the first ones."""
+        wrote = self.soak("--inferred", "--seconds", "6")
+        for kind in ("clean again", "racy again"):
+            self.assertRegex(wrote, rf"\d {kind}\b")
 
 
 if __name__ == "__main__":

@@ -68,6 +68,8 @@ TRIED_IN_HEAD = {
     "not-made": "Not made in this program",
 }
 TRIED_BY = "Tried by: "
+# What such a line says where the two runs are those of `witness`.
+BY_WITNESS = "in the two orders of wire_up witness"
 TURNED_ROUND, TURNED_IN_VAIN = "Turned round on", "Turned round in vain on"
 ALL_PAIRS = "all that the plan orders"
 TRIED_STOPPED = "Trying was stopped on"

@@ -6,7 +6,7 @@
  * JOB is the number of the job in its namespace, or 0 where it has none. For each named call a
  * process connects and writes `WORD came I` (the I-th of the file), and waits for `go`; when the
  * call is over it connects again and writes `WORD over I`. `WORD passed I` says that a call wasn't
- * held. A server that is gone lets all go. No socket stays open meanwhile: the program may close
+ * held. The file of a run in which nothing is held may be empty. A server that is gone lets all go. No socket stays open meanwhile: the program may close
  * descriptors that it doesn't know. */
 #define _GNU_SOURCE
 #include "core/holds.h"
@@ -40,6 +40,7 @@ static struct named {
     char name[NAME_ROOM];
 } named[MOST_NAMED];
 unsigned named_count;
+bool is_compared;
 static char address[ADDRESS_ROOM], word[WORD_ROOM];
 static void (*let_mpi_go_on)(void);
 
@@ -89,6 +90,7 @@ void read_holds(const char *folder, const struct identity *me)
     char path[PATH_MAX];
     int length = snprintf(path, sizeof path, "%s/hold", folder);
     FILE *it = length > 0 && (size_t)length < sizeof path ? fopen(path, "re") : NULL;
+    is_compared = it != NULL;
     if (!it)
         return;
     if (fscanf(it, "server %1023s %63s\n", address, word) == 2)

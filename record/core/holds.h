@@ -8,9 +8,11 @@
 
 /* How many calls of this process are named: mostly none, and then a call costs one test more. */
 extern unsigned named_count;
+/* Whether this run is compared with others: then bytes are told from others of their size. */
+extern bool is_compared;
 
 /* Reads which calls of this process are named, and where the server is. Without the file there are
- * none. */
+ * none, and the run isn't compared. */
 void read_holds(const char *folder, const struct identity *me);
 
 /* A call begins whose record has this text. Comes back when it may go on, and answers which of the

@@ -1,11 +1,14 @@
 /* The words of records of PMIx calls. */
 #include "pmix/words.h"
+#include "core/holds.h"
 #include "core/text.h"
 
 #include <string.h>
 
 /* The longest text that is noted whole. A plan has values of up to 255 bytes. */
 #define LONGEST_TEXT 1024
+/* How many letters tell bytes from others. */
+#define LETTERS 8
 
 void add_key(struct text *to, const char *key) { add_word(to, key, strnlen(key, PMIX_MAX_KEYLEN)); }
 
@@ -38,13 +41,35 @@ void add_processes(struct text *to, const pmix_proc_t processes[], size_t count)
 
 /* --- values --- */
 
+/* Adds letters that tell bytes from others (FNV-1a, four bits a letter: digits would look like numbers
+ * of a run). */
+static void add_letters(struct text *to, const char *bytes, size_t length)
+{
+    unsigned long long sum = 0xcbf29ce484222325;
+    char letters[LETTERS + 1] = "";
+    for (size_t n = 0; n < length; n++)
+        sum = (sum ^ (unsigned char)bytes[n]) * 0x100000001b3;
+    sum ^= sum >> 4 * LETTERS;
+    for (int n = 0; n < LETTERS; n++)
+        letters[n] = (char)('a' + (sum >> 4 * n & 0xf));
+    wire_up_text_add(to, ":%s", letters);
+}
+
+/* Adds what is noted of bytes that aren't noted themselves: how many they are. */
+static void add_size(struct text *to, const char *kind, const char *bytes, size_t length)
+{
+    wire_up_text_add(to, "%s:%zu", kind, length);
+    if (is_compared && bytes)
+        add_letters(to, bytes, length);
+}
+
 static void add_string(struct text *to, const char *string)
 {
     size_t length = string ? strlen(string) : 0;
     if (!string) {
         wire_up_text_add(to, "none");
     } else if (length > LONGEST_TEXT) {
-        wire_up_text_add(to, "long:%zu", length);
+        add_size(to, "long", string, length);
     } else {
         wire_up_text_add(to, "text:");
         add_word(to, string, length);
@@ -113,6 +138,24 @@ static void add_plain(struct text *to, const pmix_value_t *value)
     }
 }
 
+static void add_pair(struct text *to, bool is_first, const char *key, const pmix_value_t *value);
+
+/* Adds an array: of keys and values these too, as one word, where the run is compared. */
+static void add_array(struct text *to, const pmix_data_array_t *array)
+{
+    const pmix_info_t *info = array && array->type == PMIX_INFO ? array->array : NULL;
+    struct text inner;
+    wire_up_text_add(to, "type:%u", (unsigned)PMIX_DATA_ARRAY);
+    if (!is_compared || !info)
+        return;
+    wire_up_text_open(&inner);
+    for (size_t n = 0; n < array->size; n++)
+        add_pair(&inner, n == 0, info[n].key, &info[n].value);
+    wire_up_text_add(to, ":");
+    add_word(to, inner.is_lost ? "" : inner.at, inner.is_lost ? 0 : inner.length);
+    wire_up_text_close(&inner);
+}
+
 void add_value(struct text *to, const pmix_value_t *value)
 {
     if (!value) {
@@ -124,7 +167,8 @@ void add_value(struct text *to, const pmix_value_t *value)
     case PMIX_BYTE_OBJECT:
     case PMIX_COMPRESSED_STRING:
     case PMIX_COMPRESSED_BYTE_OBJECT:
-    case PMIX_REGEX: wire_up_text_add(to, "bytes:%zu", value->data.bo.size); break;
+    case PMIX_REGEX: add_size(to, "bytes", value->data.bo.bytes, value->data.bo.size); break;
+    case PMIX_DATA_ARRAY: add_array(to, value->data.darray); break;
     default: add_plain(to, value);
     }
 }

@@ -3,7 +3,9 @@
  *   at-once   the last process gets it at once, a little later: a race where both are on one node
  *   carried   processes 0 and 1 meet besides at a fence that brings the key to the node of 1, and 3 gets it at once: a race
  *   fenced    all meet before, so that it is there: no race
- *   brief     process 1 waits for it for a second at most
+ *   brief     process 1 waits for it for a second at most; waits: as long as the library does
+ *   every     the last process gets every key at once, a little later: a plan has no such get
+ *   reserved  process 0 also publishes a name that a plan doesn't take, and the last process looks it up a little later
  */
 #include <pmix.h>
 #include <stdio.h>
@@ -12,6 +14,7 @@
 
 #define MILLISECONDS 1000
 #define KEY "card"
+#define RESERVED "pmix-name"
 static pmix_proc_t me;
 
 static void put(void)
@@ -21,19 +24,35 @@ static void put(void)
     PMIx_Commit();
 }
 
-static void get(const char *directive, int seconds)
+/* Gets a key; with a null pointer every key, and without a directive. */
+static void get(const char *key, const char *directive, int seconds)
 {
     pmix_proc_t owner = me;
     pmix_info_t info;
     pmix_value_t *found = NULL;
     bool is_true = true;
     owner.rank = 0;
-    if (seconds)
+    if (directive && seconds)
         PMIX_INFO_LOAD(&info, directive, &seconds, PMIX_INT);
-    else
+    else if (directive)
         PMIX_INFO_LOAD(&info, directive, &is_true, PMIX_BOOL);
-    pmix_status_t status = PMIx_Get(&owner, KEY, &info, 1, &found);
-    printf("%s\n", status == PMIX_SUCCESS ? found->data.string : "nothing");
+    pmix_status_t status = PMIx_Get(&owner, key, &info, directive != NULL, &found);
+    printf("%s\n", status != PMIX_SUCCESS ? "nothing" : found->type == PMIX_STRING ? found->data.string : "more");
+}
+
+static void publish(void)
+{
+    pmix_info_t info;
+    PMIX_INFO_LOAD(&info, RESERVED, "v", PMIX_STRING);
+    PMIx_Publish(&info, 1);
+}
+
+static void look_up(void)
+{
+    pmix_pdata_t found;
+    PMIX_PDATA_CONSTRUCT(&found);
+    PMIX_LOAD_KEY(found.key, RESERVED);
+    printf("%d\n", PMIx_Lookup(&found, 1, NULL, 0));
 }
 
 /* Meets the first processes, so many, or all: what they have put comes along. */
@@ -66,12 +85,18 @@ int main(int count, char **words)
         meet(0);
     if (is_carried && me.rank < 2)
         meet(2);
-    if (!strcmp(word, "brief")) {
-        if (me.rank == 1)
-            get(PMIX_TIMEOUT, 1);
-    } else if (me.rank == last) {
+    int is_brief = !strcmp(word, "brief"), is_reserved = !strcmp(word, "reserved");
+    if (is_reserved && me.rank == 0)
+        publish();
+    int is_waiting = is_brief || !strcmp(word, "waits");
+    if (me.rank == (is_waiting ? 1 : last)) {
         usleep(400 * MILLISECONDS);
-        get(PMIX_IMMEDIATE, 0);
+        if (is_waiting)
+            get(KEY, is_brief ? PMIX_TIMEOUT : NULL, 1);
+        else if (is_reserved)
+            look_up();
+        else
+            get(strcmp(word, "every") ? KEY : NULL, PMIX_IMMEDIATE, 0);
     }
     return PMIx_Finalize(NULL, 0) != PMIX_SUCCESS;
 }

@@ -22,6 +22,8 @@ class Told(NamedTuple):
 
 
 SIZES = 6
+# That none does in the instances that are judged, and no more is known.
+UP_TO_3 = b"every call is answered for up to 3 ranks of each group, not known for more\n"
 
 
 def asks(caller: str, other: str) -> str:
@@ -58,6 +60,16 @@ def waits(*lines: str) -> bytes:
     return b"".join(b"waits %s\n" % it.encode() for it in lines)
 
 
+def later(size: int, *lines: str) -> bytes:
+    """A line for each call at which something waits first with so many ranks of each group."""
+    return b"".join(b"later %d %s\n" % (size, it.encode()) for it in lines)
+
+
+def later_lookups(size: int, callers: str, line: int = 1) -> bytes:
+    """Those of single roles, and of the workers at this line."""
+    return later(size, *(f"{it} 2 lookup-wait" for it in callers), f"w {line} lookup-wait")
+
+
 FOUR_WAIT = waits(*(f"{it} 2 lookup-wait" for it in "abc"), "w 1 lookup-wait")
 ROWS = [
     Told(
@@ -67,18 +79,24 @@ ROWS = [
         1,
         3,
     ),
-    Told("three: with four", f"{HEAD} / {A_B} / {B_C} / {C_Z} / many w / {WORKERS}", b"", 1, 4),
+    Told(
+        "three: with four",
+        f"{HEAD} / {A_B} / {B_C} / {C_Z} / many w / {WORKERS}",
+        later_lookups(4, "abc"),
+        1,
+        4,
+    ),
     Told(
         "four: with five",
         f"{HEAD} / {A_B} / {B_C} / {C_D} / {D_Z} / many w / {WORKERS}",
-        b"",
+        later_lookups(5, "abcd"),
         1,
         5,
     ),
     Told(
         "five: with six",
         f"{HEAD} / {A_B} / {B_C} / {C_D} / {D_E} / {E_Z} / many w / {WORKERS}",
-        b"",
+        later_lookups(6, "abcde"),
         1,
         6,
     ),
@@ -99,14 +117,14 @@ ROWS = [
     Told(
         "three loops, the group in another job",
         f"{HEAD} / {A_B} / {B_C} / {C_Z} / job work / many w / {WORKERS}",
-        b"",
+        later_lookups(4, "abc"),
         1,
         4,
     ),
     Told(
         "three loops, by keys",
         f"{HEAD} / {BY_KEYS} / many w / for w / get a a[each] / end / put global z 1 / commit",
-        b"",
+        later(4, "a 3 get", "b 3 get", "c 3 get", "w 1 get"),
         1,
         4,
     ),
@@ -114,7 +132,7 @@ ROWS = [
         "three loops, and one of some ranks that only reads",
         f"{HEAD} / {A_B} / {B_C} / {C_Z} / many w / {CARD} / fence w collect"
         f" / for some w / get-now each card / end / {WORKERS}",
-        b"",
+        later_lookups(4, "abc", 5),
         1,
         4,
     ),
@@ -203,14 +221,14 @@ ROWS = [
         f"{HEAD} / many v / publish n[self] 1 / for w / {MEET} / lookup-wait m[each,self] / {MEET}"
         f" / lookup-wait o[each] / end / for v / {MEET} / {MEET} / lookup-wait n[each] / end"
         f" / many w / for v / publish m[self,each] 1 / {MEET} / {MEET} / end / publish o[self] 1",
-        b"",
+        UP_TO_3,
         1,
     ),
     Told(
         "a name that is taken away at the end: it isn't known",
         f"{HEAD} / one root / publish port 1 / fence all / fence all / unpublish port"
         " / many w / fence all / lookup-wait port / fence all",
-        b"",
+        UP_TO_3,
         1,
     ),
     Told(

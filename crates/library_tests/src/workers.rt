@@ -328,6 +328,7 @@ fn workers_of_a_replay_meet(rt: HostRuntime) -> Result<(), Fail> {
     let mode = Mode {
         json: false,
         anyway: false,
+        explain: false,
     };
     let mut reader = MemorySource::new(APART);
     let mut writer = MemorySink::new(Vec::new(rt.alloc()));

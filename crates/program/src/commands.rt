@@ -17,9 +17,10 @@ use wire_commands::{
 };
 use wire_explain::Language;
 use wire_pattern_commands::{Expansion, PatternAsked, Spread, check_pattern, expand_pattern};
+use wire_portable_commands::{PortableAsked, check_portable};
 use wire_sched::OpenGate;
 use wire_script::Size;
-use wire_types::{Fault, Form, FromRead, Sink, Source};
+use wire_types::{Fault, FromRead, Sink, Source};
 
 /// The exit status of what was done, where nothing is to be told by it.
 pub const DONE: u8 = 0;
@@ -124,8 +125,11 @@ pub fn run_command<R: Read, W: Sink>(
 ) -> Result<u8, Fault> {
     let manner = manner_of(&request);
     match request.command {
-        Command::Check(judged) => status_of(check(rt, manner, judged, reader, writer)),
-        Command::Replay(options) => replay(rt, manner, options, watch, reader, writer),
+        Command::Check(judged) => status_of(check(rt, &request, judged, reader, writer)),
+        Command::Replay(options) => {
+            let replaying = replaying_of(&request, options);
+            replay(rt, replaying, options.complete, watch, reader, writer)
+        }
         Command::Follow(order) => {
             if request.plan.is_none() {
                 // Where standard input is closed, the order would be opened in its place, and be read as the
@@ -164,20 +168,35 @@ pub fn run_command<R: Read, W: Sink>(
 /// Checks a plan on the placements that are asked for, or a pattern.
 fn check<S: Source, W: Sink>(
     rt: &(impl AllocGlobal + Threads + Sync),
-    manner: Manner<'_>,
+    request: &Request<'_>,
     judged: Judged,
     reader: &mut S,
     writer: &mut W,
 ) -> Result<Ended, Fault> {
+    let manner = manner_of(request);
     match judged {
         Judged::Written => check_plan(rt, rt.alloc(), manner, reader, writer),
         Judged::Anywhere => check_placements(rt, rt.alloc(), manner, reader, writer),
         Judged::Same => check_replies(rt, rt.alloc(), manner, reader, writer),
+        Judged::Portable => check_libraries(rt, manner, false, reader, writer),
+        Judged::PortableAnywhere => check_libraries(rt, manner, true, reader, writer),
         Judged::Pattern(options) => {
-            let asked = pattern_asked(options, manner.form);
+            let asked = pattern_asked(request, options);
             check_pattern(rt, rt.alloc(), asked, reader, writer)
         }
     }
+}
+
+/// Checks a plan, and tells on which libraries each run does as the rules say.
+fn check_libraries<S: Source, W: Sink>(
+    rt: &(impl AllocGlobal + Threads + Sync),
+    manner: Manner<'_>,
+    anywhere: bool,
+    reader: &mut S,
+    writer: &mut W,
+) -> Result<Ended, Fault> {
+    let asked = PortableAsked { manner, anywhere };
+    check_portable(rt, rt.alloc(), asked, reader, writer)
 }
 
 /// The exit status of what ended so.
@@ -197,11 +216,12 @@ fn probe<R: Read>(reader: &mut FromRead<R>) -> Result<(), Fault> {
 }
 
 /// What `check` is asked for besides the verdict about a pattern, and the form.
-fn pattern_asked(options: PatternOptions, form: Form) -> PatternAsked {
+fn pattern_asked(request: &Request<'_>, options: PatternOptions) -> PatternAsked {
     PatternAsked {
         answers: options.answers,
         complete: options.complete,
-        json: form.is_json(),
+        explain: request.explain,
+        json: request.form.is_json(),
     }
 }
 
@@ -231,28 +251,33 @@ fn asked_of<'a>(options: PairOptions<'a>) -> PairAsked<'a> {
     }
 }
 
-/// Replays a plan. With `--complete` it names the first call that doesn't succeed.
+/// How a plan is replayed. With `--explain` JSON has who waits for ever.
+fn replaying_of(request: &Request<'_>, options: ReplayOptions) -> Replaying<'static, OpenGate> {
+    let mode = Mode {
+        json: request.form.is_json(),
+        anyway: options.anyway,
+        explain: request.explain,
+    };
+    Replaying {
+        size: request.size,
+        workers: options.workers,
+        mode,
+        gate: &OpenGate,
+    }
+}
+
+/// Replays a plan. If it is to be complete, it names the first call that doesn't succeed.
 fn replay<S: Source, W: Sink>(
     rt: &(impl Eprint + AllocGlobal + Threads + Wait + Sync),
-    manner: Manner<'_>,
-    options: ReplayOptions,
+    replaying: Replaying<'_, OpenGate>,
+    complete: bool,
     watch: OrderWatch<'_>,
     reader: &mut S,
     writer: &mut W,
 ) -> Result<u8, Fault> {
-    let mode = Mode {
-        json: manner.form.is_json(),
-        anyway: options.anyway,
-    };
-    let replaying = Replaying {
-        size: manner.size,
-        workers: options.workers,
-        mode,
-        gate: &OpenGate,
-    };
     let replayed = replay_plan(rt, rt.alloc(), reader, writer, replaying)?;
     *watch.has_run = matches!(replayed.ended, Ended::Clean);
-    if !options.complete {
+    if !complete {
         return Ok(replayed.ended.status());
     }
     if let Some(line) = &replayed.failure {

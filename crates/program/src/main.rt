@@ -27,13 +27,17 @@ use std::{env, io, thread};
 use terminal_line::{NotedReader, NotedWriter, Progress, Streams, start_line};
 use wire_command_line::{CallPair, Command, Refusal, Request, read_request};
 use wire_explain::{
-    explain_file, explain_order, explain_part, explain_rank, explain_standstill, explain_stop,
-    explain_word,
+    explain_file, explain_order, explain_part, explain_rank, explain_stop, explain_word,
 };
+use wire_standstill::explain_standstill;
 use wire_types::{Fault, FromRead, ToWrite, write_out};
 
 /// The exit status of a command line that can't be read.
 const USAGE: u8 = 5;
+
+/// What is told where `--portable` stands beside options that don't go with it.
+const PORTABLE_MISUSED: &str =
+    "wire_up: usage --portable: of patterns it isn't known, and it doesn't go with --same";
 
 /// Why the program didn't do what it was asked to do.
 #[derive(Drop)]
@@ -106,6 +110,7 @@ fn refuse(rt: &(impl Print + Eprint + AllocGlobal), refusal: Refusal) -> Result<
         Refusal::Workers => tell_misused(rt, "wire_up: usage --workers"),
         Refusal::Same => tell_misused(rt, "wire_up: usage --same"),
         Refusal::Pattern => tell_misused(rt, "wire_up: usage --pattern"),
+        Refusal::Portable => tell_misused(rt, PORTABLE_MISUSED),
         Refusal::Spread => tell_misused(rt, "wire_up: usage expand"),
         Refusal::Witness => tell_misused(rt, "wire_up: usage witness"),
         Refusal::Usage(error) => tell(rt, &error),

@@ -52,8 +52,9 @@ with_large line = with_plan (with_rule line (flag (codes "large")))
 -- the commands
 abbrev pub check_line : App
 check_line =
-    with_large (with_forms (with_rule (with_rule (with_rule (with_rule (with_rule (new_app (codes "check"))
-    (flag (codes "anywhere"))) (flag (codes "same"))) (flag (codes "pattern"))) (flag (codes "answers"))) (flag (codes "complete"))))
+    with_large (with_forms (with_rule (with_rule (with_rule (with_rule (with_rule (with_rule (new_app (codes "check"))
+    (flag (codes "anywhere"))) (flag (codes "same"))) (flag (codes "portable"))) (flag (codes "pattern"))) (flag (codes "answers")))
+    (flag (codes "complete"))))
 
 abbrev pub replay_line : App
 replay_line =
@@ -139,6 +140,7 @@ pub record SaidBy (name : Text) (rows : List Row) (asked : Asked) : Type 0 where
   pub nodes : text_of asked.nodes ≡ first_of (codes "nodes") rows
   pub anywhere : asked.anywhere ≡ is_set (codes "anywhere") rows
   pub same : asked.same ≡ is_set (codes "same") rows
+  pub portable : asked.portable ≡ is_set (codes "portable") rows
   pub pattern : asked.pattern ≡ is_set (codes "pattern") rows
   pub answers : asked.answers ≡ is_set (codes "answers") rows
   pub lines : asked.lines ≡ is_set (codes "lines") rows

@@ -21,12 +21,13 @@ use Rattle.wire_command_line.specs.declared.request.Command.{Command}
 use Rattle.wire_command_line.specs.declared.request.Command.TheVariants.{Check, Replay, Follow, Why, Migrate, Place, Expand}
 use Rattle.wire_command_line.specs.declared.request.Command.TheVariants.{Witness, Witnesses}
 use Rattle.wire_command_line.specs.declared.request.Judged.{Judged}
-use Rattle.wire_command_line.specs.declared.request.Judged.TheVariants.{Written, Anywhere, Same, Pattern}
+use Rattle.wire_command_line.specs.declared.request.Judged.TheVariants.{Written, Anywhere, Same, Portable, PortableAnywhere, Pattern}
 use Rattle.wire_command_line.specs.declared.request.PatternOptions.{PatternOptions}
 use Rattle.wire_command_line.specs.declared.request.Request.{Request}
 use Rattle.wire_command_line.specs.declared.request.Refusal.{Refusal}
 use Rattle.wire_command_line.specs.declared.request.Refusal.TheVariants.{Usage, Workers, Same as SameAlone}
-use Rattle.wire_command_line.specs.declared.request.Refusal.TheVariants.{Pattern as PatternMisfit, Spread as NoSpread}
+use Rattle.wire_command_line.specs.declared.request.Refusal.TheVariants.{Pattern as PatternMisfit, Portable as PortableMisfit}
+use Rattle.wire_command_line.specs.declared.request.Refusal.TheVariants.{Spread as NoSpread}
 use Rattle.wire_command_line.specs.declared.request.Refusal.TheVariants.{Witness as Misfit}
 
 -- the words of these two names, which are those of a call
@@ -75,13 +76,28 @@ fits_pattern rows = if is_set (codes "pattern") rows then not (has_other rows) e
 abbrev pub told_said : List Row → PatternOptions
 told_said rows = record { answers = is_set (codes "answers") rows; complete = is_set (codes "complete") rows }
 
--- what `check` is to judge: a pattern, or a plan on the placements that two flags ask for; nothing where flags don't go
--- together
-abbrev pub judged_said : List Row → Option Judged
-judged_said rows =
+-- whether a flag is given that doesn't go with `--portable`
+abbrev pub has_beside : List Row → Bool
+has_beside rows = is_set (codes "same") rows || is_set (codes "pattern") rows || needs_pattern rows
+
+-- the placements on which libraries are judged, by whether all are asked for
+abbrev pub portable_of : (anywhere : Bool) → Judged
+portable_of false = Portable
+portable_of true = PortableAnywhere
+
+-- what `check` is to judge without `--portable`: a pattern, or a plan on the placements that two flags ask for; nothing
+-- where flags don't go together
+abbrev pub judged_alone : List Row → Option Judged
+judged_alone rows =
     if not (fits_pattern rows) then None
     else (if is_set (codes "pattern") rows then Some (Pattern (told_said rows))
     else judged_of (is_set (codes "anywhere") rows) (is_set (codes "same") rows))
+
+-- what `check` is to judge; nothing where flags don't go together
+abbrev pub judged_said : List Row → Option Judged
+judged_said rows =
+    if not (is_set (codes "portable") rows) then judged_alone rows
+    else (if has_beside rows then None else Some (portable_of (is_set (codes "anywhere") rows)))
 
 -- the limits that a flag asks for
 abbrev pub size_of : Bool → Size
@@ -174,10 +190,10 @@ pub record LacksWorkers (command : Option (Text × List Row)) : Type 0 where
   pub named : command ≡ Some (codes "replay", rows)
   pub none : workers_said (workers_word rows) ≡ None
 
--- `--same` is given, and neither `--anywhere` nor `--pattern`, nor a flag that needs the latter
+-- `--same` is given, and none of `--portable`, `--anywhere` and `--pattern`, nor a flag that needs the last
 abbrev pub SameIsAlone : List Row → Type 0
 SameIsAlone rows =
-    (is_set (codes "same") rows ≡ true) × (is_set (codes "anywhere") rows ≡ false) × (is_set (codes "pattern") rows ≡ false)
+    (is_set (codes "portable") rows ≡ false) × (is_set (codes "same") rows ≡ true) × (is_set (codes "anywhere") rows ≡ false) × (is_set (codes "pattern") rows ≡ false)
     × (needs_pattern rows ≡ false)
 
 -- it is `check`, with `--same` and without `--anywhere`
@@ -186,11 +202,25 @@ pub record LacksAnywhere (command : Option (Text × List Row)) : Type 0 where
   pub named : command ≡ Some (codes "check", rows)
   pub none : SameIsAlone rows
 
+-- the flags don't go with `--pattern`, or not without it, and `--portable` isn't given
+abbrev pub IsMisfit : List Row → Type 0
+IsMisfit rows = (is_set (codes "portable") rows ≡ false) × (fits_pattern rows ≡ false)
+
 -- it is `check`, and its flags don't go with `--pattern`, or not without it
 pub record LacksPattern (command : Option (Text × List Row)) : Type 0 where
   pub rows : List Row
   pub named : command ≡ Some (codes "check", rows)
-  pub none : fits_pattern rows ≡ false
+  pub none : IsMisfit rows
+
+-- `--portable` is given, and a flag that doesn't go with it
+abbrev pub IsBeside : List Row → Type 0
+IsBeside rows = (is_set (codes "portable") rows ≡ true) × (has_beside rows ≡ true)
+
+-- it is `check`, and its flags don't go with `--portable`
+pub record LacksPortable (command : Option (Text × List Row)) : Type 0 where
+  pub rows : List Row
+  pub named : command ≡ Some (codes "check", rows)
+  pub beside : IsBeside rows
 
 -- it is `expand`, and its options don't say how ranks are put on nodes
 pub record LacksSpread (command : Option (Text × List Row)) : Type 0 where
@@ -209,8 +239,8 @@ abbrev pub IsRequestOf : List Text → Request → Type 0
 IsRequestOf words request = (fault_of program_line words ≡ []) × IsRequestBy (subcommand_of program_line words) request
 
 -- why they request nothing: for a fault that `clap` finds, for want of memory or of a word, for the word of
--- `--workers`, for `--same` alone, for flags that don't go with `--pattern` or need it, for options that don't say how
--- ranks are put on nodes, or for what doesn't go together
+-- `--workers`, for `--same` alone, for flags that don't go with `--portable`, or that don't go with `--pattern` or need
+-- it, for options that don't say how ranks are put on nodes, or for what doesn't go together
 abbrev pub IsRefusalOf : List Text → Refusal → Type 0
 IsRefusalOf words (Usage e) =
     HasKind (fault_of program_line words) e
@@ -218,5 +248,6 @@ IsRefusalOf words (Usage e) =
 IsRefusalOf words Workers = (fault_of program_line words ≡ []) × LacksWorkers (subcommand_of program_line words)
 IsRefusalOf words SameAlone = (fault_of program_line words ≡ []) × LacksAnywhere (subcommand_of program_line words)
 IsRefusalOf words PatternMisfit = (fault_of program_line words ≡ []) × LacksPattern (subcommand_of program_line words)
+IsRefusalOf words PortableMisfit = (fault_of program_line words ≡ []) × LacksPortable (subcommand_of program_line words)
 IsRefusalOf words NoSpread = (fault_of program_line words ≡ []) × LacksSpread (subcommand_of program_line words)
 IsRefusalOf words Misfit = (fault_of program_line words ≡ []) × LacksFit (subcommand_of program_line words)

@@ -123,6 +123,11 @@ fn check_command<'a>() -> Subcommand<'a>
                 help: "With --anywhere: where nothing is found, names each call that replies differently elsewhere",
             },
             Argument {
+                name: "portable",
+                kind: Kind::Flag,
+                help: "Tells on which libraries each run does as the rules say, and names each call that may not",
+            },
+            Argument {
                 name: "pattern",
                 kind: Kind::Flag,
                 help: "Judges a pattern: every number of ranks on every placement",

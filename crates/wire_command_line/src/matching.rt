@@ -137,6 +137,7 @@ fn parse_command<'a>(
         nodes: find_word(found, "nodes"),
         anywhere: is_set(found, "anywhere"),
         same: is_set(found, "same"),
+        portable: is_set(found, "portable"),
         pattern: is_set(found, "pattern"),
         answers: is_set(found, "answers"),
         lines: is_set(found, "lines"),

@@ -1,9 +1,9 @@
 //! The request that the words of a command line make.
 
-ghost use Rattle.std.specs.Prelude.{◌≡◌, List, [], map, codes, false, None, Err, IfOk, IfErr, IfSome, IfNone};
+ghost use Rattle.std.specs.Prelude.{◌≡◌, List, [], map, codes, false, true, None, Err, IfOk, IfErr, IfSome, IfNone};
 ghost use Rattle.clap.specs.Words.{Text, fault_of, first_of, found_of, rows_of, subcommand_of, subcommand_rows_of};
 ghost use Rattle.wire_types.specs.Texts.{texts_of};
-ghost use Rattle.wire_command_line.specs.CommandLine.{program_line, text_of};
+ghost use Rattle.wire_command_line.specs.CommandLine.{program_line, text_of, is_set as is_flagged};
 ghost use Rattle.wire_command_line.specs.Reading.{IsReadAs, IsReadBy, IsReadIn};
 ghost use Rattle.wire_command_line.specs.Requests as spec;
 ghost use Rattle.wire_command_line.specs.Requests.{NamesCall, NamesCalls, IsCommand, IsRequestOf, IsRefusalOf};
@@ -33,6 +33,8 @@ enum Lack {
     Anywhere,
     /// Options that go with `--pattern`, or `--pattern` beside those that need it.
     Pattern,
+    /// Options that go with `--portable`.
+    Portable,
     /// Options of `expand` that say how ranks are put on nodes.
     Spread,
     /// Words and options of `witness` that go together.
@@ -142,8 +144,49 @@ fn read_told(found: &ArgMatches<'_>) -> PatternOptions
     PatternOptions { answers, complete }
 }
 
-/// What `check` is to judge, where its options go with `--pattern` or without it, and `--same` isn't given alone.
+/// Whether an option is given that doesn't go with `--portable`.
+fn has_beside(found: &ArgMatches<'_>) -> bool
+    ensures { result ≡ spec.has_beside (rows_of (found_of found.now)) }
+{
+    is_set(found, "same") || is_set(found, "pattern") || needs_pattern(found)
+}
+
+/// On which placements libraries are judged.
+fn portable_of(anywhere: bool) -> Judged
+    ensures { result ≡ spec.portable_of anywhere }
+{
+    if anywhere {
+        Judged::PortableAnywhere
+    } else {
+        Judged::Portable
+    }
+}
+
+/// What `check` is to judge with `--portable`, where its other options go with that.
+fn read_portable<'a>(found: &ArgMatches<'a>) -> Result<Command<'a>, Lack>
+    requires { is_flagged (codes "portable") (rows_of (found_of found.now)) ≡ true }
+    ensures { IsReadAs (codes "check") (rows_of (found_of found.now)) result }
+{
+    if has_beside(found) {
+        return Err(Lack::Portable);
+    }
+    Ok(Command::Check(portable_of(is_set(found, "anywhere"))))
+}
+
+/// What `check` is to judge, where its options go together.
 fn read_check<'a>(found: &ArgMatches<'a>) -> Result<Command<'a>, Lack>
+    ensures { IsReadAs (codes "check") (rows_of (found_of found.now)) result }
+{
+    if is_set(found, "portable") {
+        return read_portable(found);
+    }
+    read_alone(found)
+}
+
+/// What `check` is to judge without `--portable`, where its options go with `--pattern` or without it, and `--same` isn't
+/// given alone.
+fn read_alone<'a>(found: &ArgMatches<'a>) -> Result<Command<'a>, Lack>
+    requires { is_flagged (codes "portable") (rows_of (found_of found.now)) ≡ false }
     ensures { IsReadAs (codes "check") (rows_of (found_of found.now)) result }
 {
     if !fits_pattern(found) {
@@ -335,6 +378,7 @@ fn refuse(alloc: Global, lack: Lack) -> Refusal
         Lack::Workers => Refusal::Workers,
         Lack::Anywhere => Refusal::Same,
         Lack::Pattern => Refusal::Pattern,
+        Lack::Portable => Refusal::Portable,
         Lack::Spread => Refusal::Spread,
         Lack::Fit => Refusal::Witness,
         Lack::Word => match tell_missing(alloc) {
@@ -349,7 +393,8 @@ fn refuse(alloc: Global, lack: Lack) -> Refusal
 /// Where it is `Ok`, `clap` finds no fault in the words, and each word of the request is the one that its matches have
 /// by that name. `Workers` comes only for a `replay` whose word of `--workers` isn't one or more digits, `Same` only
 /// for a `check` with `--same` and neither `--anywhere` nor `--pattern`, `Pattern` only for a `check` with `--pattern`
-/// and an option that doesn't go with it, or with one that needs it and without it, `Spread` only for an `expand` whose
+/// and an option that doesn't go with it, or with one that needs it and without it, `Portable` only for a `check` with
+/// `--portable` and `--same`, `--pattern` or an option that needs the latter, `Spread` only for an `expand` whose
 /// options don't say how ranks are put on nodes, `Witness` only for a `witness` whose words and options don't go
 /// together. Any other error is one of those that `clap` has for the words, want of memory among them, or
 /// `MissingRequiredArgument` where `clap` finds no fault and a word is missing all the same (no words are known for

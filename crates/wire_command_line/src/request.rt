@@ -50,6 +50,10 @@ pub enum Judged {
     Anywhere,
     /// Every one, and if nothing is found whether each call replies the same on all of them.
     Same,
+    /// The one that the plan has, and on which libraries each run does as the rules say.
+    Portable,
+    /// Every one, and on which libraries each run does as the rules say on all of them.
+    PortableAnywhere,
     /// Every number of ranks on every placement, of a pattern.
     Pattern(PatternOptions),
 }
@@ -128,6 +132,8 @@ pub enum Refusal {
     Same,
     /// `--pattern` is given with an option that doesn't go with it, or one that needs it is given without it.
     Pattern,
+    /// `--portable` is given with `--same` or `--pattern`, or with an option that needs the latter.
+    Portable,
     /// The options of `expand` that put ranks on nodes don't go together, or don't say how.
     Spread,
     /// The words of `witness` aren't those of a file, or of two calls and a file; an option doesn't go with them; or

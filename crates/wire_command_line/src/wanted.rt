@@ -16,6 +16,7 @@ pub struct Asked<'a> {
     pub nodes: Option<&'a str>,
     pub anywhere: bool,
     pub same: bool,
+    pub portable: bool,
     pub pattern: bool,
     pub answers: bool,
     pub lines: bool,

@@ -51,7 +51,7 @@ judged_so s found counted ended law those count ends =
     }
 
 -- and what is told of them
-judged_told : (form : Form) (name : List ℕ) (rows : List (List ℕ)) (s shown : Scripts) (found : List Finding) (ended : Ended) (text : List ℕ) →
+pub judged_told : (form : Form) (name : List ℕ) (rows : List (List ℕ)) (s shown : Scripts) (found : List Finding) (ended : Ended) (text : List ℕ) →
     ((found ≡ []) ↔ IsSettled (plan_of s)) → AreFindings s found → shown ≡ s → ended ≡ ended_with found →
     TellsFindings form name rows shown found text → IsVerdict form name s rows text ended
 judged_told form name rows s shown found ended text law those same ends tells = record {

@@ -2,8 +2,8 @@ mod Fits
 mod Grouped
 mod Listed
 mod Ordered
-mod Placed
-mod Answered
+pub mod Placed
+pub mod Answered
 pub mod Came
 pub mod Checked
 pub mod CheckedAnywhere

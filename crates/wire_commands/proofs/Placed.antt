@@ -18,7 +18,7 @@ all_came : (size : Size) (all : List ℕ) (s : Scripts) → Reads size (take (fi
 all_came size all s (inl (past, is)) = absurd (cc)
 all_came size all s (inr (within, reads)) = take_all (file_bytes size + 1) all (omega (arith, within, length-take (file_bytes size + 1) all))
 
-read_placed : {size : Size} (coming : Option (List ℕ)) (bytes shown : List ℕ) (s : Scripts) (rows : List (List ℕ)) → shown ≡ bytes → IfSome coming (λ all. bytes ≡ take (file_bytes size + 1) all) →
+pub read_placed : {size : Size} (coming : Option (List ℕ)) (bytes shown : List ℕ) (s : Scripts) (rows : List (List ℕ)) → shown ≡ bytes → IfSome coming (λ all. bytes ≡ take (file_bytes size + 1) all) →
     Reads size shown (Ok s) → AreCallLines size shown rows → ReadPlaced size coming s rows
 read_placed None bytes shown s rows same front reads lines = record { bytes = shown; came = tt; reads = reads; places = record { lines = lines; fits = rows_fit shown s rows reads lines } }
 read_placed {size} (Some all) bytes shown s rows same front reads lines =
@@ -39,7 +39,7 @@ placed_ok size coming bytes shown rows (Ok x) same front reads lines = read_plac
 placed_ok size coming bytes shown rows (Err e) same front reads lines = tt
 
 -- what is read in a form with places
-placed_in : {size : Size} (form : Form) (coming : Option (List ℕ)) (s : Scripts) (rows : List (List ℕ)) → true ≡ has_places form → ReadPlaced size coming s rows → ReadIn size form coming s rows
+pub placed_in : {size : Size} (form : Form) (coming : Option (List ℕ)) (s : Scripts) (rows : List (List ℕ)) → true ≡ has_places form → ReadPlaced size coming s rows → ReadIn size form coming s rows
 placed_in {size} form coming s rows with read =
     record { bytes = read.bytes; came = read.came; reads = read.reads; rows_are = subst (λ b. AreRows b size read.bytes s rows) with read.places }
 

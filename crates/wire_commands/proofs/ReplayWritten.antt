@@ -97,7 +97,7 @@ judges_calls coming s (Err e) read tells = tt
 
 pub clean_one_end : {size : Size} (mode : Mode) (coming old new : Option (List ℕ)) (s : Scripts) (r : Result Replayed Fault) →
     ReadAs size coming s → IfOk r (λ v. WritesReplayOf mode s v.ended old new) →
-    IfOk r (λ v. v.ended ≡ Clean → WritesOneEnd size mode.json coming old new)
+    IfOk r (λ v. v.ended ≡ Clean → WritesOneEnd size mode coming old new)
 clean_one_end mode coming old new s (Ok v) read told = λ clean. clean_writes mode coming old new s v.ended read told clean
 clean_one_end mode coming old new s (Err e) read told = tt
 

@@ -16,6 +16,7 @@ use Rattle.wire_collect.specs.Collect.{MayWork, IsCompleteRun}
 use Rattle.wire_report.specs.Report.{report_form}
 use Rattle.wire_report.specs.Findings.{findings_form}
 use Rattle.wire_report.specs.Unsettled.{unsettled_form}
+use Rattle.wire_standstill.specs.Told.{ReportsStandstill}
 use Rattle.wire_script.specs.declared.Size.{Size}
 use Rattle.wire_commands.specs.declared.replay.Judged.{Judged}
 use Rattle.wire_commands.specs.declared.replay.Judged.TheVariants.{Clean as NothingFound, Found as SomeFound}
@@ -41,9 +42,15 @@ abbrev pub TellsFound : (json anyway : Bool) → Scripts → List Finding → Li
 TellsFound json false scripts found text = text ≡ findings_form json scripts found
 TellsFound json true scripts found text = TellsRun json scripts text
 
--- where none are found, it is the report of the plain run
+-- where nothing is found: the report of the plain run, and as JSON, if it is to be explained, who waits for ever where that
+-- run stands at last
+abbrev pub TellsEnd : (json explain : Bool) → Scripts → List ℕ → Type 0
+TellsEnd true true scripts text = ReportsStandstill scripts (plain_ends scripts) text
+TellsEnd json _ scripts text = text ≡ report_form json scripts (plain_ends scripts)
+
+-- what is written where these are found
 abbrev pub Tells : Mode → Scripts → List Finding → List ℕ → Type 0
-Tells mode scripts [] text = text ≡ report_form mode.json scripts (plain_ends scripts)
+Tells mode scripts [] text = TellsEnd mode.json mode.explain scripts text
 Tells mode scripts (f ∷ fs) text = TellsFound mode.json mode.anyway scripts (f ∷ fs) text
 
 -- how a replay of the scripts ends, and its text
@@ -79,11 +86,13 @@ pub record BreaksOffReplayOf (mode : Mode) (scripts : Scripts) (old new : Option
 
 -- what was to come read as scripts of which every interleaving that can't go on ends in one state, the plain run's, and
 -- the report of that state went out
-pub record WritesOneEnd (size : Size) (json : Bool) (coming old new : Option (List ℕ)) : Type 0 where
+pub record WritesOneEnd (size : Size) (mode : Mode) (coming old new : Option (List ℕ)) : Type 0 where
   pub scripts : Scripts
   pub read : ReadAs size coming scripts
   pub one_end : HasOneEnd (plan_of scripts)
-  pub wrote : Appends old new (report_form json scripts (plain_ends scripts))
+  pub text : List ℕ
+  pub tells : TellsEnd mode.json mode.explain scripts text
+  pub wrote : Appends old new text
 
 -- all of a replay of what was to come went out
 pub record WritesReplay (size : Size) (mode : Mode) (coming : Option (List ℕ)) (ended : Ended) (old new : Option (List ℕ)) : Type 0 where

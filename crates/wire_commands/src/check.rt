@@ -7,12 +7,14 @@ ghost use Rattle.wire_types.specs.Counting.{one_more};
 ghost use Rattle.wire_types.specs.Forms.{is_json};
 ghost use Rattle.wire_types.specs.Texts.{lists_of};
 ghost use Rattle.wire_findings.specs.Findings.{AreFindings};
+ghost use Rattle.wire_report.specs.Findings.{findings_form};
 ghost use Rattle.wire_commands.specs.declared.ended.Ended.TheVariants.{Clean};
 ghost use Rattle.wire_commands.specs.Answer.{BreaksOff, Writes, rows_in};
 ghost use Rattle.wire_commands.specs.CallsJson as spec;
 ghost use Rattle.wire_commands.specs.Check.{BreaksOffFindings, BreaksOffVerdict, EndsInOneState, IsGroupedText};
-ghost use Rattle.wire_commands.specs.Check.{IsVerdict, StopsBeforeFindings, WritesFindings, WritesVerdict};
+ghost use Rattle.wire_commands.specs.Check.{IsVerdict, StopsBeforeFindings, TellsFindings, WritesFindings, WritesVerdict};
 
+use crate::answer::Answer;
 use crate::calls_json::begin_finding;
 use crate::ended::Ended;
 use crate::json_builder::JsonBuilder;
@@ -26,8 +28,10 @@ use wire_marks::Marks;
 use wire_plan::Plan;
 use wire_races::finding_list;
 use wire_races::laws::settled_exactly;
-use wire_report::{Group, Places, group_findings, grouped_lines, write_findings, write_text};
-use wire_types::{Fault, Sink, Source};
+use wire_report::{
+    Group, Places, findings_text, group_findings, grouped_lines, write_findings, write_text,
+};
+use wire_types::{Fault, Form, Sink, Source};
 
 /// Checks a plan: reads it to its end, and writes every finding: each put of a key that its process has put before, and
 /// each pair of calls that race, on a key or on a name.
@@ -117,6 +121,57 @@ fn check_built<W: Sink>(
     let ended = Ended::of_count(found.len());
     write_found(alloc, plan.scripts(), &found, telling, writer)?;
     Ok(ended)
+}
+
+/// The answer that tells these findings, which are all of the scripts.
+pub fn answer_findings(
+    alloc: Global,
+    scripts: &Scripts,
+    telling: Telling<'_>,
+    found: &FindingList,
+) -> Result<Answer, Fault>
+    requires { AreFindings scripts.now found.now }
+    ensures ok { IfOk result (λ answer. IsVerdict telling.entry.form telling.entry.places.name.now scripts.now
+        (rows_in telling.entry.places) answer.text.items answer.ended) }
+    ensures err { IfErr result (λ e. e ≡ Memory) }
+{
+    let text = found_text(alloc, scripts, telling, found)?;
+    settled_exactly();
+    Ok(Answer {
+        text,
+        ended: Ended::of_count(found.len()),
+    })
+}
+
+/// The text of findings in this form: with places in groups.
+fn found_text(
+    alloc: Global,
+    scripts: &Scripts,
+    telling: Telling<'_>,
+    found: &FindingList,
+) -> Result<Vec<u8>, Fault>
+    ensures ok { IfOk result (λ text. TellsFindings telling.entry.form telling.entry.places.name.now (rows_in telling.entry.places)
+        scripts.now found.now text.items) }
+    ensures err { IfErr result (λ e. e ≡ Memory) }
+{
+    if !telling.form.has_places() {
+        return each_text(alloc, scripts, telling.form, found);
+    }
+    grouped_text(alloc, scripts, telling, found)
+}
+
+/// The text of findings one by one.
+fn each_text(
+    alloc: Global,
+    scripts: &Scripts,
+    form: Form,
+    found: &FindingList,
+) -> Result<Vec<u8>, Fault>
+    ensures ok { IfOk result (λ text. text.items ≡ findings_form (is_json form) scripts.now found.now) }
+    ensures err { IfErr result (λ e. e ≡ Memory) }
+{
+    let findings = found.to_vec(alloc)?;
+    findings_text(alloc, scripts, findings.as_slice(), form.is_json())
 }
 
 /// All findings of a plan.

@@ -99,8 +99,8 @@ fn answer_plan(
     answer_found(alloc, &marked, telling, &found)
 }
 
-/// The answer that tells these findings.
-pub(crate) fn answer_found(
+/// The answer that tells these findings, which are all of all placements.
+pub fn answer_found(
     alloc: Global,
     marked: &MarkedPlan<'_>,
     telling: Telling<'_>,

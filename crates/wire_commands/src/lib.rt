@@ -22,12 +22,12 @@ mod witness;
 mod witnesses;
 
 pub use answer::{Answer, write_answer};
-pub use check::check_plan;
-pub use check_anywhere::check_placements;
+pub use check::{answer_findings, check_plan};
+pub use check_anywhere::{answer_found, check_placements};
 pub use check_same::check_replies;
 pub use ended::Ended;
 pub use follow::follow_plan;
-pub use manner::Manner;
+pub use manner::{Manner, Telling};
 pub use migrate::migrate_plan;
 pub use place::place_plan;
 pub use plain::run_plainly;

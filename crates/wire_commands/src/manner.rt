@@ -16,7 +16,7 @@ pub struct Manner<'a> {
 
 /// How calls are told: with these places, in this form.
 #[derive(Clone, Copy)]
-pub(crate) struct Telling<'a> {
+pub struct Telling<'a> {
     pub places: Places<'a>,
     pub form: Form,
 }

@@ -3,13 +3,15 @@
 ghost use Rattle.std.specs.Prelude.{◌≡◌, ◌≢◌, ◌⊎◌, [], Ok, Err, OnOk, IfOk, IfErr};
 ghost use Rattle.wire_types.specs.declared.Fault.TheVariants.{Memory, Read, Workers};
 ghost use Rattle.wire_types.specs.Counting.{one_more};
+ghost use Rattle.wire_types.specs.Outcome.{ends_of};
+ghost use Rattle.wire_core.specs.EndsAfter.{plain_ends};
 ghost use Rattle.wire_content.specs.Planned.{plan_of};
 ghost use Rattle.wire_marks.specs.Clocks.{AreMarks};
 ghost use Rattle.wire_findings.specs.Findings.{AreFindings};
 ghost use Rattle.wire_collect.specs.Collect.{MayWork};
 ghost use Rattle.wire_commands.specs.declared.ended.Ended.TheVariants.{Clean};
 ghost use Rattle.wire_commands.specs.Complete.{TellsCalls, JudgesCalls, line_in, complete_status};
-ghost use Rattle.wire_commands.specs.Replay.{BreaksOffFound, BreaksOffReplayOf, IsReplay, JudgesPlan, TellsRun};
+ghost use Rattle.wire_commands.specs.Replay.{BreaksOffFound, BreaksOffReplayOf, IsReplay, JudgesPlan, TellsEnd, TellsRun};
 ghost use Rattle.wire_commands.specs.Replay.{WritesFound, WritesReplayOf};
 ghost use Rattle.wire_commands.specs.Replay.{WritesOneEnd, WritesReplay, BreaksOffReplay, StopsBeforeReplay};
 
@@ -29,7 +31,8 @@ use wire_races::{Settled, finding_list};
 use wire_report::{report_text, unsettled_text, write_findings, write_text};
 use wire_sched::Gate;
 use wire_script::Size;
-use wire_types::{Fault, Sink, Source};
+use wire_standstill::standstill_report;
+use wire_types::{Fault, Outcome, Sink, Source};
 
 /// What a replay writes.
 #[derive(Clone, Copy)]
@@ -38,6 +41,8 @@ pub struct Mode {
     pub json: bool,
     /// A plan in which something is found is run too.
     pub anyway: bool,
+    /// With JSON, where nothing is found, who waits for ever is written with the report.
+    pub explain: bool,
 }
 
 /// How a plan is replayed: within which limits, by how many workers at most, and what is written. The
@@ -74,7 +79,7 @@ impl Replayed {
 /// there were): reads its file to the end, judges it as `check` does, and writes what came of it, as lines or as JSON.
 ///
 /// Where there is nothing to find, it runs the plan and writes what became of every call: the same for any number of
-/// workers, the report of the plain run. It answers `Clean`, and the line of the report of the first call that isn't
+/// workers, the report of the plain run. With `explain` the JSON also has who waits for ever there. It answers `Clean`, and the line of the report of the first call that isn't
 /// answered `PMIX_SUCCESS`, in process order and then by its number. That line is the same for every interleaving that
 /// can't go on; there is none exactly where in each of them every call is answered `PMIX_SUCCESS`.
 ///
@@ -101,7 +106,7 @@ pub fn replay_plan<R: Source, W: Sink, T: Threads + Wait + Sync, G: Gate + Sync>
     // The headline: where it finds nothing, every interleaving that can't go on ends in one state, and the report of
     // that state is what it writes, whatever the workers.
     ensures one_end { IfOk result (λ r. r.ended ≡ Clean
-        → WritesOneEnd manner.entry.size manner.entry.mode.json (R.coming reader.old) (W.written writer.old) (W.written writer.new)) }
+        → WritesOneEnd manner.entry.size manner.entry.mode (R.coming reader.old) (W.written writer.old) (W.written writer.new)) }
 
     // Either nothing was written, or the front of the text that the fault counts.
     ensures err { IfErr result (λ e. (StopsBeforeReplay manner.entry.size manner.entry.workers (R.coming reader.old) e × (writer.new ≡ writer.old))
@@ -194,6 +199,25 @@ fn judge_scripts(
     }
 }
 
+/// The report of a settled plan, of whose plain run this is the outcome, in the form that is asked for.
+#[tactic(auto, using(crate::proofs::Worked::standstill_tells, crate::proofs::Worked::report_told))]
+fn settled_text(
+    alloc: Global,
+    plan: &Plan,
+    outcome: &Outcome,
+    mode: Mode,
+) -> Result<Vec<u8>, Fault>
+    requires { ends_of outcome.now ≡ plain_ends plan.now }
+    ensures tells { IfOk result (λ text. TellsEnd mode.json mode.explain plan.now text.items) }
+    ensures err { IfErr result (λ e. e ≡ Memory) }
+{
+    if mode.json && mode.explain {
+        standstill_report(alloc, plan, outcome)
+    } else {
+        Ok(report_text(alloc, plan.scripts(), outcome, mode.json)?)
+    }
+}
+
 /// How a replay of a settled plan ends, and the report of its run.
 fn run_settled<R: Threads + Wait + Sync, G: Gate + Sync>(
     rt: &R,
@@ -208,7 +232,7 @@ fn run_settled<R: Threads + Wait + Sync, G: Gate + Sync>(
     ensures err { IfErr result (λ e. e ≡ Memory) }
 {
     let outcome = run_workers(rt, alloc, settled, manner.workers, manner.gate)?;
-    let text = report_text(alloc, settled.plan().scripts(), &outcome, manner.mode.json)?;
+    let text = settled_text(alloc, settled.plan(), &outcome, manner.mode)?;
     let failure = tell_failure(alloc, settled.plan().scripts(), &outcome)?;
     settled_exactly();
     let ended = Ended::Clean;

@@ -1,4 +1,3 @@
-pub mod Awaited
 pub mod Edits
 pub mod Explanations
 pub mod Tables
@@ -8,8 +7,6 @@ mod Lines
 mod Words
 pub mod PatternUsages
 mod PatternWords
-pub mod Found
-pub mod Parts
 pub mod Reasons
 pub mod Sets
 pub mod Texts

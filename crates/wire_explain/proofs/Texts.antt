@@ -1,27 +1,21 @@
 -- Texts that are appended to, part by part, and what is told of a step that can't be taken.
-use Rattle.std.proofs.Common.{◌≡◌, ◌∙◌, ◌<◌, ap, sym, subst, ℕ, suc, ◌-◌, List, length, [], ◌++◌, map, take, append_assoc, codes, Some, Result, Ok, Err, OnOk, IfErr, ◌⊎◌, inl, inr, false, if◌then◌else◌, arith}
+use Rattle.std.proofs.Common.{◌≡◌, ◌∙◌, ◌<◌, ap, sym, subst, ℕ, suc, ◌-◌, List, length, [], ◌++◌, map, take, append_assoc, Some, Result, Ok, Err, OnOk, IfErr, ◌⊎◌, inl, inr, false, if◌then◌else◌, arith}
 use Rattle.std.specs.Prelude.{slice_get, option_map, is_ok}
 use Rattle.std.proofs.lemmas.Option.{slice_get-map, slice_get_within, same_Some}
 use Rattle.std.proofs.lemmas.List.{length-map}
 use Rattle.wire_types.specs.declared.Proc.{Proc}
-use Rattle.wire_types.specs.declared.CallAt.{CallAt}
 use Rattle.wire_types.specs.declared.Fault.{Fault}
 use Rattle.wire_types.specs.declared.Fault.TheVariants.{Memory, NotReady}
-use Rattle.wire_runs.specs.Plan.{Event, kind}
-use Rattle.wire_runs.specs.State.{State, next_event, next_kind}
-use Rattle.wire_runs.specs.Ends.{call_of}
 use Rattle.wire_content.specs.Scripts.{Scripts, numbers_of}
 use Rattle.wire_content.specs.Planned.{plan_of}
-use Rattle.wire_plan.specs.declared.kind.Kind.{Kind as CodeKind}
-use Rattle.wire_plan.specs.Kinds.{kind_of}
 use Rattle.wire_runs.specs.Step.{is_enabled, run, IsInterleaving}
 use Rattle.wire_core.specs.Course.{Course, plan_in, state_of}
 use Rattle.wire_core.specs.Following.{StopsAt}
 use Rattle.wire_script.specs.declared.Size.{Size}
 use Rattle.wire_script.specs.Reads.{Reads}
 use Rattle.wire_script.specs.Order.{order_read}
-use Rattle.wire_explain.specs.Quote.{shown_byte, labelled}
-use Rattle.wire_explain.specs.Stops.{said_call, wait_text, standing_text, explanation}
+use Rattle.wire_explain.specs.Quote.{shown_byte}
+use Rattle.wire_explain.specs.Stops.{explanation}
 use Rattle.wire_explain.specs.Told.{TellsStop, Stops, TellsNothing}
 
 -- three parts
@@ -42,20 +36,6 @@ then_joined (Err x) zero one two three a b c e f g = tt
 pub two_joined : {R E : Type 0} (r : Result R E) (zero one two a b : List ℕ) → one ≡ zero ++ a → OnOk r (two ≡ one ++ b) → OnOk r (two ≡ zero ++ (a ++ b))
 two_joined (Ok x) zero one two a b e f = f ∙ ap (λ t. t ++ b) e ∙ append_assoc zero a b
 two_joined (Err x) zero one two a b e f = tt
-
--- where p stands, as the parts of the code tell it
-pub told_standing : {R E : Type 0} (r : Result R E) (s shown read : Scripts) (state : State) (p : ℕ) (x : Event) (place : CallAt) (k : CodeKind) (zero one two : List ℕ) →
-    read ≡ s → shown ≡ read → x ≡ next_event state p → place ≡ call_of (plan_of read) x → kind (plan_of read) x ≡ Some (kind_of read.sets k) →
-    one ≡ zero ++ labelled (codes "  stands at: ") (said_call shown place) → OnOk r (two ≡ one ++ labelled (codes "  waits for:") (wait_text s state p (kind_of s.sets k))) →
-    OnOk r (two ≡ zero ++ standing_text s state p (next_kind (plan_of s) state p))
-told_standing r s shown read state p x place k zero one two same seen next called is first second =
-    let place_is = called ∙ ap (λ (t : Scripts). call_of (plan_of t) x) same ∙ ap (call_of (plan_of s)) next in
-    let kind_is : next_kind (plan_of s) state p ≡ Some (kind_of s.sets k) =
-    ap (kind (plan_of s)) (sym next) ∙ ap (λ (t : Scripts). kind (plan_of t) x) (sym same) ∙ is ∙ ap (λ (t : Scripts). Some (kind_of t.sets k)) same
-    in
-    let first_is = first ∙ ap (λ (t : Scripts). zero ++ labelled (codes "  stands at: ") (said_call t place)) (seen ∙ same)
-    ∙ ap (λ at. zero ++ labelled (codes "  stands at: ") (said_call s at)) place_is in
-    subst (λ o. OnOk r (two ≡ zero ++ standing_text s state p o)) (sym kind_is) (two_joined r zero one two _ _ first_is second)
 
 -- the step at which following an order stops is one of its steps
 pub stops_within : (old new : Course) (order : List Proc) (number : ℕ) → StopsAt old (numbers_of order) new (NotReady number) → number - 1 < length order

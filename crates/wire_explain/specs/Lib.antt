@@ -7,4 +7,3 @@ pub mod Explained
 pub mod Order
 pub mod Stops
 pub mod Told
-pub mod Standstill

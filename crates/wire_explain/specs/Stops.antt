@@ -64,12 +64,19 @@ wait_text scripts s p _ = codes " nothing"
 abbrev pub said_call : Scripts → CallAt → List ℕ
 said_call scripts x = call_text scripts x ++ codes " " ++ verb_text_in (call_at scripts.processes x.proc.number x.call)
 
--- where p stands, and what it waits for there
-abbrev pub standing_text : Scripts → State → ℕ → Option Kind → List ℕ
-standing_text scripts s p None = codes "  stands at: its end, with no call left\n"
-standing_text scripts s p (Some kind) =
-    labelled (codes "  stands at: ") (said_call scripts (call_of (plan_of scripts) (next_event s p)))
-    ++ labelled (codes "  waits for:") (wait_text scripts s p kind)
+-- where p stands, whose next event is of this kind: its call, and in words what it waits for there
+abbrev pub standing_with : Scripts → State → ℕ → Option Kind → Option (CallAt × List ℕ)
+standing_with scripts s p None = None
+standing_with scripts s p (Some kind) = Some (call_of (plan_of scripts) (next_event s p), wait_text scripts s p kind)
+
+-- the same of p; nowhere, where it is at its end
+abbrev pub standing : Scripts → State → ℕ → Option (CallAt × List ℕ)
+standing scripts s p = standing_with scripts s p (next_kind (plan_of scripts) s p)
+
+-- in two lines
+abbrev pub standing_text : Scripts → Option (CallAt × List ℕ) → List ℕ
+standing_text scripts None = codes "  stands at: its end, with no call left\n"
+standing_text scripts (Some it) = labelled (codes "  stands at: ") (said_call scripts it.0) ++ labelled (codes "  waits for:") it.1
 
 -- the number of a line, 0 where there is none
 abbrev pub number_in : Option Statement → ℕ
@@ -82,4 +89,4 @@ line_of_step bytes n = number_in (slice_get (statements bytes) n)
 
 -- of a step of an order that its rank p can't take: the line of the order, where p stands, and what it waits for
 abbrev pub explanation : List ℕ → Scripts → State → ℕ → ℕ → List ℕ
-explanation order_bytes scripts s n p = quoted order_bytes (line_of_step order_bytes n) ++ standing_text scripts s p (next_kind (plan_of scripts) s p)
+explanation order_bytes scripts s n p = quoted order_bytes (line_of_step order_bytes n) ++ standing_text scripts (standing scripts s p)

@@ -14,10 +14,6 @@ use Rattle.wire_script.specs.Reads.{Reads}
 use Rattle.wire_script.specs.Order.{order_read}
 use Rattle.wire_explain.specs.Quote.{shown_byte}
 use Rattle.wire_explain.specs.Stops.{missing_for, explanation}
-use Rattle.std.specs.Prelude.{Option, Vec}
-use Rattle.std.specs.declared.alloc.Global.{Global}
-use Rattle.wire_runs.specs.PlainRun.{plain_run}
-use Rattle.wire_explain.specs.Standstill.{AreWaits, IsFoundCircle, told_of, circle_in}
 
 -- all steps can be taken, and nothing is told; or n of them can, the next, of p, can't, and the text tells where p
 -- stands then
@@ -44,24 +40,6 @@ pub record RefusesOrder (size : Size) (bytes order_bytes : List ℕ) (fault : Fa
 -- why nothing can be told: memory ran out, the scripts are refused, or the order is
 abbrev pub TellsNothing : Size → List ℕ → List ℕ → Fault → Type 0
 TellsNothing size bytes order_bytes fault = (fault ≡ Memory) ⊎ (Reads size bytes (Err fault) ⊎ RefusesOrder size bytes order_bytes fault)
-
--- the text tells of a deadlock in this state, where there is one, and of the ranks that wait for no rank
-pub record TellsWhere (scripts : Scripts) (state : State) (text : List ℕ) : Type 0 where
-  pub waits : List (Vec ℕ Global)
-  pub are : AreWaits (plan_of scripts) state waits
-  pub circle : Option (Vec ℕ Global)
-  pub found : IsFoundCircle (plan_of scripts) state circle
-  pub told : text ≡ map shown_byte (told_of scripts state waits (circle_in circle))
-
--- the same where the plain run of a plan stands at last
-abbrev pub TellsStandstill : Scripts → List ℕ → Type 0
-TellsStandstill scripts text = TellsWhere scripts (run (plan_of scripts) (plain_run (plan_of scripts))) text
-
--- the same of the scripts that these bytes read as
-pub record TellsStandstillOf (size : Size) (bytes text : List ℕ) : Type 0 where
-  pub scripts : Scripts
-  pub reads : Reads size bytes (Ok scripts)
-  pub tells : TellsStandstill scripts text
 
 -- whether a rank may have to wait at an event of this kind
 abbrev pub can_wait : Kind → Bool

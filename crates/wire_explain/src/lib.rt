@@ -13,10 +13,9 @@ mod near;
 mod not_arrived;
 mod order_faults;
 mod quote;
-mod standstill;
+mod standing;
 mod stop;
 mod wait_words;
-mod whom;
 
 pub use file_faults::explain_file;
 pub use language::Language;
@@ -28,5 +27,5 @@ pub use line_places::Place;
 pub use near::{find_nearest, is_within};
 pub use order_faults::{explain_order, explain_part, explain_rank, explain_word};
 pub use quote::{push_quoted, shown_text};
-pub use standstill::explain_standstill;
+pub use standing::{Standing, find_standing, push_said_call};
 pub use stop::explain_stop;

@@ -121,11 +121,13 @@ module _ (plan other : Plan) (same : IsPlacing plan other) where
   of_there (ByFence members j) z a = (keeps.arrivals members j z).0 a
   of_there (ByGet g) z e = e
 
-  bring_back : (p key node : ℕ) (d : Delivery) → MayBring other p key node d → MayBringAway plan p key d
-  bring_back p key node _ (fence {members = members} {j = j} delivers all_live) =
+  -- on the owner's own node the gets of the owner itself may be counted
+  bring_back : (p key node : ℕ) → (node_of other p ≡ node → ⊥) → (d : Delivery) → MayBring other p key node d → MayBringAway plan p key d
+  bring_back p key node away _ (fence {members = members} {j = j} delivers all_live) =
       fence_away (away_back p key members j delivers.away) (λ z a. (keeps.lives z).1 (all_live z ((keeps.arrivals members j z).0 a)))
-  bring_back p key node _ (get {g = g} other_key is there is_live within) =
-      get_away other_key (kind_kept other plan (turned same) g (Get p other_key) refl is) ((keeps.lives g).1 is_live) (λ ne. within_back p key g (within ne))
+  bring_back p key node away _ (get {g = g} other_key is there is_live within) =
+      get_away other_key (kind_kept other plan (turned same) g (Get p other_key) refl is) (λ e. away (ap (node_of other) (sym e) ∙ there)) ((keeps.lives g).1 is_live)
+      (λ ne. within_back p key g (within ne))
 
   have_there : (family : Family) (words : Words) (p key : ℕ) (g : Event) → OwnCallsHave family words plan p key g → LibrariesHave family words other p key g
   have_there family words p key g (left_it members j leave brings away member job leaves nth own before) =
@@ -141,10 +143,11 @@ module _ (plan other : Plan) (same : IsPlacing plan other) where
       let h = surely_kept plan other same p key g.proc g s in
       record { delivery = h.delivery; delivers = to_node other p key (node_of other g.proc) g.proc h.delivery refl h.carries; all_before = h.all_before }
 
-  now_there : (family : Family) (words : Words) (p key : ℕ) (g : Event) → IsPortableNowAnywhere family words plan p key g → IsPortableNow family words other p key g
-  now_there family words p key g (nothing_away unseen) =
-      nothing (λ d may. let r = unseen d (bring_back p key (node_of other g.proc) d may) in (r.0, of_there d r.0 r.1, (keeps.chains g r.0).0 r.2))
-  now_there family words p key g (surely_away rules have) = surely (sure_there p key g rules) (have_there family words p key g have)
+  now_there : (family : Family) (words : Words) (p key : ℕ) (g : Event) → (node_of other p ≡ node_of other g.proc → ⊥) → IsPortableNowAnywhere family words plan p key g →
+      IsPortableNow family words other p key g
+  now_there family words p key g away (nothing_away unseen) =
+      nothing (λ d may. let r = unseen d (bring_back p key (node_of other g.proc) away d may) in (r.0, of_there d r.0 r.1, (keeps.chains g r.0).0 r.2))
+  now_there family words p key g away (surely_away rules have) = surely (sure_there p key g rules) (have_there family words p key g have)
 
   remote_there : (p key : ℕ) (g : Event) → SeesNoRemote plan p key g → SeesNoRemote other p key g
   remote_there p key g n x u its is_live here not_for =
@@ -207,7 +210,8 @@ module _ (plan other : Plan) (same : IsPlacing plan other) where
         mates_there family p key other_key g h (a.mates g h p key other_key (get_back g p key is_g.is) (get_back h p other_key is_h.is) is_g.other is_h.other (asked_back g is_g.asked) (asked_back h is_h.asked) others);
     near_now = λ g p key is another here asks. remote_there p key g (a.near_now g p key (kind_kept other plan (turned same) g (GetNow p key) refl is) another (asked_back g asks));
     far_now = λ g p key is away asks.
-        now_there family words p key g (a.far_now g p key (kind_kept other plan (turned same) g (GetNow p key) refl is) (apart p g.proc away) (asked_back g asks));
+        now_there family words p key g (λ e. true≢false (sym (eq-eqb (node_of other p) (node_of other g.proc) e) ∙ away))
+        (a.far_now g p key (kind_kept other plan (turned same) g (GetNow p key) refl is) (apart p g.proc away) (asked_back g asks));
     fences = λ members j. fences_there words members j (a.fences members j);
     named = λ y name c asks. a.named y name (name_call_back name y c) (asked_back y asks);
     names = names_there a.names;

@@ -16,8 +16,8 @@ use Rattle.wire_library_laws.specs.Portable.{IsAsked, IsPortableNear, IsPortable
 pub data MayBringAway (plan : Plan) (p key : ℕ) : Delivery → Type 0 where
   fence : {members : List ℕ} {j : ℕ} → FenceBringsAway plan p key members j → ((z : Event) → IsArrival plan members j z → Live plan z) →
       MayBringAway plan p key (ByFence members j)
-  get : {g : Event} (other_key : ℕ) → kind plan g ≡ Some (Get p other_key) → Live plan g → (other_key ≢ key → ComesWithin plan p key g) →
-      MayBringAway plan p key (ByGet g)
+  get : {g : Event} (other_key : ℕ) → kind plan g ≡ Some (Get p other_key) → g.proc ≢ p → Live plan g →
+      (other_key ≢ key → ComesWithin plan p key g) → MayBringAway plan p key (ByGet g)
 
 -- each library of the family surely has p's key where g's process is, by that process's own calls before g: where fences
 -- bring, it has left one that brings the key, and it is of p's job; or it has got a key that comes no earlier

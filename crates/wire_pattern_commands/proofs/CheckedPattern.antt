@@ -16,7 +16,7 @@ use Rattle.wire_commands.specs.declared.answer.Answer.{Answer}
 use Rattle.wire_commands.specs.declared.ended.Ended.{Ended}
 use Rattle.wire_commands.specs.declared.ended.Ended.TheVariants.{Clean, Found}
 use Rattle.wire_commands.proofs.FileFaults as files
-use Rattle.wire_pattern_commands.specs.CheckPattern.{BreaksOffPatternVerdict, EndsInOneStateForAll, IsPatternVerdict, IsSettledSaid, StopsBeforePattern}
+use Rattle.wire_pattern_commands.specs.CheckPattern.{BreaksOffPatternVerdict, EndsInOneStateForAll, IsPatternVerdict, IsExplainedSaid, StopsBeforePattern}
 use Rattle.wire_pattern_commands.specs.CheckPattern.{IsJudgedPattern, WritesPatternVerdict}
 use Rattle.wire_pattern_commands.specs.declared.asked.PatternAsked.{PatternAsked}
 use Rattle.wire_pattern_commands.specs.Read.{HasNoPattern, ReadAsPattern}
@@ -72,7 +72,7 @@ verdict_err coming old new p asked text ended kept failed (Err e) judged tells f
 
 -- where nothing is found, each instance has one end, and its text
 pub settled_answer : (p : Pattern) (asked : PatternAsked) (r : Result Answer Fault) → IsSound p → TextsSettled → IsSettledForAll p → HasOneEndForAll p
-    → IfOk r (λ a. IsSettledSaid p asked a.text.items a.ended) → IfOk r (λ a. IsPatternVerdict p asked a.text.items a.ended)
+    → IfOk r (λ a. IsExplainedSaid p asked a.text.items a.ended) → IfOk r (λ a. IsPatternVerdict p asked a.text.items a.ended)
 settled_answer p asked (Ok answer) sound texts settled one_end said = inl (record {
   settled = settled;
   one_end = one_end;

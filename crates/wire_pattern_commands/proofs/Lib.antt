@@ -1,3 +1,4 @@
+pub mod FoundBeyond
 pub mod Spreads
 pub mod Cut
 pub mod Misfits
@@ -12,3 +13,4 @@ mod ShownJson
 mod SettledJson
 mod Succeeded
 mod Emptied
+mod FirstWaits

@@ -17,7 +17,6 @@ use Rattle.wire_pattern.specs.Pattern.{Pattern}
 use Rattle.wire_pattern.specs.Lawful.{IsSound}
 use Rattle.wire_pattern.specs.Instances.{Cast, IsCast, instance_text}
 use Rattle.wire_sweep_laws.specs.Promised.{IsSettledForAll, HasOneEndForAll}
-use Rattle.wire_reply_laws.specs.Promised.{IsAnsweredForAll, AreTextsAnswered}
 use Rattle.wire_pattern_waits.specs.declared.lines.CallLine.{CallLine}
 use Rattle.wire_pattern_waits.specs.Lines.{waits_text}
 use Rattle.wire_pattern_waits.specs.Waits.{AreWaiting, AllRead, AllReplied}
@@ -28,7 +27,10 @@ use Rattle.wire_pattern_commands.specs.declared.asked.PatternAsked.{PatternAsked
 use Rattle.wire_commands.specs.Ending.{ended_of}
 use Rattle.wire_sweep.specs.Judged.{IsCounterexample, IsSweepFault, IsWithinLimits}
 use Rattle.wire_pattern_commands.specs.AtLeast.{least_text}
+use Rattle.wire_pattern_commands.specs.Beyond.{IsBeyond, is_never, beyond_text}
+use Rattle.wire_pattern_commands.specs.declared.beyond.Beyond.{Beyond}
 use Rattle.wire_pattern_commands.specs.Succeeding.{IsSuccessTold}
+use Rattle.wire_pattern_commands.specs.FirstWait.{Explains}
 use Rattle.wire_pattern_commands.specs.PatternJson.{json_counterexample, json_settled}
 use Rattle.wire_pattern_commands.specs.Read.{ReadAsPattern, RefusesPattern}
 use Rattle.wire_commands.specs.declared.ended.Ended.{Ended}
@@ -54,20 +56,16 @@ counterexample_text text scripts found =
 abbrev pub counterexample_form : Bool → List ℕ → Scripts → List Finding → List ℕ
 counterexample_form json text scripts found = if json then json_counterexample text scripts found else counterexample_text text scripts found
 
--- that no call waits for ever, whatever the number of ranks, where that is known
-abbrev pub answered_line : Bool → List ℕ
-answered_line everywhere = if everywhere then codes "every call is answered for every number of ranks\n" else []
-
--- that nothing is found, a line for each group with a least number and for each call line at which something waits, that no
--- call waits with any number of ranks, and where that is asked for a line for each get-now
-abbrev pub settled_text : Bool → Bool → Pattern → List CallLine → List LineAnswers → List ℕ
-settled_text asked everywhere p lines answers =
-    settled_line ++ (least_text p ++ (waits_text p lines ++ (answered_line everywhere ++ (if asked then answers_text p answers else []))))
+-- that nothing is found, a line for each group with a least number and for each call line at which something waits, what is
+-- said of larger instances, and where that is asked for a line for each get-now
+abbrev pub settled_text : Bool → Beyond → Pattern → List CallLine → List LineAnswers → List ℕ
+settled_text asked beyond p lines answers =
+    settled_line ++ (least_text p ++ (waits_text p lines ++ (beyond_text p beyond ++ (if asked then answers_text p answers else []))))
 
 -- the same in the form that is asked for
-abbrev pub settled_form : PatternAsked → Bool → Pattern → List CallLine → List LineAnswers → List ℕ
-settled_form asked everywhere p lines answers =
-    if asked.json then json_settled asked.answers everywhere p lines answers else settled_text asked.answers everywhere p lines answers
+abbrev pub settled_form : PatternAsked → Beyond → Pattern → List CallLine → List LineAnswers → List ℕ
+settled_form asked beyond p lines answers =
+    if asked.json then json_settled asked.answers beyond p lines answers else settled_text asked.answers beyond p lines answers
 
 -- whether a get-now line is answered with success, and with nothing else
 abbrev pub succeeds : LineAnswers → Bool
@@ -85,23 +83,28 @@ settled_end asked everywhere succeeding lines answers =
     else ended_of (count_by (λ a. not (succeeds a)) answers)
 
 -- it is said that nothing is found, where something waits in the instances that are judged, which all read as plans, and
--- if that is asked for how each get-now is answered. If nothing waits, each call of these instances has its reply; if it is
--- said that every call is answered for every number of ranks, it is so, and in the plans that the texts of instances read
--- as; and with `complete` the end tells whether each call of the instances that are judged succeeds
+-- if that is asked for how each get-now is answered. If nothing waits, each call of these instances has its reply; what is
+-- said of larger instances is so; and with `complete` the end tells whether each call of the instances that are judged
+-- succeeds
 pub record IsSettledSaid (p : Pattern) (asked : PatternAsked) (text : List ℕ) (ended : Ended) : Type 0 where
   pub lines : List CallLine
   pub waiting : AreWaiting p lines
   pub read : AllRead p
   pub replied : lines ≡ [] → AllReplied p
-  pub everywhere : Bool
-  pub answered_for_all : everywhere ≡ true → IsAnsweredForAll p
-  pub texts_answered : everywhere ≡ true → AreTextsAnswered p
+  pub beyond : Beyond
+  pub beyond_is : IsBeyond p lines beyond
   pub succeeding : Bool
-  pub told : asked.complete && everywhere ≡ true → IsSuccessTold p succeeding
+  pub told : asked.complete && is_never beyond ≡ true → IsSuccessTold p succeeding
   pub answers : List LineAnswers
   pub answered : asked.answers || asked.complete ≡ true → AreAnswers p answers
-  pub is : text ≡ settled_form asked everywhere p lines answers
-  pub ends : ended ≡ settled_end asked everywhere succeeding lines answers
+  pub is : text ≡ settled_form asked beyond p lines answers
+  pub ends : ended ≡ settled_end asked (is_never beyond) succeeding lines answers
+
+-- the same, and if that is asked for who waits for ever
+pub record IsExplainedSaid (p : Pattern) (asked : PatternAsked) (text : List ℕ) (ended : Ended) : Type 0 where
+  pub verdict : List ℕ
+  pub said : IsSettledSaid p asked verdict ended
+  pub explains : Explains asked.explain asked.json p verdict text
 
 -- the text of each instance with the least number of each role at least, if it reads as a plan of whatever size, has one
 -- end: every interleaving that can't go on ends in one state
@@ -114,7 +117,7 @@ pub record IsSettledText (p : Pattern) (asked : PatternAsked) (text : List ℕ) 
   pub settled : IsSettledForAll p
   pub one_end : HasOneEndForAll p
   pub texts : HaveTextsOneEnd p
-  pub said : IsSettledSaid p asked text ended
+  pub said : IsExplainedSaid p asked text ended
 
 -- an instance with its findings
 pub record IsUnsettledText (p : Pattern) (asked : PatternAsked) (text : List ℕ) (ended : Ended) : Type 0 where

@@ -4,7 +4,10 @@ pub mod Spread
 pub mod Expand
 pub mod Strings
 pub mod AtLeast
+pub mod Beyond
+pub mod Found
 pub mod PatternJson
 pub mod Shown
 pub mod Succeeding
+pub mod FirstWait
 pub mod CheckPattern

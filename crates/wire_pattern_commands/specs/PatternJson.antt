@@ -10,22 +10,35 @@ use Rattle.wire_pattern_waits.specs.Lines.{waits_text}
 use Rattle.wire_pattern_answers.specs.declared.answers.LineAnswers.{LineAnswers}
 use Rattle.wire_pattern_answers.specs.Lines.{answers_text}
 use Rattle.wire_pattern_commands.specs.AtLeast.{least_text}
+use Rattle.wire_pattern_commands.specs.declared.beyond.Beyond.{Beyond}
+use Rattle.wire_pattern_commands.specs.declared.beyond.Beyond.TheVariants.{Never, Unknown}
+use Rattle.wire_pattern_commands.specs.Beyond.{answered_words, first_text}
 use Rattle.wire_pattern_commands.specs.Strings.{lines_list, text_string}
 
 -- the member of how each get-now is answered, where that is asked for
 abbrev pub answers_member : Bool → Pattern → List LineAnswers → List ℕ
 answers_member asked p answers = if asked then codes "\"answers\":" ++ (lines_list (answers_text p answers) ++ codes ",") else []
 
--- the member of that no call waits with any number of ranks, where that is known
-abbrev pub answered_member : Bool → List ℕ
-answered_member everywhere = if everywhere then codes "\"answered\":\"every number of ranks\"," else []
+-- the member of for which numbers of ranks every call is answered
+abbrev pub answered_by : Pattern → Beyond → List ℕ
+answered_by p beyond = codes "\"answered\":\"" ++ (answered_words p beyond ++ codes "\",")
 
--- that nothing is found, for which instances that is said, each line that tells a least number, and each that tells where
+-- the same where some number is known
+abbrev pub answered_member : Pattern → Beyond → List ℕ
+answered_member p Never = answered_by p Never
+answered_member p Unknown = answered_by p Unknown
+answered_member p _ = []
+
+-- each line that tells where something waits with more ranks, and each that tells a least number
+abbrev pub sizes_members : Pattern → Beyond → List ℕ
+sizes_members p beyond = lines_list (first_text p beyond) ++ (codes ",\"least\":" ++ lines_list (least_text p))
+
+-- that nothing is found, for which instances that is said, the lines about numbers of ranks, and each that tells where
 -- something waits
-abbrev pub json_settled : Bool → Bool → Pattern → List CallLine → List LineAnswers → List ℕ
-json_settled asked everywhere p lines answers =
-    (codes "{" ++ answered_member everywhere) ++ (answers_member asked p answers
-    ++ (codes "\"findings\":[],\"for\":\"every number of ranks on every placement\",\"least\":" ++ (lines_list (least_text p)
+abbrev pub json_settled : Bool → Beyond → Pattern → List CallLine → List LineAnswers → List ℕ
+json_settled asked beyond p lines answers =
+    (codes "{" ++ answered_member p beyond) ++ (answers_member asked p answers
+    ++ (codes "\"findings\":[],\"for\":\"every number of ranks on every placement\",\"later\":" ++ (sizes_members p beyond
     ++ (codes ",\"waits\":" ++ (lines_list (waits_text p lines) ++ codes "}\n")))))
 
 -- a finding: its words

@@ -7,6 +7,8 @@ pub struct PatternAsked {
     pub answers: bool,
     /// By how the command ends, whether each is answered with success alone.
     pub complete: bool,
+    /// Where nothing is found, who waits for ever in the first instance that is judged in which a rank does.
+    pub explain: bool,
     /// All is written as JSON.
     pub json: bool,
 }

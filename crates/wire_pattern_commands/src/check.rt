@@ -14,13 +14,13 @@ ghost use Rattle.wire_sweep_laws.specs.Promised.{IsSettledForAll};
 ghost use Rattle.wire_pattern_answers.specs.Answers.{AreAnswers};
 ghost use Rattle.wire_commands.specs.Ending.{ended_of};
 ghost use Rattle.wire_pattern_commands.specs.CheckPattern as spec;
-ghost use Rattle.wire_size_laws.specs.Stages.{Stages};
-ghost use Rattle.wire_reply_laws.specs.Promised.{AllStaged};
 ghost use Rattle.wire_pattern_commands.specs.Succeeding.{IsSuccessTold};
 ghost use Rattle.wire_pattern_commands.specs.CheckPattern.{BreaksOffPatternVerdict, EndsInOneStateForAll};
-ghost use Rattle.wire_pattern_commands.specs.CheckPattern.{IsPatternVerdict, IsSettledSaid, StopsBeforePattern, WritesPatternVerdict};
+ghost use Rattle.wire_pattern_commands.specs.CheckPattern.{IsExplainedSaid, IsPatternVerdict, IsSettledSaid, StopsBeforePattern, WritesPatternVerdict};
 
 use crate::asked::PatternAsked;
+use crate::beyond::{Beyond, find_beyond, push_beyond};
+use crate::explained::explain_answer;
 use crate::least::write_least;
 use crate::reading::{note_sound, read_coming};
 use crate::succeeding::every_call_succeeds;
@@ -32,7 +32,6 @@ use wire_content::Scripts;
 use wire_findings::Finding;
 use wire_pattern::Pattern;
 use wire_pattern_answers::{LineAnswers, find_answers, write_answers};
-use wire_pattern_stages::stages_of;
 use wire_pattern_waits::{CallLine, waiting_lines, write_waits};
 use wire_reply_laws::laws::{all_answered, texts_answered};
 use wire_report::{push_count, push_finding};
@@ -212,55 +211,17 @@ fn success_asked(
     Ok(false)
 }
 
-/// Whether stages are found that all instances that are judged keep.
-fn has_stages(alloc: Global, pattern: &Pattern) -> Result<bool, Fault>
-    requires { total_of (most_sizes pattern.now.roles) < 2 ^ 31 }
-    ensures ok { IfOk result (λ staged. staged ≡ true → (stages : Stages) × AllStaged pattern.now stages) }
-    ensures err { IfErr result (λ e. IsJudgeFault pattern.now e) }
-{
-    let Some(stages) = stages_of(alloc, pattern)? else {
-        return Ok(false);
-    };
-    drop(stages);
-    Ok(true)
-}
-
-/// Whether no call waits for ever in any instance: told where nothing waits in those that are judged, and these keep
-/// stages.
-fn is_answered(alloc: Global, pattern: &Pattern, lines: &[CallLine]) -> Result<bool, Fault>
-    requires { total_of (most_sizes pattern.now.roles) < 2 ^ 31 }
-    ensures ok { IfOk result (λ everywhere. everywhere ≡ true → (lines.now ≡ []) × ((stages : Stages) × AllStaged pattern.now stages)) }
-    ensures err { IfErr result (λ e. IsJudgeFault pattern.now e) }
-{
-    if !lines.is_empty() {
-        return Ok(false);
-    }
-    let staged = has_stages(alloc, pattern)?;
-    Ok(staged)
-}
-
-/// Appends that no call waits with any number of ranks, where that is known.
-fn push_answered(out: &mut Vec<u8>, everywhere: bool) -> Result<(), AllocError>
-    ensures { OnOk result (out.new.items ≡ out.old.items ++ spec.answered_line everywhere) }
-{
-    if everywhere {
-        out.extend_from_slice(b"every call is answered for every number of ranks\n")
-    } else {
-        Ok(())
-    }
-}
-
 /// The text about a pattern in which nothing is found: so it says, for which numbers of ranks, at which call lines
-/// something waits, and if that is asked for with which statuses each get-now is answered.
+/// something waits, what is known of more ranks, and if that is asked for with which statuses each get-now is answered.
 fn settled_text(
     alloc: Global,
     pattern: &Pattern,
     asked: PatternAsked,
-    everywhere: bool,
+    beyond: &Beyond,
     lines: &[CallLine],
     answers: &[LineAnswers],
 ) -> Result<Vec<u8>, AllocError>
-    ensures { IfOk result (λ text. text.items ≡ spec.settled_text asked.answers everywhere pattern.now lines.now answers.now) }
+    ensures { IfOk result (λ text. text.items ≡ spec.settled_text asked.answers beyond.now pattern.now lines.now answers.now) }
 {
     let mut text = Vec::from_slice(
         alloc,
@@ -268,7 +229,7 @@ fn settled_text(
     )?;
     write_least(&mut text, pattern)?;
     write_waits(&mut text, pattern, lines)?;
-    push_answered(&mut text, everywhere)?;
+    push_beyond(&mut text, pattern, beyond)?;
     if !asked.answers {
         return Ok(text);
     }
@@ -281,16 +242,16 @@ fn settled_form(
     alloc: Global,
     pattern: &Pattern,
     asked: PatternAsked,
-    everywhere: bool,
+    beyond: &Beyond,
     lines: &[CallLine],
     answers: &[LineAnswers],
 ) -> Result<Vec<u8>, AllocError>
-    ensures { IfOk result (λ text. text.items ≡ spec.settled_form asked everywhere pattern.now lines.now answers.now) }
+    ensures { IfOk result (λ text. text.items ≡ spec.settled_form asked beyond.now pattern.now lines.now answers.now) }
 {
     if asked.json {
-        settled_json(alloc, pattern, asked, everywhere, lines, answers)
+        settled_json(alloc, pattern, asked, beyond, lines, answers)
     } else {
-        settled_text(alloc, pattern, asked, everywhere, lines, answers)
+        settled_text(alloc, pattern, asked, beyond, lines, answers)
     }
 }
 
@@ -305,14 +266,15 @@ fn answer_settled(alloc: Global, pattern: &Pattern, asked: PatternAsked) -> Resu
     texts_answered();
     note_sound(pattern);
     let lines = waiting_lines(alloc, pattern)?;
-    let everywhere = is_answered(alloc, pattern, lines.as_slice())?;
-    let succeeding = success_asked(alloc, pattern, asked, everywhere)?;
+    let beyond = find_beyond(alloc, pattern, lines.as_slice())?;
+    let never = beyond.is_never();
+    let succeeding = success_asked(alloc, pattern, asked, never)?;
     let answers = answers_asked(alloc, pattern, asked)?;
     let text = settled_form(
         alloc,
         pattern,
         asked,
-        everywhere,
+        &beyond,
         lines.as_slice(),
         answers.as_slice(),
     )?;
@@ -320,12 +282,24 @@ fn answer_settled(alloc: Global, pattern: &Pattern, asked: PatternAsked) -> Resu
         text,
         ended: settled_end(
             asked,
-            everywhere,
+            never,
             succeeding,
             lines.as_slice(),
             answers.as_slice(),
         ),
     })
+}
+
+/// The same, and if that is asked for who waits for ever.
+fn answer_explained(alloc: Global, pattern: &Pattern, asked: PatternAsked) -> Result<Answer, Fault>
+    requires settled { IsSettledForAll pattern.now }
+    requires few { total_of (most_sizes pattern.now.roles) < 2 ^ 31 }
+    ensures ok { IfOk result (λ answer. IsExplainedSaid pattern.now asked answer.text.items answer.ended) }
+    ensures err { IfErr result (λ e. IsJudgeFault pattern.now e) }
+{
+    let answer = answer_settled(alloc, pattern, asked)?;
+    let explained = explain_answer(alloc, pattern, asked, answer)?;
+    Ok(explained)
 }
 
 /// The verdict about a pattern.
@@ -343,7 +317,7 @@ fn answer_pattern(
         None => {
             note_sound(pattern);
             texts_settled();
-            answer_settled(alloc, pattern, asked)
+            answer_explained(alloc, pattern, asked)
         }
         Some(found) => {
             let answer = answer_found(alloc, pattern, asked, &found);
@@ -355,9 +329,10 @@ fn answer_pattern(
 
 /// Checks a pattern for every number of ranks on every placement: reads it to its end, and writes that nothing is
 /// found, for which numbers of ranks, at which call lines something waits, and if that is asked for with which statuses
-/// each get-now is answered; or a counterexample: how many ranks it has, the text of its plan, and as comments what
-/// `check` finds in that. It is the first instance that is judged in which something is found. As JSON the text of the
-/// plan is one string, without the comments.
+/// each get-now is answered, and who waits for ever in the first instance that is judged in which a rank does; or a
+/// counterexample: how many ranks it has, the text of its plan, and as comments what `check` finds in that. It is the
+/// first instance that is judged in which something is found. As JSON the text of the plan is one string, without the
+/// comments.
 ///
 /// It answers `Clean` where nothing is found in any instance; but with `complete` the count of the call lines at which
 /// something waits; where there are none 1, unless it is known that no call waits with any number of ranks and every

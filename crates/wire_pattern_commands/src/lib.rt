@@ -2,8 +2,11 @@
 #![tactic(auto)]
 
 mod asked;
+mod beyond;
 mod check;
 mod expand;
+mod explained;
+mod first_wait;
 pub mod laws;
 mod least;
 mod ranks;

@@ -5,10 +5,12 @@ ghost use Rattle.wire_types.specs.Texts.{lists_of};
 ghost use Rattle.wire_json.specs.Json.{bracketed};
 ghost use Rattle.wire_pattern_waits.specs.Lines.{waits_text};
 ghost use Rattle.wire_pattern_commands.specs.AtLeast.{least_text};
+ghost use Rattle.wire_pattern_commands.specs.Beyond.{first_text};
 ghost use Rattle.wire_pattern_commands.specs.PatternJson as spec;
 ghost use Rattle.wire_pattern_commands.specs.Strings.{lines_list};
 
 use crate::asked::PatternAsked;
+use crate::beyond::{Beyond, push_first, push_words};
 use crate::least::write_least;
 use crate::strings::{push_lines, push_text, string_of};
 use std::alloc::{AllocError, Global};
@@ -51,6 +53,34 @@ fn push_least(alloc: Global, out: &mut Vec<u8>, pattern: &Pattern) -> Result<(),
     push_lines(alloc, out, text.as_slice())
 }
 
+/// Appends a list of the lines that tell where something waits with more ranks.
+fn push_later(
+    alloc: Global,
+    out: &mut Vec<u8>,
+    pattern: &Pattern,
+    beyond: &Beyond,
+) -> Result<(), AllocError>
+    ensures { OnOk result (out.new.items ≡ out.old.items ++ lines_list (first_text pattern.now beyond.now)) }
+{
+    let mut text = Vec::new(alloc);
+    push_first(&mut text, pattern, beyond)?;
+    push_lines(alloc, out, text.as_slice())
+}
+
+/// Appends both lists, and between them the name of the second.
+fn push_sizes(
+    alloc: Global,
+    out: &mut Vec<u8>,
+    pattern: &Pattern,
+    beyond: &Beyond,
+) -> Result<(), AllocError>
+    ensures { OnOk result (out.new.items ≡ out.old.items ++ spec.sizes_members pattern.now beyond.now) }
+{
+    push_later(alloc, out, pattern, beyond)?;
+    out.extend_from_slice(b",\"least\":")?;
+    push_least(alloc, out, pattern)
+}
+
 /// Appends a list of the lines that tell where something waits.
 fn push_waits(
     alloc: Global,
@@ -65,15 +95,32 @@ fn push_waits(
     push_lines(alloc, out, text.as_slice())
 }
 
-/// The start of the object: the member of that no call waits with any number of ranks, where that is known.
-fn settled_start(alloc: Global, everywhere: bool) -> Result<Vec<u8>, AllocError>
-    ensures { IfOk result (λ text. text.items ≡ codes "{" ++ spec.answered_member everywhere) }
+/// Appends the member of for which numbers of ranks every call is answered.
+fn push_member(out: &mut Vec<u8>, pattern: &Pattern, beyond: &Beyond) -> Result<(), AllocError>
+    ensures { OnOk result (out.new.items ≡ out.old.items ++ spec.answered_by pattern.now beyond.now) }
 {
-    if everywhere {
-        Vec::from_slice(alloc, b"{\"answered\":\"every number of ranks\",")
-    } else {
-        Vec::from_slice(alloc, b"{")
+    out.extend_from_slice(b"\"answered\":\"")?;
+    push_words(out, pattern, beyond)?;
+    out.extend_from_slice(b"\",")
+}
+
+/// The same where some number is known.
+fn push_answered(out: &mut Vec<u8>, pattern: &Pattern, beyond: &Beyond) -> Result<(), AllocError>
+    ensures { OnOk result (out.new.items ≡ out.old.items ++ spec.answered_member pattern.now beyond.now) }
+{
+    match beyond {
+        Beyond::Never | Beyond::Unknown => push_member(out, pattern, beyond),
+        Beyond::Unsaid | Beyond::First(_) => Ok(()),
     }
+}
+
+/// The start of the object, with that member.
+fn settled_start(alloc: Global, pattern: &Pattern, beyond: &Beyond) -> Result<Vec<u8>, AllocError>
+    ensures { IfOk result (λ text. text.items ≡ codes "{" ++ spec.answered_member pattern.now beyond.now) }
+{
+    let mut text = Vec::from_slice(alloc, b"{")?;
+    push_answered(&mut text, pattern, beyond)?;
+    Ok(text)
 }
 
 /// The object about a pattern in which nothing is found.
@@ -81,18 +128,18 @@ pub(crate) fn settled_json(
     alloc: Global,
     pattern: &Pattern,
     asked: PatternAsked,
-    everywhere: bool,
+    beyond: &Beyond,
     lines: &[CallLine],
     answers: &[LineAnswers],
 ) -> Result<Vec<u8>, AllocError>
-    ensures { IfOk result (λ text. text.items ≡ spec.json_settled asked.answers everywhere pattern.now lines.now answers.now) }
+    ensures { IfOk result (λ text. text.items ≡ spec.json_settled asked.answers beyond.now pattern.now lines.now answers.now) }
 {
-    let mut out = settled_start(alloc, everywhere)?;
+    let mut out = settled_start(alloc, pattern, beyond)?;
     push_answers(alloc, &mut out, pattern, asked, answers)?;
     out.extend_from_slice(
-        b"\"findings\":[],\"for\":\"every number of ranks on every placement\",\"least\":",
+        b"\"findings\":[],\"for\":\"every number of ranks on every placement\",\"later\":",
     )?;
-    push_least(alloc, &mut out, pattern)?;
+    push_sizes(alloc, &mut out, pattern, beyond)?;
     out.extend_from_slice(b",\"waits\":")?;
     push_waits(alloc, &mut out, pattern, lines)?;
     out.extend_from_slice(b"}\n")?;

@@ -113,7 +113,7 @@ pub fn rehearse<R: Source, W: Sink, T: Threads + Wait + Sync, G: Gate + Sync>(
 
     // The headline: where it finds nothing, every interleaving that can't go on ends in one state, and the report of
     // that state is what it writes, whatever the workers.
-    ensures one_end { result ≡ Ok Clean → WritesOneEnd Size.OfVersion mode.json (R.coming reader.old) (W.written writer.old) (W.written writer.new) }
+    ensures one_end { result ≡ Ok Clean → WritesOneEnd Size.OfVersion mode (R.coming reader.old) (W.written writer.old) (W.written writer.new) }
 
     // Either nothing was written, or the front of the text that the fault counts.
     ensures err { IfErr result (λ e. (StopsBeforeReplay Size.OfVersion workers (R.coming reader.old) e × (writer.new ≡ writer.old))

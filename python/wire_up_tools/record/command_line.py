@@ -54,13 +54,14 @@ USES = (
     ),
     (
         "--sizes 3,4,8 -o PATTERN COMMAND..",
-        "runs the command with 3, 4 and 8 ranks, which stand where it has {}, writes one pattern "
-        "for every number,\n"
+        "runs the command three times, with 3, 4 and 8 in place of {}, writes one pattern for "
+        "every number of ranks,\n"
         f"    {' ' * 47} and says what is found in it, with --json as JSON",
     ),
     (
         "--sizes -o PATTERN --from FILE.. --from FILE.. --against FILE..",
-        "does so with recordings that are there, of which those behind --against hold the pattern",
+        "does so with recordings that are there, and holds the pattern against those behind "
+        "--against",
     ),
     (
         "--of PLAN --show COMMAND..",

@@ -37,7 +37,10 @@ from wire_up_tools.record.messages import (
 
 WORD = r"[!-~]+"
 NUMBER = r"number:\d+:-?\d+|real:\d+:-?\d{1,13}\.\d{6}"
-VALUE = rf"(?:none|text:[!-~]*|long:\d+|bytes:\d+|{NUMBER}|other:\d+|type:\d+)"
+# Runs that are compared have more of values of which a plan has the size or the type alone: letters
+# that tell bytes from others, and what is in an array.
+SIZED = r"(?:long|bytes):\d+(?::[a-p]{8})?|type:\d+(?::[!-~]*)?"
+VALUE = rf"(?:none|text:[!-~]*|{SIZED}|{NUMBER}|other:\d+)"
 FOUND_BY = r"(wait|poll|some)"
 # Most records of a large recording are like others, but for their numbers and times.
 KEPT_RECORDS = 1 << 13
@@ -75,7 +78,8 @@ def read_value(text: str) -> Value:
     kind, _, detail = text.partition(":")
     if kind == "text":
         return Value(ValueKind.TEXT, text=decode(detail) if detail else b"")
-    return Value(ValueKind(kind), detail)
+    is_sized = re.fullmatch(SIZED, text) is not None
+    return Value(ValueKind(kind), detail.partition(":")[0] if is_sized else detail)
 
 
 def read_pairs(text: str) -> tuple[Pair, ...]:

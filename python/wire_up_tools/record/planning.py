@@ -52,13 +52,14 @@ class MpiSummary:
 class Tested:
     """What was found out of a plan by asking the checker: what the library `answered` otherwise
     than the rules, if it did; which calls it is known to answer by which rank is fast; what more is
-    known of the library; and whether each run of the program makes the calls of the plan, if it
-    goes by them alone."""
+    known of the library; whether each run of the program makes the calls of the plan, if it goes by
+    them alone; and on which libraries each run does as the rules say."""
 
     answered: Optional[str] = None
     timed: Sequence[str] = ()
     of_library: Optional[str] = None
     is_of_each_run: bool = False
+    portable: Optional[str] = None
 
 
 @dataclass(frozen=True)

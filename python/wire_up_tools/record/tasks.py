@@ -1,6 +1,7 @@
 """The tasks of the recorder: what users can ask it for, and what it does then."""
 import gc
 import os
+import re
 import shutil
 import sys
 import time
@@ -37,7 +38,9 @@ from wire_up_tools.record.running import (
     run,
 )
 from wire_up_tools.record.showing.asking import Asked
+from wire_up_tools.record.showing.holds import mark_compared
 from wire_up_tools.record.showing.material import First, Material
+from wire_up_tools.record.showing.naming import Naming
 from wire_up_tools.record.showing.showing import show
 from wire_up_tools.record.showing.traces import read_traces
 from wire_up_tools.record.sizes.asking import SizesRequest
@@ -51,7 +54,8 @@ from wire_up_tools.record.verdicts import (
     test_plan,
 )
 from wire_up_tools.record.writing import is_by_mpi_alone, write_answers, write_plan
-from wire_up_tools.words import AWAITED, EACH_RUN, LEFT_TO_LUCK
+from wire_up_tools.report.singular import say_counted
+from wire_up_tools.words import AWAITED, EACH_RUN, LEFT_TO_LUCK, RECORDED_BY
 
 # What is said of verdicts over plans that are known to be more ordered than the program.
 IN_PART = "holds only in part"
@@ -127,7 +131,13 @@ def say_where(asked: WhereRequest) -> int:
 
 def count_notes(notes: Mapping[str, int]) -> str:
     """Notes in a row, each with how often that was."""
-    return ", ".join(f"{count} {what}" for what, count in sorted(notes.items()) if count)
+    found = (f"{count} {what}" for what, count in sorted(notes.items()) if count)
+    return ", ".join(map(say_counted, found))
+
+
+def is_of_one(told: str) -> bool:
+    """Whether notes in a row are one, of one thing."""
+    return told.startswith("1 ") and re.search(r", \d+ ", told) is None
 
 
 def say_part(plan: Plan) -> None:
@@ -142,7 +152,8 @@ def say_part(plan: Plan) -> None:
         say(f"{in_part}: not in the plan: {left_out}")
     of_luck = list_luck(plan)
     if of_luck and not is_by_mpi_alone(plan):
-        say(f"{', '.join(of_luck)}: another run may do otherwise after them")
+        told = ", ".join(of_luck)
+        say(f"{told}: another run may do otherwise after {'it' if is_of_one(told) else 'them'}")
     awaited = notes.otherwise[AWAITED]
     if awaited:
         say(f"{awaited} {AWAITED}; if it polls for them, another run may do otherwise")
@@ -153,7 +164,8 @@ def list_luck(plan: Plan) -> list[str]:
     these differ."""
     counted = count_notes(plan.notes.of_luck)
     ends = plan.mpi.left_to_luck if not plan.mpi.verdicts else 0
-    return [*([counted] if counted else []), *([f"{ends} {LEFT_TO_LUCK}"] if ends else [])]
+    told = [say_counted(f"{ends} {LEFT_TO_LUCK}")] if ends else []
+    return [*([counted] if counted else []), *told]
 
 
 def write_pattern(plan: Plan, path: str) -> None:
@@ -183,13 +195,16 @@ def write_output(plan: Plan, places: Places, output: Output) -> str:
 
 
 def say_besides(checker: Checker, plan: Plan, text: str) -> None:
-    """Says what is found on other placements of the ranks alone, if anything is, and what the
-    library that was recorded is known to answer otherwise."""
+    """Says what is found on other placements of the ranks alone, if anything is, what the library
+    that was recorded is known to answer otherwise, and last for which libraries the plan is
+    portable."""
     found = judge_placements(checker, text)
     if found:
         say(f"{found}: wire_up check --anywhere names them")
     if plan.tested.of_library:
         say(plan.tested.of_library)
+    if plan.tested.portable:
+        say(plan.tested.portable)
 
 
 def say_tested(tested: Tested) -> None:
@@ -362,13 +377,40 @@ def show_of_plan(asked: ShowRequest, folder: str) -> int:
     return 0
 
 
+def refuse_race(asked: CommandRequest) -> None:
+    """Refuses calls for --show-race that a plan doesn't have which stands where that of the run
+    will: they are numbered by an earlier run, and this one would be made in vain. Raises Refused,
+    OSError."""
+    race, path = asked.asked.race if asked.asked else None, asked.output.plan
+    if race is None or not os.path.isfile(path):
+        return
+    with open(path, "rb") as it:
+        data = it.read()
+    if not data.startswith(f"# {RECORDED_BY}".encode()):
+        return
+    try:
+        naming = Naming(read_plan(data))
+        for process, number in (race[:2], race[2:]):
+            naming.find(process, number)
+    except (ValueError, LookupError):
+        return
+    except Refused as why:
+        raise Refused(
+            f"{why}: so {path} says, and the command didn't run. If that is of another program, "
+            "name another file with -o"
+        ) from None
+
+
 def record(asked: CommandRequest, folder: str) -> int:
     """Runs a command, makes the plan, and answers the command's status. `folder` is that of the
     recorder. Recordings that make no plan are left. Raises Refused, NotRun, OSError."""
     output = asked.output
     libraries = find_libraries(folder, output.with_mpi)
     hold_writable(output)
+    refuse_race(asked)
     recordings, is_made = make_folder(output.plan, output.kept), False
+    if asked.asked:
+        mark_compared(recordings)
     began = time.monotonic()
     try:
         status, is_stopped = run_first(asked, make_environment(libraries, recordings))

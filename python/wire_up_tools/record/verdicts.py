@@ -1,20 +1,21 @@
 """Finds what the checker says with and without the order of ends that another run may have found
 open, where that differs; on other placements of the ranks; and of several runs, of what they share
-and of each by itself. And what the library that was recorded answered otherwise than the rules, or
-is known to answer so."""
+and of each by itself. And on which libraries the plan is portable; and what the library that was
+recorded answered otherwise than the rules, or is known to answer so, where it isn't."""
 from collections.abc import Iterator, Sequence
 from typing import Optional
 
 from wire_up_tools.checker import Checker
 from wire_up_tools.failures import Refused
 from wire_up_tools.plan_reading import read_plan
+from wire_up_tools.portable import Portable, find_portable, say_portable
 from wire_up_tools.record.partings import Run
 from wire_up_tools.record.planning import Plan, Tested
 from wire_up_tools.record.premises import test_premises
 from wire_up_tools.record.writing import write_plan
 from wire_up_tools.run.expected import expect
 from wire_up_tools.run.libraries.judging import MOST_CALLS, Judged, judge
-from wire_up_tools.run.libraries.traits import find_recorded
+from wire_up_tools.run.libraries.traits import Library, find_recorded
 
 NOTHING = "findings 0"
 ANYWHERE = "--anywhere"
@@ -74,18 +75,35 @@ def judge_runs(
         yield f"what the runs share has {found}; by themselves they have {', '.join(each)}"
 
 
-def judge_library(checker: Checker, plan: Plan) -> Optional[Judged]:
-    """What the library that was recorded is known to make of a plan; None where nothing is known of
-    it, or where the plan is too large."""
+def find_library(plan: Plan) -> Optional[Library]:
+    """The library that was recorded; None where nothing is known of it."""
     first = plan.processes.all[0].recording
-    library = find_recorded(first.library, first.namespace.decode("ascii", "replace"))
+    return find_recorded(first.library, first.namespace.decode("ascii", "replace"))
+
+
+def judge_library(
+    checker: Checker, plan: Plan, data: bytes, portable: Optional[Portable]
+) -> Optional[Judged]:
+    """What the library that was recorded is known to make of a plan, whose text is given; None
+    where nothing is known of it, where the plan is portable for it, or is too large."""
+    library = find_library(plan)
     if library is None or plan.draft.count > MOST_CALLS:
         return None
-    data = write_plan(plan).encode()
+    if portable and portable.is_for(library.name):
+        return None
     try:
         return judge(read_plan(data), library, expect(checker, data))
     except (Refused, OSError):
         return None
+
+
+def say_of_libraries(plan: Plan, portable: Portable) -> str:
+    """For which libraries a plan is portable, and whether for the one that was recorded."""
+    library, said = find_library(plan), say_portable(portable)
+    if library is None or not portable.is_judged(library.name):
+        return said
+    is_for = "is one of these" if portable.is_for(library.name) else "is none of these"
+    return f"{said}; {library.version}, which was recorded, {is_for}"
 
 
 def say_judged(judged: Judged) -> str:
@@ -120,9 +138,13 @@ def test_plan(checker: Checker, plan: Plan, runs: Sequence[Run]) -> Tested:
         for number, (it, run) in enumerate(zip(premises, runs), 1)
         if it.differing
     ]
-    judged = judge_library(checker, plan)
+    data = write_plan(plan).encode()
+    portable = find_portable(checker, data)
+    judged = judge_library(checker, plan, data, portable)
     timed = list_timed(judged) if judged else []
     do_hold = all(it.hold for it in premises) and not plan.partings and not timed
-    is_clean = len(runs) == 1 or do_hold and find_verdict(checker, write_plan(plan)) == NOTHING
+    is_clean = len(runs) == 1 or do_hold and find_verdict(checker, data.decode()) == NOTHING
     of_library = say_judged(judged) if judged and judged.found else None
-    return Tested(said[0] if said else None, timed, of_library, do_hold and is_clean)
+    of_libraries = say_of_libraries(plan, portable) if portable else None
+    answered = said[0] if said else None
+    return Tested(answered, timed, of_library, do_hold and is_clean, of_libraries)

@@ -20,6 +20,7 @@ from wire_up_tools.record.places import Places
 from wire_up_tools.record.planning import Plan
 from wire_up_tools.record.processes import Process
 from wire_up_tools.record.recordings import refuse_past
+from wire_up_tools.report.singular import say_counted
 from wire_up_tools.words import (
     ANSWERED,
     CUT_OFF,
@@ -115,7 +116,8 @@ def say_mpi(plan: Plan) -> Iterator[str]:
         mark = plan.spelling.mpi_mark
         yield f"# No call of PMIx made the lines of names that begin with `{mark}`."
     elif mpi.message_count or mpi.collective_count:
-        counts = f"{mpi.message_count} messages and {mpi.collective_count} collectives"
+        messages = say_counted(f"{mpi.message_count} messages")
+        counts = f"{messages} and {say_counted(f'{mpi.collective_count} collectives')}"
         yield (
             f"# MPI's order: {counts}. "
             "No call of PMIx made the lines of names that begin with"

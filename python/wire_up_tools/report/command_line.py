@@ -162,9 +162,12 @@ def write_forms(options: Options, asker: Asker) -> Written:
 
 
 def report_plan(options: Options, asker: Asker) -> Report:
-    """What is told of a plan, and what a library makes of it. Raises Refused, OSError."""
+    """What is told of a plan, and what a library makes of it for which it isn't portable. Raises
+    Refused, OSError."""
     report = make_report(options.plan, asker)
     if options.library is None:
+        return report
+    if report.portable and report.portable.is_for(options.library):
         return report
     return replace(report, judged=find_judged(asker, report.plan, options.library))
 

@@ -2,12 +2,14 @@
 import os
 import time
 from collections.abc import Sequence
-from dataclasses import dataclass, field
+from dataclasses import dataclass, field, replace
 from typing import Optional
 
 from wire_up_tools import words
+from wire_up_tools.limits import VERSION_2
 from wire_up_tools.plan import Plan
 from wire_up_tools.plan_reading import read_plan
+from wire_up_tools.portable import Portable, find_portable
 from wire_up_tools.report.asking import CLEAN, FOUND, Asker
 from wire_up_tools.report.causes import Cause, find_causes
 from wire_up_tools.report.diagram import Diagram
@@ -56,7 +58,8 @@ class WireUp:
 @dataclass(frozen=True, eq=False)
 class Report:
     """What is found in a plan: causes, of which the first are told in full, or else its wire-up;
-    what is found on other placements only, if the checker can tell; and what a library makes of
+    what is found on other placements only, and for which libraries the plan is portable, if the
+    checker can tell and the plan isn't past the limits of version 2; and what a library makes of
     the plan, if that is asked for.
 
     `path` is that of the plan as it was given, or of the pattern of which the plan is the
@@ -74,6 +77,8 @@ class Report:
     pattern: Optional[Pattern] = None
     pattern_lines: Lines = field(default_factory=dict)
     judged: Optional[Judged] = None
+    portable: Optional[Portable] = None
+    is_past_limits: bool = False
 
     @property
     def plan(self) -> Plan:
@@ -147,12 +152,23 @@ def make_report(path: str, asker: Asker) -> Report:
     groups = find_groups(asker, plan)
     search, order = begin_search(asker, time.monotonic() - start), find_order(plan)
     causes = find_causes(groups)
-    elsewhere = find_elsewhere(search, order, causes)
+    elsewhere, portable = find_elsewhere(search, order, causes), find_portable_of(asker)
+    report = Report(path, version, order, causes, elsewhere=elsewhere, portable=portable)
+    report = replace(report, is_past_limits=is_past_limits(asker))
     if not causes:
-        wire_up = find_wire_up(asker, order)
-        return Report(path, version, order, wire_up=wire_up, elsewhere=elsewhere)
-    details = [find_detail(search, order, it) for it in causes[:CAUSES]]
-    return Report(path, version, order, causes, details, elsewhere=elsewhere)
+        return replace(report, wire_up=find_wire_up(asker, order))
+    return replace(report, details=[find_detail(search, order, it) for it in causes[:CAUSES]])
+
+
+def is_past_limits(asker: Asker) -> bool:
+    """Whether the plan is past the limits of version 2."""
+    return len(asker.data) > VERSION_2.plan_bytes
+
+
+def find_portable_of(asker: Asker) -> Optional[Portable]:
+    """For which libraries the plan is portable; None where the checker can't tell, and of a plan
+    past the limits, which may have millions of calls that are named."""
+    return None if is_past_limits(asker) else find_portable(asker.checker, asker.data)
 
 
 def read_taken(asker: Asker) -> Plan:

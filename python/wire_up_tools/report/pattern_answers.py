@@ -10,6 +10,10 @@ from wire_up_tools.report.phrases import count_of, name_all
 EVERYWHERE = "for every number of ranks on every placement"
 NOTHING = f"findings 0 {EVERYWHERE}"
 ANSWERED = "every call is answered for every number of ranks"
+UP_TO = re.compile(
+    r"every call is answered for up to ([1-9]\d*) ranks of each group, not known for more"
+)
+LATER = re.compile(r"later ([1-9]\d*) (\S+) ([1-9]\d*) (\S+)")
 LEAST = re.compile(r"at least ([1-9]\d*) (\S+)")
 WAITS = re.compile(r"waits (\S+) ([1-9]\d*) (\S+)")
 ANSWERS = re.compile(r"answers (\S+) ([1-9]\d*) (\S+) (\S.*)")
@@ -45,20 +49,26 @@ class Failing:
 @dataclass
 class Settled:
     """What is said of a pattern without findings: how many ranks a group has at least, where that
-    is more than none; whether every call is answered at every size; the calls that wait for ever
-    in plans that were judged, and those that fail there; and whether each call is said to succeed
-    in all of these."""
+    is more than none; whether every call is answered at every size; up to how many ranks of each
+    group it is, where no more is known; the calls that wait for ever in plans that were judged, and
+    those that fail there; those that wait in larger plans first, and with how many ranks of each
+    group; and whether each call is said to succeed in all of these."""
 
     is_complete: bool
     least: list[tuple[int, str]] = field(default_factory=list)
     is_answered: bool = False
     waits: list[CallLine] = field(default_factory=list)
     fails: list[Failing] = field(default_factory=list)
+    later: list[CallLine] = field(default_factory=list)
+    later_size: int = 0
+    up_to: int = 0
 
     def take(self, line: str) -> bool:
         """Takes a line of the answer. Answers whether it has one of the forms."""
         least, waits = LEAST.fullmatch(line), WAITS.fullmatch(line)
         answers = ANSWERS.fullmatch(line)
+        if self.take_of_size(line):
+            return True
         if line == ANSWERED:
             self.is_answered = True
         elif least:
@@ -69,6 +79,16 @@ class Settled:
             self.add_statuses(CallLine(answers[1], int(answers[2]), answers[3]), answers[4])
         return line == ANSWERED or bool(least or waits or answers)
 
+    def take_of_size(self, line: str) -> bool:
+        """Takes a line about plans of a larger size. Answers whether it is one."""
+        later, up_to = LATER.fullmatch(line), UP_TO.fullmatch(line)
+        if later:
+            self.later_size = int(later[1])
+            self.later.append(CallLine(later[2], int(later[3]), later[4]))
+        elif up_to:
+            self.up_to = int(up_to[1])
+        return bool(later or up_to)
+
     def add_statuses(self, call: CallLine, said: str) -> None:
         """Takes the statuses of a call: one that is never answered doesn't fail."""
         statuses = said.split()
@@ -78,7 +98,7 @@ class Settled:
     @property
     def named(self) -> list[CallLine]:
         """The calls that wait for ever or fail."""
-        return [*self.waits, *(it.call for it in self.fails)]
+        return [*self.waits, *self.later, *(it.call for it in self.fails)]
 
 
 def read_settled(lines: Sequence[str], is_complete: bool) -> Optional[Settled]:
@@ -103,6 +123,10 @@ def say_settled(said: Settled) -> str:
         what = count_of(len(said.waits), "call waits", "calls wait")
         names = ", ".join(it.name for it in said.waits)
         parts.append(f"{what} for ever in some of its plans: {names}")
+    if said.later:
+        what = count_of(len(said.later), "call waits", "calls wait")
+        names = ", ".join(it.name for it in said.later)
+        parts.append(f"with {said.later_size} ranks of each group {what} for ever: {names}")
     if said.fails:
         what = count_of(len(said.fails), "call fails", "calls fail")
         parts.append(f"{what} in some of its plans: {', '.join(it.call.name for it in said.fails)}")
@@ -126,6 +150,16 @@ def explain_settled(said: Settled) -> str:
     ]
     if said.is_answered:
         parts.append("No call waits for ever there.")
+    elif said.later:
+        parts.append(
+            f"No call waits for ever in its small plans. With {said.later_size} ranks of each "
+            "group a rank does: what comes after that call is never reached."
+        )
+    elif said.up_to:
+        parts.append(
+            f"No call waits for ever with up to {said.up_to} ranks of each group; that none does "
+            "with more isn't known."
+        )
     else:
         parts.append("That no call waits for ever is known of its small plans alone.")
     if said.fails:
@@ -138,7 +172,7 @@ def explain_settled(said: Settled) -> str:
 def choose_badge(said: Settled) -> tuple[str, str]:
     """The kind of the verdict, and its words: green only where each call is answered, and none
     fails."""
-    if said.waits:
+    if said.waits or said.later:
         return "waits", "calls wait for ever"
     if said.fails:
         return "fails", "calls fail"

@@ -73,12 +73,15 @@ def write_sarif(report: Report, folder: Optional[str]) -> str:
 
 def describe_verdict(report: Report) -> dict[str, Any]:
     """What was found, why that holds only in part, whether it is said to hold of each run of the
-    program, and which orders the program kept."""
+    program, which orders the program kept, and for which libraries the plan is portable, if that
+    is known."""
+    portable = report.portable
     return {
         "verdict": say_found(report),
         "inPart": list(report.reasons),
         "eachRun": not report.causes and is_of_each_run(report.plan),
         "ordersKept": say_in_vain(report.plan),
+        **({"portable": list(portable.libraries)} if portable else {}),
     }
 
 

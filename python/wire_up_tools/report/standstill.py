@@ -71,6 +71,11 @@ def read_standstill(answer: Answer) -> Optional[Standstill]:
     said = read_json(answer)
     if "deadlock" not in said:
         return read_lines(answer.stderr) if "ranks" in said else None
+    return read_members(said)
+
+
+def read_members(said: dict[str, Any]) -> Standstill:
+    """Who waits for ever by two members of an object."""
     return Standstill([*map(read_standing, said["deadlock"])], [*map(read_standing, said["never"])])
 
 
@@ -92,14 +97,29 @@ def read_standing(said: dict[str, Any]) -> Standing:
 
 
 def find_sized(asker: Asker, groups: Sequence[str], said: Settled) -> Optional[Sized]:
-    """Who waits for ever in the smallest plan of a pattern in which a rank does, of those in which
-    all turns are taken; None if that is none of the first sizes, or the checker doesn't tell."""
+    """Who waits for ever in the smallest plan of a pattern in which a rank does. Where the checker
+    doesn't tell, or no rank waits in a plan that it judges, in the smallest of those in which all
+    turns are taken; None if that is none of the first sizes."""
+    judged = find_judged(asker) if said.waits else None
+    if judged:
+        return judged
     sizes = list_sizes(groups, said) if said.waits else list_later_sizes(groups, said)
     for it in itertools.islice(sizes, SIZES):
         found = look_at_size(asker, it)
         if found is None or not found.standstill.is_empty:
             return found
     return None
+
+
+def find_judged(asker: Asker) -> Optional[Sized]:
+    """Who waits for ever in the first plan that is judged in which a rank does; None if the checker
+    is an older one, which doesn't tell."""
+    where = read_json(asker.ask("check", "--pattern", "--json", "--explain")).get("where")
+    if not where:
+        return None
+    ranks, *groups = where["with"].split(", ")
+    sizes = [(name, int(count)) for name, _, count in (it.rpartition("=") for it in groups)]
+    return Sized(sizes, int(ranks.split(" ")[0]), read_members(where))
 
 
 def list_sizes(groups: Sequence[str], said: Settled) -> Iterator[list[tuple[str, int]]]:

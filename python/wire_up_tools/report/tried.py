@@ -24,6 +24,13 @@ IN_VAIN = re.compile(
     rf"{words.TURNED_IN_VAIN} (\S+): (\d+) of (\d+) pairs(, {words.ALL_PAIRS})?"
 )
 TURNED = re.compile(rf"{words.TURNED_ROUND} [\d-]+: (.+)")
+# Those that are no alarm, by the word for what came of them, and how many are told.
+NO_ALARM = re.compile(rf"{words.TURNED_ROUND} [\d-]+, ([a-z-]+): (.+)")
+TOLD = {
+    "turned-alike": "An order of this run isn't imposed, but nothing differed: ",
+    "gave-up": "The library doesn't wait as the rules say: ",
+}
+MOST_TOLD = 4
 # How the end of a race is told that ended otherwise in both orders.
 ENDED_OTHERWISE = re.compile(r"; ended [^;]+ and [^;]+(;|$)")
 
@@ -42,7 +49,7 @@ class Tried:
     def orders(self) -> str:
         """Which order each of two things that are said comes from; nothing where none was made."""
         first, second = self.calls
-        is_made = self.word.startswith("shown")
+        is_made = self.word.startswith("shown") and words.BY_WITNESS not in self.said
         return f", with {first} first, and then with {second} first" if is_made else ""
 
     @property
@@ -84,7 +91,14 @@ def find_turned(plan: Plan) -> Iterator[str]:
 
 def say_turned(plan: Plan) -> list[str]:
     """Why a verdict holds only in part, by orders that were turned round; one line for each."""
-    return [f"an order that the plan has isn't imposed: {it}" for it in find_turned(plan)]
+    return [f"an order of the recorded run isn't imposed: {it}" for it in find_turned(plan)]
+
+
+def say_no_alarms(plan: Plan) -> list[str]:
+    """The first orders that were turned round, but don't change the verdict."""
+    found = map(NO_ALARM.fullmatch, plan.declared.head if plan.is_recorded else ())
+    told = [f"{TOLD[it[1]]}{it[2]}." for it in found if it and it[1] in TOLD]
+    return told[:MOST_TOLD]
 
 
 def say_all_kept(plan: Plan) -> Optional[str]:

@@ -2,6 +2,7 @@
 from collections.abc import Sequence
 
 from wire_up_tools.left_out import can_order
+from wire_up_tools.portable import list_libraries
 from wire_up_tools.report.causes import Cause
 from wire_up_tools.report.contents import Report
 from wire_up_tools.report.findings import MOST_GROUPS, Finding, Kind
@@ -16,7 +17,7 @@ from wire_up_tools.report.patterns import find_groups, say_counterexample
 from wire_up_tools.report.phrases import count_of
 from wire_up_tools.report.placements import Placed
 from wire_up_tools.report.runs import SECONDS, Outcome
-from wire_up_tools.report.tried import find_tried, say_all_kept, say_in_vain
+from wire_up_tools.report.tried import find_tried, say_all_kept, say_in_vain, say_no_alarms
 from wire_up_tools.words import EACH_RUN_SENTENCE
 
 # What helps where a counterexample is smaller than a job can be.
@@ -121,13 +122,27 @@ def say_pattern(report: Report) -> list[str]:
 def say_besides(report: Report) -> list[str]:
     """What is said below the verdict: of the pattern, of other placements, of a library, and of the
     program's own code."""
-    of_library = [say_otherwise(report.judged)] if report.judged else []
+    of_library = say_libraries(report)
+    of_library += [say_otherwise(report.judged)] if report.judged else []
     is_of_runs = not report.causes and is_of_each_run(report.plan)
     all_kept = say_all_kept(report.plan) if is_of_runs else None
     of_runs = [" ".join(filter(None, [EACH_RUN_SENTENCE, all_kept]))] if is_of_runs else []
     of_code = [it for it in (say_own_code(report.plan), say_awaited(report.plan)) if it]
     said = [*of_runs, *say_pattern(report), *say_placements(report), *of_library, *of_code]
-    return [*said, *(() if all_kept else say_in_vain(report.plan))]
+    said += () if all_kept else say_in_vain(report.plan)
+    return [*said, *say_no_alarms(report.plan)]
+
+
+def say_libraries(report: Report) -> list[str]:
+    """For which libraries the plan is portable; nothing where that isn't known."""
+    if report.is_past_limits:
+        return ["For which libraries so large a plan is portable, check --large --portable tells."]
+    if report.portable is None:
+        return []
+    listed = list_libraries(report.portable)
+    if not listed:
+        return ["The plan is portable for no library that is known."]
+    return [f"On {listed}, if the library keeps the axioms, each run does as the rules say."]
 
 
 def say_reasons(report: Report) -> str:

@@ -12,15 +12,16 @@ from wire_up_tools.failures import Refused
 from wire_up_tools.files import STANDARD_OUTPUT, write_each, write_whole
 from wire_up_tools.plan import Plan
 from wire_up_tools.plan_reading import read_plan
+from wire_up_tools.portable import Portable, find_portable, say_portable
 from wire_up_tools.run import answers, fake_nodes
 from wire_up_tools.run.expected import Expected, ask_witness, expect, expect_in_order
 from wire_up_tools.run.launchers import find_launcher, read_command
 from wire_up_tools.run.libraries.judging import judge
-from wire_up_tools.run.libraries.traits import find_library, take_library
+from wire_up_tools.run.libraries.traits import Library, find_library, take_library
 from wire_up_tools.run.libraries.writing import write_predictions, write_predictions_json
 from wire_up_tools.run.live import Outcome, Setting, Task, is_among_fake_nodes, run_plan
 from wire_up_tools.run.reports import Line
-from wire_up_tools.run.saying import say
+from wire_up_tools.run.saying import NAME, say
 from wire_up_tools.run.suite import Kind, Suite, choose_plans, read_suite
 from wire_up_tools.run.suite_answers import (
     SuiteResult,
@@ -175,12 +176,16 @@ def expect_plan(checker: Checker, data: bytes, asked: PlanRequest) -> Expected:
 def run_freely(asked: PlanRequest, choices: Choices, folder: str) -> int:
     """Runs a plan as often as is asked, and answers the status. Raises Refused, OSError."""
     data = read_file(asked.plan)
-    expected = expect_plan(choose_checker(choices, folder), data, asked)
+    checker = choose_checker(choices, folder)
+    expected = expect_plan(checker, data, asked)
     setting = make_setting(choices, folder)
     task = choose_task(read_plan(data), expected, asked)
     outcomes: list[Outcome] = [run_plan(task, setting) for _ in range(asked.times)]
     seen = answers.count_runs(expected, outcomes)
     runs = answers.Runs(expected, seen, setting.launcher.version, setting.quiet)
+    portable = find_portable(checker, data)
+    if portable and not asked.order:
+        say_of_library(runs, find_library(runs.library, setting.launcher.kind), portable, asked)
     write = answers.write_json if choices.is_json else answers.write_text
     texts = [(STANDARD_OUTPUT, write(runs))]
     if choices.junit:
@@ -188,6 +193,21 @@ def run_freely(asked: PlanRequest, choices: Choices, folder: str) -> int:
         texts.append((choices.junit, answers.write_junit(name, answers.list_cases(name, runs))))
     write_each(texts)
     return DIFFERENT if runs.differs else SAME
+
+
+def say_of_library(
+    runs: answers.Runs, library: Optional[Library], portable: Portable, asked: PlanRequest
+) -> None:
+    """Says for which libraries a plan is portable; and of one for which it is, that it breaks an
+    axiom where it answers otherwise in a plan without findings."""
+    say(say_portable(portable))
+    is_for = library is not None and portable.is_for(library.name)
+    if is_for and runs.differs and not runs.expected.findings:
+        say(
+            f"{runs.library} breaks an axiom of libraries: on this plan it can't answer otherwise "
+            f"by them. Please hand on the plan with what `{NAME} --times {runs.times} --json "
+            f"{asked.plan}` writes"
+        )
 
 
 def find_line(outcome: Outcome, call: str) -> Line:

@@ -52,7 +52,7 @@ def cut(key: str) -> tuple[Template, Sequence[int]]:
 
 def find_places(plans: Sequence[Named]) -> Places:
     """Which numbers of keys are ranks: those at a place that has nothing but ranks in all plans,
-    and several in one."""
+    several in one, and not the same in all of several sizes: such are of rounds, say."""
     found: dict[Template, list[list[Sequence[int]]]] = collections.defaultdict(list)
     for plan in plans:
         here: dict[Template, list[Sequence[int]]] = collections.defaultdict(list)
@@ -71,7 +71,9 @@ def choose(template: Template, plans: Sequence[Sequence[Sequence[int]]]) -> Iter
     for place in range(len(template) - 1):
         columns = [[row[place] for row in rows] for rows in plans]
         varies = any(len(set(it)) > 1 for it in columns)
-        if varies and all(row[place] < row[-1] for rows in plans for row in rows):
+        sizes = {row[-1] for rows in plans for row in rows}
+        is_of_size = len(sizes) == 1 or len({frozenset(it) for it in columns}) > 1
+        if varies and is_of_size and all(row[place] < row[-1] for rows in plans for row in rows):
             yield place
 
 
@@ -93,6 +95,17 @@ def index_words(words: Sequence[str], job: str, places: Places) -> Sequence[str]
         return words
     at = KEY_AT[words[0]]
     return [*words[:at], index_key(key, job, places), *words[at + 1:]]
+
+
+def spell_words(words: Sequence[str]) -> str:
+    """A call as it was before the numbers of its key became indices."""
+    key = find_key(words)
+    base, _, indices = key.removesuffix("]").partition("[")
+    ranks = [it.rpartition(":")[2] for it in indices.split(",")]
+    if base.count(PLACE) != len(ranks):
+        return " ".join(words)
+    spelt = "".join(a + b for a, b in zip(base.split(PLACE), [*ranks, ""]))
+    return " ".join(spelt if it == key else it for it in words)
 
 
 def index_numbers(plan: Sequence[Script]) -> Sequence[Script]:

@@ -19,6 +19,8 @@ from wire_up_tools.record.sizes.asking import FROM
 MOST, HOLD, HOLD_TIMES, LIMIT, LIMIT_TIMES = 8, 2.0, 2.0, 10.0, 5.0
 # How long a run may take, where there was no first one.
 LIMIT_OF_PLAN = 60.0
+# How long all runs may take together.
+WITHIN = 300.0
 
 OPTIONS = (
     Option(
@@ -63,6 +65,11 @@ OPTIONS = (
         f"how long such a run may take; else {LIMIT:g}, {LIMIT_TIMES:g} times the first and --hold",
     ),
     Option(
+        "--within",
+        "SECONDS",
+        f"how long all these runs may take together: no other begins then; else {WITHIN:g}",
+    ),
+    Option(
         "--input",
         "FILE",
         "what all runs read as standard input; else it is empty for --show and --turn",
@@ -70,7 +77,7 @@ OPTIONS = (
     Option("--shown", "FILE", "writes also what came of it as JSON"),
 )
 # Those that say how something is shown.
-OF_SHOWING = ("of", "most", "hold", "limit", "input", "shown", "turn_waits")
+OF_SHOWING = ("of", "most", "hold", "limit", "within", "input", "shown", "turn_waits")
 
 
 @dataclass(frozen=True)
@@ -87,6 +94,7 @@ class Asked:
     most: int
     hold: Optional[float]
     limit: Optional[float]
+    within: float
     source: Optional[str]
     shown: Optional[str]
 
@@ -166,6 +174,7 @@ def read_asked(found: argparse.Namespace) -> Optional[Asked]:
         most=read_count("--most", found.most, MOST),
         hold=hold,
         limit=limit,
+        within=read_seconds("--within", found.within) or WITHIN,
         source=found.input,
         shown=found.shown,
     )

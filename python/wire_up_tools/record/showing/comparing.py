@@ -56,7 +56,7 @@ def compare_targets(runs: Sequence[HeldRun], targets: Sequence[Target]) -> list[
         masked = [mask(it) for it in whole]
         if whole[0] != whole[1]:
             told = whole if masked[0] == masked[1] else masked
-            found.append(Difference(it.process, f"{it.number} {it.verb}", *told))
+            found.append(Difference(it.process, it.what, *told))
     return found
 
 
@@ -68,7 +68,7 @@ def compare_replies(
     for it in first:
         other = known.get(it.keys[0])
         if other and other.reply != it.reply:
-            yield Difference(process, it.name, it.reply, other.reply)
+            yield Difference(process, it.told, it.reply, other.reply)
 
 
 def say_last(calls: Sequence[TracedCall]) -> str:
@@ -76,7 +76,7 @@ def say_last(calls: Sequence[TracedCall]) -> str:
     it is, if others came before."""
     if not calls:
         return "from the start"
-    name, ordinal = calls[-1].name, calls[-1].keys[0][1]
+    name, ordinal = calls[-1].told, calls[-1].keys[0][1]
     return f"after {name}" if ordinal == 1 else f"after {name}, number {ordinal}"
 
 
@@ -84,7 +84,7 @@ def find_parting(
     process: str, first: Sequence[TracedCall], second: Sequence[TracedCall]
 ) -> Optional[Difference]:
     """Where the calls of a process part, if they do."""
-    names = [[it.name for it in calls] for calls in (first, second)]
+    names = [[it.told for it in calls] for calls in (first, second)]
     if names[0] == names[1]:
         return None
     at = next((n for n, (one, other) in enumerate(zip(*names)) if one != other), None)
@@ -97,7 +97,8 @@ def find_parting(
 class Compared:
     """What differs between two runs: the replies of the named calls, those of others, where calls
     part, and whether the runs end and write otherwise. `own` is what each run has otherwise, and so
-    none of these; `plain` what differs besides between two runs in which nothing is held."""
+    none of these; `plain` what differs besides between two runs in which nothing is held; `unseen`
+    the values of which the type or the size alone is compared."""
 
     targets: Sequence[Difference]
     others: Sequence[Difference]
@@ -106,6 +107,7 @@ class Compared:
     writes_otherwise: bool
     own: Sequence[Difference] = ()
     plain: Sequence[Difference] = ()
+    unseen: Sequence[str] = ()
 
     @property
     def differences(self) -> Sequence[Difference]:
@@ -124,6 +126,18 @@ def compare_output(runs: Sequence[HeldRun]) -> bool:
     return sorted(texts[0].splitlines()) != sorted(texts[1].splitlines())
 
 
+def find_unseen(runs: Sequence[HeldRun]) -> list[str]:
+    """The values of which the type or the size alone is compared, each with its call."""
+    found = (
+        f"{process} {it.told}: {it.unseen}"
+        for run in runs
+        for process in run.traces
+        for it in list_calls(run, process)
+        if it.unseen
+    )
+    return list(dict.fromkeys(found))
+
+
 def compare(runs: Sequence[HeldRun], targets: Sequence[Target]) -> Compared:
     """Compares two runs in which some calls were named."""
     others: list[Difference] = []
@@ -137,4 +151,5 @@ def compare(runs: Sequence[HeldRun], targets: Sequence[Target]) -> Compared:
         partings += [parting] if parting else []
     ends_otherwise = runs[0].status != runs[1].status
     found = compare_targets(runs, targets)
-    return Compared(found, others, partings, ends_otherwise, compare_output(runs))
+    wrote, unseen = compare_output(runs), find_unseen(runs)
+    return Compared(found, others, partings, ends_otherwise, wrote, unseen=unseen)

@@ -1,4 +1,5 @@
 """Runs a command again, with some calls held."""
+import math
 import os
 import re
 import signal
@@ -29,7 +30,8 @@ LEAST_ROOM = 1 << 16
 class Session:
     """What is run again: a command with libraries in each process; the folder for its runs, the
     file that all read as standard input, if any; the hosts that the processes are on, None for this
-    one alone; and how long holds may take."""
+    one alone; how long holds may take; and how long all runs may take together, in seconds, and
+    until when, by the clock of `time.monotonic`."""
 
     command: Sequence[str]
     libraries: Sequence[str]
@@ -37,6 +39,12 @@ class Session:
     source: Optional[str]
     hosts: Optional[list[str]]
     patience: Patience
+    within: float = math.inf
+    until: float = math.inf
+
+
+class OutOfTime(Exception):
+    """The runs have taken as long as they may together: no other begins."""
 
 
 @dataclass(eq=False)
@@ -127,8 +135,10 @@ def refuse_lost(folder: str, output: bytes) -> None:
 
 
 def run_held(session: Session, holds: Holds, name: str) -> HeldRun:
-    """Runs the command with some calls held, in a folder of this name. Raises Refused, NotRun,
-    OSError."""
+    """Runs the command with some calls held, in a folder of this name. Raises OutOfTime, Refused,
+    NotRun, OSError."""
+    if time.monotonic() > session.until:
+        raise OutOfTime
     folder = os.path.join(session.room, name)
     os.mkdir(folder)
     since, began = time.time(), time.monotonic()

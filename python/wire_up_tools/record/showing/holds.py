@@ -47,6 +47,13 @@ class Course:
     is_passed: bool = False
 
 
+def mark_compared(folder: str) -> None:
+    """Lets recorders know that a run in which nothing is held is compared with others. Raises
+    OSError."""
+    with open(os.path.join(folder, FILE), "wb"):
+        pass
+
+
 def write_holds(holds: Holds, folder: str, address: str, word: str) -> None:
     """Writes the file by which recorders know the server and the named calls. Raises OSError."""
     lines = [f"server {address} {word}"]

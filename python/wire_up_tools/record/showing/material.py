@@ -2,6 +2,7 @@
 import json
 import shlex
 import socket
+import time
 from collections.abc import Callable, Sequence
 from dataclasses import dataclass, field
 from datetime import datetime, timezone
@@ -54,11 +55,13 @@ class Material:
 
 @dataclass(eq=False)
 class Result:
-    """What came of it so far: lines for the head of the plan, and objects for JSON."""
+    """What came of it so far: lines for the head of the plan, objects for JSON, and how many races
+    and orders weren't tried for want of time."""
 
     head: list[str] = field(default_factory=list)
     races: list[dict[str, Any]] = field(default_factory=list)
     turned: list[dict[str, Any]] = field(default_factory=list)
+    untried: int = 0
 
 
 def tell_day() -> str:
@@ -79,7 +82,14 @@ def make_trial(asked: Asked, of: Material) -> Trial:
     seconds = of.first.seconds if of.first else None
     patience = Patience(asked.find_hold(seconds), asked.find_limit(seconds))
     session = Session(
-        of.command, of.libraries, of.room, asked.source, find_hosts(plan), patience
+        of.command,
+        of.libraries,
+        of.room,
+        asked.source,
+        find_hosts(plan),
+        patience,
+        asked.within,
+        time.monotonic() + asked.within,
     )
     traces = of.first.traces if of.first else {}
     plains = PlainRuns(session, list_plain(of))
@@ -106,5 +116,5 @@ def write_result(asked: Asked, of: Material, result: Result) -> None:
     head = [*result.head, *([say_command(asked, of)] if result.head else [])]
     write_whole(of.path, insert_in_head(of.text, head) if head else of.text)
     if asked.shown:
-        said = {"races": result.races, "turned": result.turned}
+        said = {"races": result.races, "turned": result.turned, "untried": result.untried}
         write_whole(asked.shown, json.dumps(said) + "\n")

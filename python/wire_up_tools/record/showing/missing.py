@@ -1,5 +1,5 @@
 """Why an order of two calls wasn't made."""
-from dataclasses import dataclass
+from dataclasses import dataclass, replace
 from typing import Optional
 
 from wire_up_tools.record.showing.held_runs import HeldRun
@@ -9,6 +9,8 @@ from wire_up_tools.record.showing.traces import TracedCall
 # What it means that a process stood in a call, or had left one; and that it went on.
 BY_LIBRARY = "ordered by this library alone, if at all: another one may show it"
 BY_OTHER_MEANS = "ordered by what isn't recorded, or not at all"
+# What it means where the plan has no race of the two.
+BY_PLAN = "the plan orders them so"
 WENT_ON = "a longer --hold may show it"
 IN_CALLBACK = "a callback of the library made it, where no call can be held"
 # Verbs of records whose ends aren't noted.
@@ -29,6 +31,12 @@ class Missed:
         return f"{self.why}: {self.meaning}" if self.meaning else self.why
 
 
+def explain_by_plan(missed: Optional[Missed]) -> Optional[Missed]:
+    """Why an order wasn't made of two calls that don't race in the plan."""
+    is_waiting = missed is not None and missed.meaning in (BY_LIBRARY, BY_OTHER_MEANS)
+    return replace(missed, meaning=BY_PLAN) if missed and is_waiting else missed
+
+
 def shorten(call: TracedCall) -> str:
     """What a call is, in few words."""
     words = mask(call.text).split(" ")
@@ -36,7 +44,7 @@ def shorten(call: TracedCall) -> str:
         return f"MPI_{words[1].capitalize()}"
     if words[0] in ("receive", "probe"):
         return f"a {words[0]} from {words[2]}, tag {words[3]}"
-    return call.name if call.is_of_pmix else " ".join(words[:4])
+    return call.told if call.is_of_pmix else " ".join(words[:4])
 
 
 def tell_standing(run: HeldRun, process: str, when: float) -> Missed:

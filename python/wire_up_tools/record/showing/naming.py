@@ -1,9 +1,11 @@
 """The names by which a call of one run is found again in another: what it is, and the how-manieth
 such call of its process. record/core/call_names.c makes the same ones."""
+import itertools
 import re
 from collections import Counter
-from collections.abc import Mapping, Sequence
+from collections.abc import Iterator, Mapping
 from dataclasses import dataclass
+from typing import Optional
 
 from wire_up_tools.failures import Refused
 from wire_up_tools.plan import Call, Plan
@@ -31,7 +33,8 @@ EVERY, EVERY_NAME = "every", "*"
 @dataclass(frozen=True)
 class Target:
     """A call that is held or waited for: its process and number in the plan; its job's number and
-    its rank, its name, and the how-manieth of that name it is, from 1; and its verb in the plan."""
+    its rank, its name, and the how-manieth of that name it is, from 1; and its verb in the plan.
+    One that the plan leaves out has the number 0, and says what it is in place of the verb."""
 
     process: str
     number: int
@@ -44,7 +47,17 @@ class Target:
     @property
     def place(self) -> str:
         """How findings name it."""
-        return f"{self.process} {self.number}"
+        return f"{self.process} {self.number or self.verb}"
+
+    @property
+    def what(self) -> str:
+        """Which call of its process it is, with its verb."""
+        return f"{self.number} {self.verb}" if self.number else self.verb
+
+    @property
+    def title(self) -> str:
+        """Its process, and which call of that it is."""
+        return f"{self.process} {self.what}"
 
     @property
     def key(self) -> tuple[str, int]:
@@ -121,19 +134,28 @@ class Naming:
         is_group = above.startswith(OF_GROUP)
         return call.remark is None and not is_group and not (self.marks and is_order)
 
+    def list_targets(self, process: str) -> Iterator[Optional[Target]]:
+        """The calls of a process of the plan, one after another; None for an order of MPI."""
+        job, _, rank = process.rpartition(":")
+        names: Counter[str] = Counter()
+        for call in self.plan.calls_of[process]:
+            if not self.is_of_program(call):
+                yield None
+                continue
+            name = name_line(call, self.renamed)
+            names[name] += 1
+            own = self.jobs.get(job, 0)
+            yield Target(process, call.number, own, int(rank), name, names[name], call.verb)
+
     def find(self, process: str, number: int) -> Target:
         """The target of a call. Raises Refused."""
-        calls: Sequence[Call] = self.plan.calls_of[process] if process in self.plan.calls_of else ()
-        if not 0 < number <= len(calls):
+        calls = self.list_targets(process) if process in self.plan.calls_of else iter(())
+        found = list(itertools.islice(calls, number))
+        if not 0 < number <= len(found):
             raise Refused(f"{process} {number}: this plan has no such call")
-        call = calls[number - 1]
-        if not self.is_of_program(call):
+        target = found[-1]
+        if target is None:
             raise Refused(f"{process} {number}: is an order of MPI, and no call of PMIx")
-        job, _, rank = process.rpartition(":")
-        own = [it for it in calls[:number] if self.is_of_program(it)]
-        names = Counter(name_line(it, self.renamed) for it in own)
-        name = name_line(call, self.renamed)
-        number_of_job = self.jobs.get(job, 0)
-        if not number_of_job and len(self.plan.declared.jobs) > 1:
+        if not target.job and len(self.plan.declared.jobs) > 1:
             raise Refused(f"{process} {number}: which of several jobs it is isn't known in a run")
-        return Target(process, number, number_of_job, int(rank), name, names[name], call.verb)
+        return target

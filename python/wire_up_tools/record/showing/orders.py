@@ -9,7 +9,7 @@ from wire_up_tools.record.showing.comparing import Compared, compare
 from wire_up_tools.record.showing.held_runs import HeldRun, Session, run_held
 from wire_up_tools.record.showing.holds import Holds, Until, Wait
 from wire_up_tools.record.showing.messages import Swap, find_swaps
-from wire_up_tools.record.showing.missing import Missed, find_missed
+from wire_up_tools.record.showing.missing import Missed, explain_by_plan, find_missed
 from wire_up_tools.record.showing.naming import Naming, Target
 from wire_up_tools.record.showing.plain_runs import PlainRuns, leave_out_own
 from wire_up_tools.record.showing.traces import Traces
@@ -17,6 +17,8 @@ from wire_up_tools.run.turns import read_steps
 
 SHOWN, SHOWN_LATER, ALIKE, NOT_MADE = "shown", "shown-later", "alike", "not-made"
 FIRST, SECOND = "first", "second"
+# How the line of `check` about two calls begins that don't race.
+NO_RACE = "no race"
 # How many other orders of messages are tried for each order of two calls.
 MOST_SWAPS = 8
 # The status with which `witness` answers where it shows a race.
@@ -33,6 +35,11 @@ class Race:
     number: int
 
     @property
+    def is_race(self) -> bool:
+        """Whether they race in the plan, as far as is known."""
+        return not self.line.startswith(NO_RACE)
+
+    @property
     def words(self) -> list[str]:
         """Its two calls, as `witness` takes them."""
         return [word for it in self.targets for word in (it.process, str(it.number))]
@@ -41,7 +48,8 @@ class Race:
 @dataclass(frozen=True, eq=False)
 class Shown:
     """What came of a race: a word for it, the two runs, why an order wasn't made, by which means
-    the orders were made besides one held call, and what differs."""
+    the orders were made besides one held call, what differs, and whether the runs are those in
+    which all calls on the name come in the orders of `witness`."""
 
     race: Race
     word: str
@@ -49,6 +57,14 @@ class Shown:
     missed: Sequence[Optional[Missed]]
     means: Sequence[str]
     compared: Compared
+    is_by_witness: bool = False
+
+    @property
+    def names(self) -> list[str]:
+        """What each of the two runs is called."""
+        if self.is_by_witness:
+            return ["first order", "second order"]
+        return [f"{it.place} first" for it in self.race.targets]
 
 
 @dataclass(frozen=True)
@@ -168,9 +184,11 @@ def try_witness(trial: Trial, race: Race) -> Optional[tuple[list[HeldRun], str]]
         for order, which in zip(orders, (FIRST, SECOND))
     ]
     late = sum(course.late is not None for run in runs for course in run.courses.values())
-    in_vain = f", {late} of them in vain" if late else ""
-    calls = f"{len(orders[0])} calls on the same name were held in the witness's orders{in_vain}"
-    return runs, f"{calls}: other calls may come in another order than by the two alone"
+    but = f", but {late} of them that waited in vain for their turn" if late else ""
+    return runs, (
+        f"holding one call made no difference: so all {len(orders[0])} calls on that name were "
+        f"made one after another, in the two orders of `wire_up witness`{but}"
+    )
 
 
 def try_race(trial: Trial, race: Race) -> Shown:
@@ -181,14 +199,15 @@ def try_race(trial: Trial, race: Race) -> Shown:
         for order, which in zip(orders, (FIRST, SECOND))
     ]
     runs, missed = [it.run for it in made], [it.missed for it in made]
+    missed = missed if race.is_race else list(map(explain_by_plan, missed))
     means = [f"with {it.swap}" for it in made if it.swap]
     compared = compare_made(trial, runs, race)
     word = find_word(missed, compared)
-    by_witness = try_witness(trial, race) if word == ALIKE else None
+    by_witness, is_by_witness = try_witness(trial, race) if word == ALIKE else None, False
     if by_witness:
         others = compare_made(trial, by_witness[0], race)
         means.append(by_witness[1])
         if not others.is_alike:
-            runs, compared = by_witness[0], others
+            runs, compared, is_by_witness = by_witness[0], others, True
             word = find_word(missed, compared)
-    return Shown(race, word, runs, missed, means, compared)
+    return Shown(race, word, runs, missed, means, compared, is_by_witness)

@@ -1,15 +1,16 @@
 """Pairs of calls that a plan orders, and of which the later could be answered otherwise if it came
 first."""
 import json
+import re
 from collections.abc import Iterable, Iterator, Mapping, Sequence
 from dataclasses import dataclass, field
 
 from wire_up_tools.checker import Checker
 from wire_up_tools.failures import Refused
 from wire_up_tools.plan import Call
-from wire_up_tools.record.showing.naming import Target
+from wire_up_tools.record.showing.naming import EVERY_NAME, Target
 from wire_up_tools.record.showing.orders import Trial
-from wire_up_tools.record.showing.traces import OF_LIBRARY
+from wire_up_tools.record.showing.traces import OF_LIBRARY, Traces
 from wire_up_tools.report.asking import Asker, stream_lines
 
 # Verbs of calls on names that change something, and of those that only ask; the last ones wait.
@@ -33,22 +34,37 @@ class Uses:
 def walk_uses(trial: Trial, rank: str) -> Iterator[tuple[Call, Use]]:
     """What the calls of a rank use, in their order."""
     stored: list[str] = []
+    published: list[str] = []
     for call in trial.plan.calls_of[rank]:
         if not trial.naming.is_of_program(call):
             continue
         if call.verb == "put":
             stored.append(call.about)
-        yield from ((call, it) for it in name_uses(call, stored))
+        if call.verb == "publish":
+            published.append(call.about)
+        is_of_all = call.verb == "unpublish" and call.about == EVERY_NAME
+        uses = [("name", it) for it in published] if is_of_all else name_uses(call, stored)
+        yield from ((call, it) for it in dict.fromkeys(uses))
         stored = [] if call.verb == "commit" else stored
 
 
-def list_uses(trial: Trial, verbs: Sequence[str]) -> Mapping[Use, Uses]:
+def list_limited(trial: Trial, traces: Traces) -> frozenset[str]:
+    """The calls of a plan that wait, but in a run for a short time at most."""
+    found = set()
+    for process, trace in traces.items():
+        limited = {key for it in trace.compared if it.gives_up for key in it.keys}
+        targets = trial.naming.list_targets(process) if limited else ()
+        found |= {it.place for it in targets if it and it.verb in WAIT and it.key in limited}
+    return frozenset(found)
+
+
+def list_uses(trial: Trial, verbs: Sequence[str], besides: frozenset[str]) -> Mapping[Use, Uses]:
     """The uses of each name and each key of a plan: of a key the commit that stores it counts.
-    Those that ask have one of some verbs."""
+    Those that ask have one of some verbs, or are some calls besides."""
     found: dict[Use, Uses] = {}
     for call, use in (it for rank in trial.plan.ranks for it in walk_uses(trial, rank.name)):
         uses = found.setdefault(use, Uses())
-        if call.verb in verbs:
+        if call.verb in verbs or call.name in besides:
             uses.asks.append(call)
         elif call.verb not in (*ASK, *WAIT):
             uses.changes.append(call)
@@ -84,28 +100,52 @@ def read_findings(trial: Trial, checker: Checker) -> set[frozenset[str]]:
     return found
 
 
-def sort_pair(trial: Trial, checker: Checker, pair: Sequence[Target]) -> Sequence[Target]:
-    """Two calls in the order that the plan gives them; none if it gives none."""
+def order_pair(trial: Trial, checker: Checker, calls: Sequence[Call]) -> Sequence[Target]:
+    """Two calls in the order that the plan gives them; none if it gives none. Raises Refused."""
+    pair = [trial.naming.find(it.rank.name, it.number) for it in calls]
     words = [word for it in pair for word in (it.process, str(it.number))]
     answer = checker.ask("why", "--json", *words, plan=trial.text.encode())
     before = json.loads(answer.stdout).get("before") if answer.stdout.startswith("{") else None
     return {"first": pair, "second": pair[::-1]}.get(before, ())
 
 
-def find_pairs(trial: Trial, verbs: Sequence[str]) -> Iterator[Pair]:
+def find_kind(pair: Sequence[Call]) -> frozenset[tuple[str, str]]:
+    """What two calls have in common with those that other ranks make in the same places of the
+    program; where these aren't known, on names that differ by a number."""
+    return frozenset((it.verb, it.place or re.sub(r"\d+", "#", it.about)) for it in pair)
+
+
+def list_raceless(
+    trial: Trial, checker: Checker, uses: Iterable[Uses]
+) -> Iterator[Sequence[Call]]:
+    """Two calls each that don't race, of which one could be answered otherwise by the other."""
+    known = read_findings(trial, checker)
+    for pair in (it for them in uses for it in list_candidates(them)):
+        names = frozenset(it.name for it in pair)
+        if names not in known:
+            known.add(names)
+            yield pair
+
+
+def find_pairs(
+    trial: Trial, verbs: Sequence[str], besides: frozenset[str] = frozenset()
+) -> Iterator[Pair]:
     """The pairs that the plan orders, the earlier call first, whose other one asks by one of some
-    verbs. Raises Refused without a checker."""
+    verbs, or is one of some calls: the first of each kind before the others. Raises Refused without
+    a checker."""
     checker = trial.checker
     if checker is None:
         raise Refused("--turn needs the program `wire_up`, which knows the order: see --checker")
-    known, done = read_findings(trial, checker), set()
-    uses = list_uses(trial, verbs).values()
-    for one, other in (it for them in uses for it in list_candidates(them)):
-        names = frozenset((one.name, other.name))
-        if names in known or names in done:
-            continue
-        done.add(names)
-        pair = [trial.naming.find(it.rank.name, it.number) for it in (one, other)]
-        ordered = sort_pair(trial, checker, pair)
+    kinds, left = set[object](), list[Sequence[Call]]()
+    uses = list_uses(trial, verbs, besides).values()
+    for pair in list_raceless(trial, checker, uses):
+        ordered = () if find_kind(pair) in kinds else order_pair(trial, checker, pair)
+        if ordered:
+            kinds.add(find_kind(pair))
+            yield ordered[0], ordered[1]
+        elif find_kind(pair) in kinds:
+            left.append(pair)
+    for pair in left:
+        ordered = order_pair(trial, checker, pair)
         if ordered:
             yield ordered[0], ordered[1]

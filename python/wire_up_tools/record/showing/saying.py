@@ -5,32 +5,31 @@ from typing import Any, Optional
 from wire_up_tools.record.showing.comparing import NEVER_CAME, Compared, Difference
 from wire_up_tools.record.showing.held_runs import HeldRun
 from wire_up_tools.record.showing.naming import Target
-from wire_up_tools.record.showing.orders import FIRST, NOT_MADE, SECOND, Shown
+from wire_up_tools.record.showing.orders import NOT_MADE, Shown
 from wire_up_tools.record.showing.strikes import find_held_seconds, tell_strikes
-from wire_up_tools.words import TRIED_IN_HEAD
+from wire_up_tools.words import BY_WITNESS, TRIED_IN_HEAD
 
 # How many differences are named of each kind.
 NAMED = 4
 # The verbs of calls that ask for something end so.
 ASKING = ("lookup", "lookup-wait", "get-now", "get")
 ENDED_ALIKE = "and they end alike"
+# What differs, in the first run and in the second.
+ANSWERED, GOES_ON = "answered otherwise:", "goes on otherwise:"
 # How long a call was held that this is said, in seconds.
 LEAST_HELD = 0.05
 # What else can have made a difference.
 ANOTHER = "another in each run:"
 PLAIN_TOO = "two plain runs differ too:"
 STRUCK = "a limit of time can have struck:"
+# What is said of values whose bytes no recording has.
+UNSEEN = "of this value no more was compared:"
 
 
 def say_reply(run: HeldRun, target: Target) -> str:
     """How a named call ended in a run."""
     call = run.find(target)
     return call.whole_reply if call else NEVER_CAME
-
-
-def name_call(target: Target) -> str:
-    """A call with its verb."""
-    return f"{target.place} {target.verb}"
 
 
 def say_differences(word: str, found: Sequence[Difference]) -> Iterator[str]:
@@ -49,11 +48,21 @@ def say_doubts(compared: Compared, strikes: Sequence[str]) -> Iterator[str]:
     yield from (f"  {STRUCK} {it}" for it in strikes)
 
 
+def say_unseen(compared: Compared) -> Iterator[str]:
+    """Lines that say, where nothing differs, which values weren't compared whole."""
+    if compared.is_alike:
+        for it in compared.unseen[:NAMED]:
+            yield f"  {UNSEEN} {it}"
+        if len(compared.unseen) > NAMED:
+            yield f"  {UNSEEN} {len(compared.unseen) - NAMED} more"
+
+
 def sum_up_doubts(compared: Compared, strikes: Sequence[str]) -> str:
     """The same in a few words."""
     doubts = [f"{ANOTHER} {it.process} {it.what}" for it in compared.own[:1]]
     doubts += [f"{PLAIN_TOO} {it.process} {it.what}" for it in compared.plain[:1]]
     doubts += [f"{STRUCK} {it}" for it in strikes[:1]]
+    doubts += [f"{UNSEEN} {it}" for it in compared.unseen[:1] if compared.is_alike]
     return "".join(f"; {it}" for it in doubts)
 
 
@@ -76,23 +85,24 @@ def say_ending(shown: Shown) -> str:
 
 def say_shown(shown: Shown) -> Iterator[str]:
     """The lines that say what came of a race."""
-    calls = ", ".join(map(name_call, shown.race.targets))
+    calls = ", ".join(it.title for it in shown.race.targets)
     yield f"{shown.word} {shown.race.line}: {calls}"
-    for which, run, missed in zip((FIRST, SECOND), shown.runs, shown.missed):
+    for name, run, missed in zip(shown.names, shown.runs, shown.missed):
         replies = " | ".join(say_reply(run, it) for it in shown.race.targets)
         seconds = find_held_seconds(run)
         held = f", held for {seconds:.1f} s" if seconds >= LEAST_HELD else ""
-        yield f"  {which} {replies} ({run.ending}, {run.seconds:.1f} s{held})"
+        yield f"  {name}: {replies} ({run.ending}, {run.seconds:.1f} s{held})"
         if missed:
             yield f"    not made: {missed}"
     yield from (f"  {it}" for it in shown.means)
     if shown.word == NOT_MADE:
         yield from (f"  {STRUCK} {it}" for it in list_strikes(shown))
         return
-    yield from say_differences("replies", shown.compared.others)
-    yield from say_differences("parts", shown.compared.partings)
+    yield from say_differences(ANSWERED, shown.compared.others)
+    yield from say_differences(GOES_ON, shown.compared.partings)
     if not shown.compared.is_alike:
         yield f"  {say_ending(shown)}"
+    yield from say_unseen(shown.compared)
     yield from say_doubts(shown.compared, list_strikes(shown))
 
 
@@ -108,7 +118,8 @@ def sum_up(shown: Shown) -> str:
     if not compared.is_alike:
         replies.append(say_ending(shown).replace(" | ", " and "))
     said = "; ".join(replies) or "both orders were made, and nothing differs"
-    return f"{said}{sum_up_doubts(compared, list_strikes(shown))}"
+    by_witness = f"; {BY_WITNESS}" if shown.is_by_witness else ""
+    return f"{said}{by_witness}{sum_up_doubts(compared, list_strikes(shown))}"
 
 
 def say_in_head(shown: Shown, day: str) -> str:
@@ -125,21 +136,22 @@ def list_differences(compared: Compared) -> dict[str, Any]:
         "own": compared.own,
         "plain": compared.plain,
     }
-    return {
+    told: dict[str, Any] = {
         kind: [
             {"proc": it.process, "what": it.what, "first": it.first, "second": it.second}
             for it in found
         ]
         for kind, found in kinds.items()
     }
+    return {**told, "compared_in_part": list(compared.unseen)}
 
 
 def make_json_of_run(
-    run: HeldRun, order: Sequence[Target], missed: Optional[object], targets: Sequence[Target]
+    run: HeldRun, first: Optional[str], missed: Optional[object], targets: Sequence[Target]
 ) -> dict[str, Any]:
-    """A run, for JSON: `order` begins with the call that was to be first."""
+    """A run, for JSON, with the place of the call that was to be first."""
     return {
-        "first": order[0].place,
+        "first": first,
         "replies": [say_reply(run, it) for it in targets],
         "status": run.status,
         "seconds": round(run.seconds, 1),
@@ -151,8 +163,8 @@ def make_json_of_run(
 def make_json(shown: Shown) -> dict[str, Any]:
     """What came of a race, for JSON."""
     targets = shown.race.targets
-    orders = (targets, targets[::-1])
-    runs = zip(shown.runs, orders, shown.missed)
+    firsts = [None if shown.is_by_witness else it.place for it in targets]
+    runs = zip(shown.runs, firsts, shown.missed)
     return {
         "finding": shown.race.line,
         "word": shown.word,

@@ -5,6 +5,7 @@ from collections.abc import Sequence
 from wire_up_tools.failures import Refused
 from wire_up_tools.record.running import Stopped
 from wire_up_tools.record.showing.asking import Asked
+from wire_up_tools.record.showing.held_runs import OutOfTime
 from wire_up_tools.record.showing.material import (
     Material,
     Result,
@@ -13,9 +14,9 @@ from wire_up_tools.record.showing.material import (
     tell_day,
     write_result,
 )
-from wire_up_tools.record.showing.orders import Race, Trial, try_race
-from wire_up_tools.record.showing.pairs import ASK, WAIT, Pair, find_pairs
-from wire_up_tools.record.showing.same_program import hold_to_plan
+from wire_up_tools.record.showing.orders import NO_RACE, Race, Trial, try_race
+from wire_up_tools.record.showing.pace import begin_pace, hold_command
+from wire_up_tools.record.showing.pairs import ASK, WAIT, Pair, find_pairs, list_limited
 from wire_up_tools.record.showing.saying import make_json, say_in_head, say_shown
 from wire_up_tools.record.showing.turning import (
     GAVE_UP,
@@ -29,20 +30,23 @@ from wire_up_tools.record.showing.turning import (
     sum_up_turn,
     turn_round,
 )
+from wire_up_tools.record.showing.unplanned import find_unplanned
 from wire_up_tools.report.asking import Asker, stream_lines
 from wire_up_tools.report.causes import find_causes
 from wire_up_tools.report.findings import Finding, Kind, find_groups
+from wire_up_tools.report.phrases import count_of
 from wire_up_tools.words import (
     ALL_PAIRS,
     EACH_RUN,
     EACH_RUN_SENTENCE,
+    LEFT_OUT,
     TRIED_STOPPED,
     TURNED_IN_VAIN,
     TURNED_ROUND,
 )
 
-NO_RACE = "no race"
-# What is said where nothing can be shown.
+# What is said where nothing can be turned round, or shown.
+NOTHING_TO_TURN = "the plan orders no pair of calls that could be answered otherwise"
 NOTHING_TO_SHOW = "there is no race to show"
 ONLY_REWRITES = (
     "there is no race to show: each finding is a put of a key that its rank had put before. One "
@@ -95,56 +99,54 @@ def find_races(trial: Trial, most: int, say: Say) -> list[Race]:
     return [make_race(trial, it, number) for number, it in enumerate(found[:most], 1)]
 
 
-def say_before(what: str, count: int, say: Say) -> None:
-    """Says what is done again, before it is."""
-    if count:
-        times = f"{count} times more at least" if count > 1 else "once more at least"
-        say(
-            f"{what}; the command runs {times}, and what it does to files and to others, it does "
-            "again"
-        )
-
-
-def hold_command(trial: Trial, say: Say) -> None:
-    """Runs the command of a plan that was recorded before once by itself, to see whether the plan
-    is of this command. Raises Refused, NotRun, OSError."""
-    if trial.plains.made:
-        return
-    say("the command runs once by itself first: what it does to files and to others, it does again")
-    said = hold_to_plan(trial, trial.plains.find()[0])
-    if said:
-        say(said)
-
-
 def try_races(trial: Trial, races: Sequence[Race], result: Result, say: Say) -> None:
     """Tries races, one after another, and says what came of each. Raises Refused, NotRun,
     OSError."""
-    if races:
-        hold_command(trial, say)
-    say_before(f"races that are tried: {len(races)}", RUNS * len(races), say)
-    for race in races:
-        shown = try_race(trial, race)
-        result.head.append(say_in_head(shown, tell_day()))
-        result.races.append(make_json(shown))
-        for line in say_shown(shown):
-            say(line)
+    if not races:
+        return
+    what = f"trying {count_of(len(races), 'race')}"
+    pace = begin_pace(trial, what, RUNS * len(races), 0, say)
+    try:
+        for number, race in enumerate(races):
+            pace.say_next(number, len(races))
+            shown = try_race(trial, race)
+            result.head.append(say_in_head(shown, tell_day()))
+            result.races.append(make_json(shown))
+            for line in say_shown(shown):
+                say(line)
+    except OutOfTime:
+        result.untried += pace.say_left("races", len(result.races), len(races))
 
 
 # --- orders that are turned round ---
 
 
+def may_turn(trial: Trial) -> bool:
+    """Whether there can be an order to turn round, as far as is known before a run: the plan has
+    one, or leaves something out. Raises Refused without a checker."""
+    has_pairs = next(find_pairs(trial, (*ASK, *WAIT)), None) is not None
+    return has_pairs or bool(trial.plains.made) or LEFT_OUT in trial.plan.declared.head
+
+
 def take_pairs(trial: Trial, asked: Asked, say: Say) -> tuple[list[Pair], bool]:
-    """The pairs that are turned round, at most so many; and whether these are all. Raises
-    Refused."""
-    pairs = find_pairs(trial, ASK)
+    """The pairs that are turned round, at most so many; and whether these are all. Raises Refused,
+    NotRun, OSError."""
+    traces = trial.plains.find()[0].traces
+    firsts, others = find_unplanned(trial, traces)
+    if firsts:
+        count = count_of(len(firsts) + len(others), "order")
+        say(f"{count} of calls that the plan leaves out can be turned round too")
+    pairs = itertools.chain(firsts, find_pairs(trial, ASK, list_limited(trial, traces)), others)
     found = list(itertools.islice(pairs, asked.most))
     are_all = next(pairs, None) is None
     if not are_all:
-        say(f"the plan orders more than {asked.most} pairs: {asked.most} are turned round (--most)")
-    if asked.turn_waits:
-        found += itertools.islice(
-            (it for it in find_pairs(trial, WAIT) if it[1].verb in WAIT), asked.turn_waits
+        say(
+            f"there are more than {asked.most} orders: {asked.most} are turned round, the first of "
+            "each kind before others (--most)"
         )
+    if asked.turn_waits:
+        waits = (it for it in find_pairs(trial, WAIT) if it[1].verb in WAIT and it not in found)
+        found += list(itertools.islice(waits, asked.turn_waits))
     return found, are_all
 
 
@@ -156,7 +158,7 @@ def say_kept(trial: Trial, kept: int, count: int, are_all: bool, say: Say) -> st
     if is_whole and EACH_RUN_SENTENCE in trial.plan.declared.head:
         say(f"{EACH_RUN}; orders that could change them, and that it kept: {count} of {count}")
     else:
-        say(f"orders that were turned round in vain: {kept} of {count}")
+        say(f"orders that the program kept, though calls were held back: {kept} of {count}")
     return f"# {TURNED_IN_VAIN} {tell_day()}: {kept} of {count} pairs{of_all}"
 
 
@@ -184,17 +186,20 @@ def turn_all(trial: Trial, asked: Asked, result: Result, say: Say) -> None:
     pairs, are_all = take_pairs(trial, asked, say)
     groups, turns = list(group_pairs(pairs)), list[Turn]()
     if not pairs:
-        say("the plan orders no pair of calls that could be answered otherwise")
+        say(NOTHING_TO_TURN)
         return
-    hold_command(trial, say)
-    say_before(f"orders that are turned round: {len(pairs)}", len(groups), say)
+    what = f"turning {count_of(len(pairs), 'order')} round"
+    pace = begin_pace(trial, what, len(groups), len(groups), say)
     try:
-        for number, (held, others) in enumerate(groups, 1):
-            for turn in turn_round(trial, held, others, f"turn-{number}"):
+        for number, (held, others) in enumerate(groups):
+            pace.say_next(number, len(groups))
+            for turn in turn_round(trial, held, others, f"turn-{number + 1}"):
                 turns.append(turn)
                 result.turned.append(make_json_of_turn(turn))
                 for line in say_turn(turn):
                     say(line)
+    except OutOfTime:
+        result.untried += pace.say_left("orders", len(turns), len(pairs))
     finally:
         result.head += say_turns(trial, turns, are_all and len(turns) == len(pairs), say)
 
@@ -208,12 +213,16 @@ def show(asked: Asked, of: Material, say: Say) -> None:
     result = Result()
     try:
         trial = make_trial(asked, of)
-        if asked.race:
-            try_races(trial, [find_asked_race(trial, asked.race)], result, say)
-        if asked.does_show:
-            try_races(trial, find_races(trial, asked.most, say), result, say)
-        if asked.does_turn:
+        races = [find_asked_race(trial, asked.race)] if asked.race else []
+        races += find_races(trial, asked.most, say) if asked.does_show else []
+        does_turn = asked.does_turn and may_turn(trial)
+        if does_turn or races:
+            trial = hold_command(trial, asked, say)
+        try_races(trial, races, result, say)
+        if does_turn:
             turn_all(trial, asked, result, say)
+        elif asked.does_turn:
+            say(NOTHING_TO_TURN)
     except Stopped as why:
         result.head.append(f"# {TRIED_STOPPED} {tell_day()} by signal {why.number}")
         raise

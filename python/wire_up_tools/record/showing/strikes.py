@@ -58,12 +58,12 @@ def find_polls(run: HeldRun) -> Iterator[tuple[str, Sequence[TracedCall]]]:
 def tell_strikes(run: HeldRun) -> list[str]:
     """What a limit of time can have ended while a call was held; nothing where none is seen."""
     found = [
-        f"{process} {it.name}: {it.reply} after {(it.ended or it.began) - it.began:.1f} s"
+        f"{process} {it.told}: {it.reply} after {(it.ended or it.began) - it.began:.1f} s"
         for process, it in find_given_up(run)
     ]
     for process, calls in find_polls(run):
         seconds = (calls[-1].ended or calls[-1].began) - calls[0].began
-        found.append(f"{process} {calls[0].name}: {len(calls)} times in {seconds:.1f} s")
+        found.append(f"{process} {calls[0].told}: {len(calls)} times in {seconds:.1f} s")
     if run.status in BY_ALARM and list_holds(run):
         found.append("an alarm ended a process")
     return found

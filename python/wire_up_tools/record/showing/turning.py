@@ -14,9 +14,12 @@ from wire_up_tools.record.showing.orders import Trial
 from wire_up_tools.record.showing.pairs import Pair
 from wire_up_tools.record.showing.plain_runs import leave_out_own
 from wire_up_tools.record.showing.saying import (
+    ANSWERED,
+    GOES_ON,
     list_differences,
-    name_call,
+    say_differences,
     say_doubts,
+    say_unseen,
     sum_up_doubts,
 )
 from wire_up_tools.record.showing.strikes import find_held_seconds, tell_strikes
@@ -42,7 +45,7 @@ class Turn:
     @property
     def name(self) -> str:
         """Its two calls."""
-        return f"{name_call(self.pair[0])}, {name_call(self.pair[1])}"
+        return f"{self.pair[0].title}, {self.pair[1].title}"
 
     @property
     def is_alarm(self) -> bool:
@@ -74,14 +77,15 @@ def judge_early(trial: Trial, run: HeldRun, held: Target, other: Target) -> Turn
     """A call that was over while the one before it was held. Raises Refused, NotRun, OSError."""
     runs = [*trial.plains.find(), run]
     compared = leave_out_own(compare(runs, [held, other]), runs, [held, other], trial.plains)
-    if other.verb in WAITING:
-        call = run.find(other)
-        took = (call.ended or call.began) - call.began if call else 0.0
-        said = call.reply if call else ""
-        return Turn((held, other), GAVE_UP, f"{said} after {took:.1f} s", compared)
+    call = run.find(other)
+    if call and other.verb in WAITING and not call.gives_up:
+        took = (call.ended or call.began) - call.began
+        why = f"the library ended the wait with {call.reply} after {took:.1f} s"
+        return Turn((held, other), GAVE_UP, why, compared)
     word = TURNED_ALIKE if compared.is_alike else TURNED
-    why = f"{run.ending}, held for {find_held_seconds(run):.1f} s"
-    return Turn((held, other), word, why, compared, tell_strikes(run))
+    why = f"the second was over first, while the other was held for {find_held_seconds(run):.1f} s"
+    told = f"{why}, and all calls are answered alike" if compared.is_alike else why
+    return Turn((held, other), word, f"{told} ({run.ending})", compared, tell_strikes(run))
 
 
 def tell_why_not(course: Course) -> str:
@@ -105,7 +109,7 @@ def turn_round(
             yield from (judge_kept(run, held, it) for it in left)
             return
         if course.gone is None or course.is_passed:
-            why = f"{held.place} {tell_why_not(course)} ({run.ending})"
+            why = f"{held.title} {tell_why_not(course)} ({run.ending})"
             yield from (Turn((held, it), NOT_TURNED, why) for it in left)
             return
         yield from (judge_early(trial, run, held, it) for it in early)
@@ -127,7 +131,9 @@ def say_turn(turn: Turn) -> Iterator[str]:
     if compared is None:
         return
     if turn.word != TURNED_ALIKE:
-        yield from (f"  {it}" for it in compared.differences)
+        yield from say_differences(ANSWERED, [*compared.targets, *compared.others])
+        yield from say_differences(GOES_ON, compared.partings)
+    yield from say_unseen(compared)
     yield from say_doubts(compared, turn.strikes)
 
 

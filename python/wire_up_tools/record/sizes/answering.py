@@ -14,6 +14,8 @@ from wire_up_tools.record.sizes.writing import find_places
 from wire_up_tools.words import NO_CALL_RACES
 
 EVERYWHERE = "every number of ranks on every placement"
+# On what a verdict for every number rests beside the pattern.
+GUESS = "that other numbers do the same is a guess"
 # The least number of ranks with three sides of 3: in a smaller grid one of three sides has 2 at
 # most, so that its ranks are neighbours of all others along it.
 LEAST_GRID = 27
@@ -64,7 +66,8 @@ def join_sizes(plans: Sequence[SizedPlan]) -> str:
 def say_origin(taken: Sequence[SizedPlan], held: Sequence[SizedPlan]) -> str:
     """From which sizes a pattern comes, and against which it was held."""
     against = join_sizes(held) if held else "none"
-    return f"from runs with {join_sizes(taken)} ranks, held against {against}"
+    runs = "runs" if len(taken) > 1 else "a run"
+    return f"from {runs} with {join_sizes(taken)} ranks, held against {against}"
 
 
 def place_calls(skeleton: Skeleton, verdict: Verdict) -> Sequence[Named]:
@@ -82,15 +85,21 @@ def place_calls(skeleton: Skeleton, verdict: Verdict) -> Sequence[Named]:
     return found
 
 
+def name_run(size: int) -> str:
+    """The name of a run."""
+    return f"the run with {size} ranks"
+
+
 def say_shown(answer: Answer) -> str:
-    """Whether a recording has what is found, or the pattern alone."""
+    """Whether a run has what is found, or the pattern alone."""
     if answer.shown:
         where = " on other placements of its ranks" if answer.shown.verdict.is_elsewhere else ""
         plan = answer.shown.plan
-        return f"the recording with {plan.size} ranks has it{where}: {plan.name}"
+        is_here = plan.name == name_run(plan.size)
+        return f"{name_run(plan.size)} has it{where}{'' if is_here else f': {plan.name}'}"
     return (
-        f"the pattern alone has it, with {answer.verdict.ranks} ranks, and no recording: it may "
-        "lack order that the program has"
+        f"the pattern alone has it, with {answer.verdict.ranks} ranks, and no run: it may lack "
+        "order that the program has"
     )
 
 
@@ -104,10 +113,10 @@ def list_notes(answer: Answer) -> list[str]:
     if inferred.failed:
         failed = inferred.failed.size
         found.append(f"a pattern of the smaller runs alone didn't hold for {failed} ranks")
-    if inferred.dropped:
+    if inferred.dropped and answer.findings and not answer.shown:
         found.append(
-            f"{inferred.dropped} times what ranks knew of others doesn't grow with their number, "
-            "and was left out"
+            "the pattern leaves out order: ranks knew of all others by no more messages than with "
+            f"fewer ranks, so that with more they may not; run more, such as {LEAST_GRID}"
         )
     if inferred.needs_messages and not answer.findings:
         found += say_rest([*answer.taken, *answer.held])
@@ -125,13 +134,13 @@ def say_unanswered(verdict: Verdict) -> list[str]:
 
 def say_rest(plans: Sequence[SizedPlan]) -> list[str]:
     """That the verdict rests on the order of MPI, and which size tells more."""
-    said = "the verdict rests on the order of messages of MPI in these runs"
+    said = "without the messages of MPI there would be a race"
     most = max(plans, key=lambda it: it.size)
     if most.size >= LEAST_GRID:
         return [said]
     return [
-        f"{said}: in a grid of {most.size} ranks a side may have 2, where each rank hears of all; "
-        f"run a larger size too, such as {LEAST_GRID}"
+        f"{said}: if the ranks form a grid, a side of {most.size} ranks may be so short that each "
+        f"hears of all others, which a larger run would show, such as one with {LEAST_GRID}"
     ]
 
 
@@ -146,7 +155,10 @@ def list_lines(answer: Answer) -> list[str]:
         ]
         counted = f"findings {len(answer.findings)}"
         first = [*answer.findings, *calls, counted, say_shown(answer)]
-    return [*first, say_origin(answer.taken, answer.held), *list_notes(answer)]
+    rests = say_origin(answer.taken, answer.held)
+    if not answer.findings:
+        rests += f"; {GUESS}{'' if answer.held else ', which one more size would test'}"
+    return [*first, rests, *list_notes(answer)]
 
 
 def write_answer(answer: Answer) -> str:

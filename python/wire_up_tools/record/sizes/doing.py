@@ -22,6 +22,7 @@ from wire_up_tools.record.sizes.answering import (
     Answer,
     Shown,
     list_notes,
+    name_run,
     say_origin,
     write_answer,
     write_json,
@@ -33,11 +34,14 @@ from wire_up_tools.record.sizes.judging import (
     CLEAN,
     FOUND,
     Verdict,
+    count_racing,
     find_judge,
     judge_pattern,
     judge_plan,
 )
 from wire_up_tools.record.sizes.plans import SizedPlan, can_race, take_plan
+from wire_up_tools.record.sizes.scripts import Unfit
+from wire_up_tools.record.sizes.writing import find_mark
 from wire_up_tools.record.writing import list_notes as list_plan_notes
 from wire_up_tools.record.writing import is_by_mpi_alone, say_luck, say_own_code, write_plan
 from wire_up_tools.words import (
@@ -51,6 +55,11 @@ from wire_up_tools.words import (
 
 STANDARD_ERROR = 2
 GUESS = "That other numbers do the same is a guess."
+TOO_MANY = (
+    "no pattern of these runs can be judged: its ranks choose whom they call, in more ways than "
+    "are tried"
+)
+SAYS_ORDER = "Who waits for a name that begins with {}. knows by MPI that another rank came there."
 # What is said before why a verdict says less of the program.
 DOUBTS = {
     MORE_ORDERED: "a verdict holds only in part:",
@@ -99,10 +108,10 @@ def run_sizes(asked: SizesRequest, choices: Choices, folder: str) -> Iterator[Ma
             if status or is_stopped:
                 how = f"with status {status}" if status >= 0 else f"by signal {-status}"
                 how += ", after a signal came" if is_stopped else ""
-                raise Refused(f"the run with {size} ranks ended {how}: no pattern is made")
-            made = make_sized(f"the run with {size} ranks", [recordings], choices)
+                raise Refused(f"{name_run(size)} ended {how}: no pattern is made")
+            made = make_sized(name_run(size), [recordings], choices)
             if made.sized.size != size:
-                raise Refused(f"the run with {size} ranks has {made.sized.size} processes")
+                raise Refused(f"{name_run(size)} has {made.sized.size} processes")
             yield made
     finally:
         if not asked.kept:
@@ -145,12 +154,12 @@ def answer(checker: Checker, taken: Sequence[Made], held: Sequence[Made]) -> Ans
     ours, others = [it.sized for it in taken], [it.sized for it in held]
     if not any(can_race(it.sized) for it in every):
         return Answer(ours, others, None, Verdict([]), in_part=in_part)
-    found = infer(ours, others, lambda text: not judge_pattern(checker, text).findings)
+    found = infer(ours, others, lambda text: count_racing(checker, text))
     shown = find_shown(checker, every)
-    if isinstance(found, Inferred):
+    if isinstance(found, Inferred) and found.racing is not None:
         verdict = judge_pattern(checker, found.text, ANSWERS)
         return Answer(found.taken, found.held, found, verdict, shown, in_part=in_part)
-    unfit = f"no pattern fits these runs: {found}"
+    unfit = f"no pattern fits these runs: {found}" if isinstance(found, Unfit) else TOO_MANY
     if not shown:
         raise Refused(unfit)
     return Answer(ours, others, None, Verdict([]), shown, unfit, in_part)
@@ -178,11 +187,18 @@ def join_notes(runs: Sequence[Made]) -> Iterator[tuple[str, Sequence[str]]]:
         yield title, [f"{count} {what}" for what, count in sorted(counts.items())]
 
 
+def say_order(inferred: Inferred) -> Sequence[str]:
+    """What the names in a pattern are that stand for the order of MPI, if it has some."""
+    mark = find_mark(inferred.skeleton)
+    return [SAYS_ORDER.format(mark)] if f" {mark}." in inferred.text else []
+
+
 def write_head(found: Answer, runs: Sequence[Made]) -> str:
     """The head of the pattern: what it comes from, and what it can't say."""
     last = runs[-1].plan
     lines = [f"{PATTERN_BY}, {say_origin(found.taken, found.held)}. {GUESS}"]
     lines += [it for it in list_notes(found) if it not in found.in_part]
+    lines += say_order(found.inferred) if found.inferred else []
     own = say_own_code if all(is_by_mpi_alone(it.plan) for it in runs) else say_luck
     lines += dict.fromkeys(it.removeprefix("# ") for say in (say_luck, own) for it in say(last))
     for title, them in join_notes(runs):

@@ -19,13 +19,21 @@ from wire_up_tools.record.sizes.leaning import (
     take_fences_as_order,
 )
 from wire_up_tools.record.sizes.plans import SizedPlan, index_plan
-from wire_up_tools.record.sizes.scripts import Instance, Skeleton, Unfit, find_skeleton, fit
+from wire_up_tools.record.sizes.scripts import (
+    Instance,
+    Skeleton,
+    Unfit,
+    find_scripts,
+    fit,
+    list_ways,
+)
 from wire_up_tools.record.sizes.writing import write_pattern
 
 # The two forms of a call, of which its reply decides: it waited, or it found what there was.
 TWINS = {"get": "get-now", "get-now": "get", "lookup": "lookup-wait", "lookup-wait": "lookup"}
-# Whether nothing is found in a pattern, by its text.
-IsClean = Callable[[str], bool]
+# How many ranks the first plan of a pattern has in which something is found, by its text: 0 if
+# nothing is found, None if it can't be judged.
+Judge = Callable[[str], Optional[int]]
 
 
 @dataclass(frozen=True)
@@ -33,12 +41,15 @@ class Inferred:
     """A pattern: its text without a head, from which plans it comes, which others hold it, and the
     plan that didn't hold a first one, if there is one. `dropped` counts the claims that don't grow
     with the ranks. If the pattern `needs_messages`, something is found without what ranks of a
-    group know, or what is known of them, by messages and by fences that aren't of all ranks."""
+    group know, or what is known of them, by messages and by fences that aren't of all ranks. With
+    all that something is found with so many `racing` ranks; 0 if nothing is, None if that isn't
+    known."""
 
     text: str
     skeleton: Skeleton
     dropped: int
     needs_messages: bool
+    racing: Optional[int]
     taken: Sequence[SizedPlan]
     held: Sequence[SizedPlan]
     failed: Optional[SizedPlan] = None
@@ -50,14 +61,40 @@ def index_all(plans: Sequence[SizedPlan]) -> Sequence[SizedPlan]:
     return [index_plan(it, places) for it in plans]
 
 
-def infer_way(
-    taken: Sequence[SizedPlan], larger: Sequence[SizedPlan], is_clean: IsClean
+def infer_ways(
+    taken: Sequence[SizedPlan], larger: Sequence[SizedPlan], judge: Judge
 ) -> Union[Inferred, Unfit]:
-    """The pattern of plans, which the larger ones hold; or where it breaks. Of MPI's order it has
-    nothing, or else only that of fences of all ranks, if nothing is found without the rest."""
-    skeleton = find_skeleton(taken)
-    if isinstance(skeleton, Unfit):
-        return skeleton
+    """The pattern of plans, which the larger ones hold, by the first way to part ranks into roles
+    that has one in which nothing is found, with as few ranks as something is found by the ways
+    before; or else by the first that has one, if it can be judged; or where it breaks."""
+    racy, unjudged, unfit, broken = list[Inferred](), list[Inferred](), list[Unfit](), list[Unfit]()
+    for way in list_ways(taken):
+        skeleton = find_scripts(taken, way)
+        if isinstance(skeleton, Unfit):
+            broken.append(skeleton)
+            continue
+        found = infer_way(skeleton, taken, larger, judge)
+        if isinstance(found, Unfit):
+            unfit.append(found)
+        elif found.racing is None:
+            unjudged.append(found)
+        elif found.racing:
+            racy.append(found)
+        elif all((it.racing or 0) >= len(way) for it in racy):
+            return found
+    kept = [*racy, *unjudged]
+    return kept[0] if kept else (unfit or [max(broken, key=lambda it: it.number)])[0]
+
+
+def infer_way(
+    skeleton: Skeleton,
+    taken: Sequence[SizedPlan],
+    larger: Sequence[SizedPlan],
+    judge: Judge,
+) -> Union[Inferred, Unfit]:
+    """The pattern of the scripts of plans, which the larger ones hold; or where it breaks. Of MPI's
+    order it has nothing, or else only that of fences of all ranks, if nothing is found without the
+    rest."""
     fitted = list[Instance]()
     for it in larger:
         instance = fit(it, skeleton.way, skeleton.scripts)
@@ -67,13 +104,15 @@ def infer_way(
     of_fences, _ = find_claims(change_plans(skeleton, keep_whole_fences), fitted)
     for claims in ([], of_fences):
         text = write_pattern(skeleton, claims)
-        if why_other(fitted, claims) is None and is_clean(text):
-            return Inferred(text, skeleton, 0, False, taken, larger)
+        if why_other(fitted, claims) is None and judge(text) == 0:
+            return Inferred(text, skeleton, 0, False, 0, taken, larger)
     claims, dropped = find_claims(skeleton, fitted)
     text = write_pattern(skeleton, claims)
     groups = {it.name for it in skeleton.roles if it.is_group}
     of_many = any(groups & {it.role, it.source} for it in claims)
-    return why_other(fitted, claims) or Inferred(text, skeleton, dropped, of_many, taken, larger)
+    return why_other(fitted, claims) or Inferred(
+        text, skeleton, dropped, of_many, judge(text), taken, larger
+    )
 
 
 def change_plans(skeleton: Skeleton, change: Callable[[SizedPlan], SizedPlan]) -> Skeleton:
@@ -94,7 +133,7 @@ def why_other(fitted: Sequence[Instance], claims: Sequence[Claim]) -> Optional[U
 
 
 def infer_once(
-    taken: Sequence[SizedPlan], larger: Sequence[SizedPlan], is_clean: IsClean
+    taken: Sequence[SizedPlan], larger: Sequence[SizedPlan], judge: Judge
 ) -> Union[Inferred, Unfit]:
     """The pattern of plans, which the larger ones hold, with the fences of the program as they are,
     or else with those for order that collect nothing; or where the first breaks."""
@@ -102,7 +141,7 @@ def infer_once(
     lean = [part_fences(make_lean(it)) for it in (*taken, *larger)]
     for changed in (lean, [take_fences_as_order(it) for it in lean]):
         plans = index_all(changed)
-        found = infer_way(plans[:len(taken)], plans[len(taken):], is_clean)
+        found = infer_ways(plans[:len(taken)], plans[len(taken):], judge)
         if isinstance(found, Inferred):
             return found
         unfit = unfit or found
@@ -111,16 +150,16 @@ def infer_once(
 
 
 def infer(
-    taken: Sequence[SizedPlan], larger: Sequence[SizedPlan], is_clean: IsClean
+    taken: Sequence[SizedPlan], larger: Sequence[SizedPlan], judge: Judge
 ) -> Union[Inferred, Unfit]:
     """The pattern of plans, which the larger ones hold. Where one doesn't, the pattern is made anew
     with all of them. Answers where their calls fit no script, if they don't."""
-    found = infer_once(taken, larger, is_clean)
+    found = infer_once(taken, larger, judge)
     if isinstance(found, Inferred):
         return found
     if not larger:
         return explain(found, taken)
-    again = infer_once([*taken, *larger], [], is_clean)
+    again = infer_once([*taken, *larger], [], judge)
     if isinstance(again, Inferred):
         return replace(again, failed=found.plan)
     return explain(again, [*taken, *larger])

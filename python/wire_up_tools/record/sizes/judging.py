@@ -63,6 +63,15 @@ def judge_pattern(checker: Checker, text: str, *options: str) -> Verdict:
     return Verdict([], waiting=said["waits"], failing=failing)
 
 
+def count_racing(checker: Checker, text: str) -> Optional[int]:
+    """How many ranks the first plan of a pattern has in which something is found; 0 if nothing is
+    found, None where the checker refuses it, as one with too many choices. Raises OSError."""
+    try:
+        return judge_pattern(checker, text).ranks
+    except Refused:
+        return None
+
+
 def find_judge(path: str) -> Checker:
     """The checker at a path. Raises Refused if it can't be run or judges no patterns."""
     checker = Checker(path)

@@ -13,14 +13,16 @@ from wire_up_tools.record.patterns.finding import (
     order_turns,
     tell_all,
 )
+from wire_up_tools.record.patterns.indexing import spell_words
 from wire_up_tools.record.patterns.scripts import FIRST, GROUP, OTHERS, Role, Roles, Said, Script
-from wire_up_tools.record.sizes.plans import SizedPlan
+from wire_up_tools.record.sizes.plans import Call, SizedPlan
 
-# Which ranks have a role of their own, by their places; -1 is the last. The first way that fits is
-# taken.
+# Which ranks have a role of their own, by their places; -1 is the last.
 Way = Sequence[int]
-WAYS: Sequence[Way] = ((), (0,), (0, 1), (-1,), (0, -1))
+WAYS: Sequence[Way] = ((), (0,), (0, 1), (-1,), (0, -1), (0, 1, -1))
 NAMES = {0: FIRST, 1: "second", -1: "last"}
+# Why calls don't fit, if there is no more to say.
+NO_SCRIPT = "no script of all ranks in all runs has that"
 
 
 def part_ranks(ranks: Sequence[str], job: str, way: Way) -> Roles:
@@ -82,10 +84,18 @@ class Unfit:
 
     def __str__(self) -> str:
         calls = self.plan.list_program(self.rank)
-        has_it = self.number <= len(calls)
-        what = f"`{' '.join(calls[self.number - 1].words)}`" if has_it else "it has no more calls"
-        why = f": {self.why}" if self.why else ""
-        return f"with {self.plan.size} ranks, call {self.number} of {self.rank}: {what}{why}"
+        if not calls:
+            what = "makes no call that counts"
+        elif self.number <= len(calls):
+            what = f"calls {name_call(calls[self.number - 1])}"
+        else:
+            what = f"makes no call that counts behind {name_call(calls[-1])}"
+        return f"with {self.plan.size} ranks, {self.rank} {what}: {self.why or NO_SCRIPT}"
+
+
+def name_call(call: Call) -> str:
+    """A call, and where in the program it comes from if that is known."""
+    return f"`{spell_words(call.words)}`{f' at {call.place}' if call.place else ''}"
 
 
 def tell_plan(plan: SizedPlan, roles: Roles) -> Union[Sequence[Told], Broken]:
@@ -171,18 +181,6 @@ def find_scripts(plans: Sequence[SizedPlan], way: Way) -> Union[Skeleton, Unfit]
         scripts[role.name] = found
     fitted = [fit(it, way, scripts) for it in plans]
     return Skeleton(way, parted[0].all, scripts, [it for it in fitted if isinstance(it, Instance)])
-
-
-def find_skeleton(plans: Sequence[SizedPlan]) -> Union[Skeleton, Unfit]:
-    """The scripts of plans by the first way to part ranks into roles that has some; or where the
-    way that goes furthest breaks."""
-    unfit = list[Unfit]()
-    for way in list_ways(plans):
-        found = find_scripts(plans, way)
-        if isinstance(found, Skeleton):
-            return found
-        unfit.append(found)
-    return max(unfit, key=lambda it: it.number)
 
 
 def list_ways(plans: Sequence[SizedPlan]) -> Iterator[Way]:

@@ -1,8 +1,0 @@
-use Rattle.std.proofs.Common.{◌≡◌, ◌++◌, drop}
-use Rattle.wire_core.specs.Course.{state_of}
-use Rattle.wire_explain.specs.Standstill.{lines_of}
-use Rattle.wire_explain.proofs.standstill.push_lines.Given as goal
-
-abbrev pub invariant-loop-rank : goal.invariant-loop-rank
-invariant-loop-rank l =
-    l.out.items ++ lines_of l.core.scripts (state_of l.core) (drop l.rank-index l.ranks) ≡ l.initial.out.items ++ lines_of l.core.scripts (state_of l.core) l.ranks

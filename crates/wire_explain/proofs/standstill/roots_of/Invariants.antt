@@ -1,7 +1,0 @@
-use Rattle.std.proofs.Common.{◌≡◌}
-use Rattle.wire_core.specs.Course.{plan_in, state_of}
-use Rattle.wire_explain.specs.Standstill.{roots_below}
-use Rattle.wire_explain.proofs.standstill.roots_of.Given as goal
-
-abbrev pub invariant-loop-number : goal.invariant-loop-number
-invariant-loop-number l = l.roots.items ≡ roots_below (plan_in l.core) (state_of l.core) l.waits l.number

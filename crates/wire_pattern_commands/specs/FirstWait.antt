@@ -1,0 +1,116 @@
+-- The first instance of a pattern in which a rank waits for ever, and what is told of it.
+use Rattle.std.specs.Prelude.{◌≡◌, ◌≢◌, ◌<◌, ◌-◌, ◌==◌, ℕ, Bool, true, false, List, [], ◌∷◌, ◌++◌, Some, Ok, MatchOption, Option, take, length, slice_get, codes, decimal, if◌then◌else◌}
+use Rattle.wire_content.specs.Scripts.{Scripts}
+use Rattle.wire_script.specs.declared.Size.TheVariants.{OfVersion}
+use Rattle.wire_script.specs.Reads.{Reads}
+use Rattle.wire_core.specs.EndsAfter.{plain_ends}
+use Rattle.wire_pattern.specs.Pattern.{Role, Pattern}
+use Rattle.wire_pattern.specs.Instances.{instance_text}
+use Rattle.wire_pattern_waits.specs.Waits.{alone}
+use Rattle.wire_standstill.specs.Told.{TellsStandstill, ListsStandstill}
+use Rattle.wire_sweep.specs.Selections.{Selection, selections}
+use Rattle.wire_json.specs.Json.{quoted}
+use Rattle.wire_pattern_commands.specs.Strings.{text_string}
+use Rattle.wire_pattern_commands.specs.declared.first_wait.FirstWait.{FirstWait}
+
+-- in the instance of this selection, each process on a node of its own, no rank waits where the plain run can't go on
+pub record RunsThrough (p : Pattern) (selection : Selection) : Type 0 where
+  pub scripts : Scripts
+  pub reads : Reads OfVersion (instance_text p (alone p selection)) (Ok scripts)
+  pub none : (plain_ends scripts).waiting ≡ 0
+
+-- one does there: how many ranks each role has, the text of the instance, and what that reads as
+pub record StandsAs (p : Pattern) (selection : Selection) (sizes text : List ℕ) (scripts : Scripts) : Type 0 where
+  pub sizes_are : sizes ≡ selection.sizes
+  pub text_is : text ≡ instance_text p (alone p selection)
+  pub reads : Reads OfVersion text (Ok scripts)
+  pub some : (plain_ends scripts).waiting ≢ 0
+
+-- in no instance that is judged a rank waits
+abbrev pub AllRunThrough : Pattern → Type 0
+AllRunThrough p = (number : ℕ) (selection : Selection) → slice_get (selections p) number ≡ Some selection → RunsThrough p selection
+
+-- the first instance that is judged in which one does
+pub record IsFirstWait (p : Pattern) (sizes text : List ℕ) (scripts : Scripts) : Type 0 where
+  pub number : ℕ
+  pub selection : Selection
+  pub is : slice_get (selections p) number ≡ Some selection
+  pub stands : StandsAs p selection sizes text scripts
+  pub before : (i : ℕ) (other : Selection) → i < number → slice_get (selections p) i ≡ Some other → RunsThrough p other
+
+-- how many ranks a group has; nothing of a role of one rank
+abbrev pub size_words : Role → ℕ → List ℕ
+size_words role size = if role.single then [] else codes ", " ++ (role.name ++ (codes "=" ++ decimal size))
+
+-- so for all groups
+abbrev pub sizes_words : List Role → List ℕ → List ℕ
+sizes_words [] sizes = []
+sizes_words (role ∷ roles) [] = []
+sizes_words (role ∷ roles) (size ∷ sizes) = size_words role size ++ sizes_words roles sizes
+
+-- so many ranks
+abbrev pub count_words : ℕ → List ℕ
+count_words count = decimal count ++ (if count == 1 then codes " rank" else codes " ranks")
+
+-- how many ranks the instance has, and each of its groups
+abbrev pub with_words : Pattern → List ℕ → Scripts → List ℕ
+with_words p sizes scripts = count_words (length scripts.processes) ++ sizes_words p.roles sizes
+
+-- the line above who waits
+abbrev pub first_line : Pattern → List ℕ → Scripts → List ℕ
+first_line p sizes scripts = codes "ranks wait for ever with " ++ (with_words p sizes scripts ++ codes ":\n")
+
+-- nothing is added where no rank waits; else lines that tell who waits for ever in the first instance in which one does
+pub data AddsLines (p : Pattern) (verdict text : List ℕ) : Type 0 where
+  NoLines : AllRunThrough p → text ≡ verdict → AddsLines p verdict text
+  WaitLines : (sizes plan_text told : List ℕ) (scripts : Scripts) → IsFirstWait p sizes plan_text scripts → TellsStandstill scripts told
+      → text ≡ verdict ++ (first_line p sizes scripts ++ told) → AddsLines p verdict text
+
+-- an object without the brace that closes it and the line feed
+abbrev pub without_end : List ℕ → List ℕ
+without_end object = take (length object - 2) object
+
+-- the text of the plan as one string, and how many ranks it has
+abbrev pub plan_members : Pattern → List ℕ → List ℕ → Scripts → List ℕ
+plan_members p sizes text scripts =
+    codes "\"plan\":" ++ (text_string text ++ (codes ",\"with\":" ++ (quoted (with_words p sizes scripts) ++ codes "}}\n")))
+
+-- the same as a last member of the object
+pub data AddsMember (p : Pattern) (verdict text : List ℕ) : Type 0 where
+  NullMember : AllRunThrough p → text ≡ without_end verdict ++ codes ",\"where\":null}\n" → AddsMember p verdict text
+  WaitMember : (sizes plan_text members : List ℕ) (scripts : Scripts) → IsFirstWait p sizes plan_text scripts → ListsStandstill scripts members
+      → text ≡ without_end verdict ++ (codes ",\"where\":" ++ (members ++ plan_members p sizes plan_text scripts)) → AddsMember p verdict text
+
+-- what becomes of a verdict, in lines or as JSON, where it is to be explained, and where it isn't
+abbrev pub Explains : (explain json : Bool) → Pattern → List ℕ → List ℕ → Type 0
+Explains false json p verdict text = text ≡ verdict
+Explains true false p verdict text = AddsLines p verdict text
+Explains true true p verdict text = AddsMember p verdict text
+
+-- the rest is for private contracts alone
+
+-- the instance of a selection, where a rank waits in it
+abbrev pub IsWaitOf : Pattern → Selection → Option FirstWait → Type 0
+IsWaitOf p selection found = MatchOption found (RunsThrough p selection) (λ it. StandsAs p selection it.sizes.items it.text.items it.plan)
+
+-- the first instance in which one does, if there is one
+abbrev pub IsFirstOf : Pattern → Option FirstWait → Type 0
+IsFirstOf p found = MatchOption found (AllRunThrough p) (λ it. IsFirstWait p it.sizes.items it.text.items it.plan)
+
+-- the lines about it
+pub record TellsFirst (p : Pattern) (first : FirstWait) (text : List ℕ) : Type 0 where
+  pub told : List ℕ
+  pub tells : TellsStandstill first.plan told
+  pub is : text ≡ first_line p first.sizes.items first.plan ++ told
+
+-- the member about it
+pub record ListsFirst (p : Pattern) (first : FirstWait) (text : List ℕ) : Type 0 where
+  pub members : List ℕ
+  pub lists : ListsStandstill first.plan members
+  pub is : text ≡ codes ",\"where\":" ++ (members ++ plan_members p first.sizes.items first.text.items first.plan)
+
+abbrev pub LinesOf : Pattern → Option FirstWait → List ℕ → Type 0
+LinesOf p found text = MatchOption found (text ≡ []) (λ first. TellsFirst p first text)
+
+abbrev pub MemberOf : Pattern → Option FirstWait → List ℕ → Type 0
+MemberOf p found text = MatchOption found (text ≡ codes ",\"where\":null}\n") (λ first. ListsFirst p first text)

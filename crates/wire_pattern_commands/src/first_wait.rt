@@ -1,0 +1,121 @@
+//! The first instance of a pattern in which a rank waits for ever.
+
+ghost use Rattle.std.specs.Prelude.{◌≡◌, ◌≢◌, ◌<◌, ◌^◌, ◌==◌, not, map, IfOk, IfErr, MatchOption};
+ghost use Rattle.wire_types.specs.declared.Fault.TheVariants.{Memory};
+ghost use Rattle.wire_core.specs.EndsAfter.{plain_ends};
+ghost use Rattle.wire_sweep.specs.Judged.{IsJudgeFault};
+ghost use Rattle.wire_sweep.specs.Selections.{selections, most_sizes};
+ghost use Rattle.wire_sweep.specs.Shown.{selection_by};
+ghost use Rattle.wire_sweep_laws.specs.Sizes.{AreFewSizes, total_of};
+ghost use Rattle.wire_pattern_commands.specs.FirstWait.{IsWaitOf, IsFirstOf};
+
+use std::alloc::Global;
+use wire_content::Scripts;
+use wire_core::plain_outcome;
+use wire_pattern::Pattern;
+use wire_plan::Plan;
+use wire_sweep::{Selection, all_selections, cast_for, instance_scripts};
+use wire_types::Fault;
+
+/// An instance in which a rank waits for ever: how many processes each role has, the text of its plan, and what that
+/// reads as.
+pub(crate) struct FirstWait {
+    pub(crate) sizes: Vec<u32>,
+    pub(crate) text: Vec<u8>,
+    pub(crate) plan: Plan,
+}
+
+// By hand and not derived: so dropping one is a call, and the proof of a function that drops one doesn't take it apart.
+impl Drop for FirstWait {
+    fn drop(self) {
+        let FirstWait {
+            sizes: _,
+            text: _,
+            plan: _,
+        } = self;
+    }
+}
+
+/// Whether a rank waits where the plain run of a plan can't go on.
+fn has_waits(alloc: Global, plan: &Plan) -> Result<bool, Fault>
+    ensures ok { IfOk result (λ waits. waits ≡ not ((plain_ends plan.now).waiting == 0)) }
+    ensures err { IfErr result (λ e. e ≡ Memory) }
+{
+    let outcome = plain_outcome(alloc, plan)?;
+    Ok(outcome.waiting != 0)
+}
+
+/// An instance of these sizes and with this text, that reads as these scripts, where a rank waits in it.
+fn wait_in(
+    alloc: Global,
+    sizes: Vec<u32>,
+    text: Vec<u8>,
+    scripts: Scripts,
+) -> Result<Option<FirstWait>, Fault>
+    ensures ok { IfOk result (λ found. MatchOption found ((plain_ends scripts).waiting ≡ 0)
+        (λ it. (it.sizes ≡ sizes) × (it.text ≡ text) × (it.plan ≡ scripts) × ((plain_ends scripts).waiting ≢ 0))) }
+    ensures err { IfErr result (λ e. e ≡ Memory) }
+{
+    let plan = Plan::build(alloc, scripts)?;
+    match has_waits(alloc, &plan) {
+        Ok(waits) => {
+            if !waits {
+                drop(plan);
+                return Ok(None);
+            }
+            Ok(Some(FirstWait { sizes, text, plan }))
+        }
+        Err(fault) => {
+            drop(plan);
+            Err(fault)
+        }
+    }
+}
+
+/// The instance of a selection, where a rank waits in it.
+fn wait_of(
+    alloc: Global,
+    pattern: &Pattern,
+    selection: &Selection,
+) -> Result<Option<FirstWait>, Fault>
+    requires sizes { AreFewSizes pattern.now.roles selection.now.sizes.items }
+    requires few { total_of selection.now.sizes.items < 2 ^ 31 }
+    ensures ok { IfOk result (IsWaitOf pattern.now (selection_by selection.now)) }
+    ensures err { IfErr result (λ e. IsJudgeFault pattern.now e) }
+{
+    let sizes = Vec::from_slice(alloc, selection.sizes.as_slice())?;
+    let cast = cast_for(alloc, pattern, selection)?;
+    let (text, scripts) = instance_scripts(alloc, pattern, &cast)?;
+    let found = wait_in(alloc, sizes, text, scripts)?;
+    Ok(found)
+}
+
+/// The first of these instances in which a rank waits, if there is one.
+fn wait_among(
+    alloc: Global,
+    pattern: &Pattern,
+    all: &[Selection],
+) -> Result<Option<FirstWait>, Fault>
+    requires all { map selection_by all.now ≡ selections pattern.now }
+    requires few { total_of (most_sizes pattern.now.roles) < 2 ^ 31 }
+    ensures ok { IfOk result (IsFirstOf pattern.now) }
+    ensures err { IfErr result (λ e. IsJudgeFault pattern.now e) }
+{
+    for selection in all {
+        match wait_of(alloc, pattern, selection)? {
+            Some(found) => return Ok(Some(found)),
+            None => {}
+        }
+    }
+    Ok(None)
+}
+
+/// The first instance that is judged in which a rank waits for ever, if there is one: one with the fewest processes.
+pub(crate) fn find_first_wait(alloc: Global, pattern: &Pattern) -> Result<Option<FirstWait>, Fault>
+    requires { total_of (most_sizes pattern.now.roles) < 2 ^ 31 }
+    ensures ok { IfOk result (IsFirstOf pattern.now) }
+    ensures err { IfErr result (λ e. IsJudgeFault pattern.now e) }
+{
+    let all = all_selections(alloc, pattern)?;
+    wait_among(alloc, pattern, all.as_slice())
+}

@@ -1,0 +1,4 @@
+mod Loops
+mod Grown
+mod Noted
+mod Written

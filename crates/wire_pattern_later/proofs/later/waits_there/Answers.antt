@@ -1,0 +1,28 @@
+use Rattle.std.proofs.Common.{◌≡◌, ap, Ok, None, subst, rules}
+use Rattle.std.specs.Prelude.{IfSome}
+use Rattle.wire_script.specs.declared.Size.TheVariants.{OfVersion}
+use Rattle.wire_script.specs.Reads.{Reads}
+use Rattle.wire_pattern.specs.Instances.{instance_text}
+use Rattle.wire_instances.specs.Shown.{cast_by}
+use Rattle.wire_pattern_later.proofs.Grown.{read_grown, unread_grown, waits_grown}
+use Rattle.wire_pattern_later.proofs.later.waits_there.Goals as goal
+
+pub returns-clause-ok : goal.returns-clause-ok
+returns-clause-ok c =
+    let p = c.args.pattern.now in
+    let cast = cast_by c.args.cast.now in
+    waits_grown p c.args.ranks cast c.in-Some.scripts c.in_ok-noted.noted c.reads_once.ensures c.requires.is
+    (subst (λ o. IfSome o (λ s. Reads OfVersion (instance_text p cast) (Ok s))) c.in-Some.is c.in_ok-scripts.ensures.ok) c.in_ok-noted.ensures.ok
+
+pub returns-clause-read : goal.returns-clause-read
+returns-clause-read c =
+    let p = c.args.pattern.now in
+    let cast = cast_by c.args.cast.now in
+    read_grown p c.args.ranks cast c.in-Some.scripts c.requires.is
+    (subst (λ o. IfSome o (λ s. Reads OfVersion (instance_text p cast) (Ok s))) c.in-Some.is c.in_ok-scripts.ensures.ok)
+
+pub returns-in_default-clause-none : goal.returns-in_default-clause-none
+returns-in_default-clause-none c = λ e.
+    let none : c.in_ok-scripts.field-0 ≡ None = first_of (assumption c.in_default.is, cc, search rules) in
+    let unread = c.in_ok-scripts.ensures.none (ap Ok none) in
+    unread_grown c.args.pattern.now c.args.ranks (cast_by c.args.cast.now) unread.0 c.requires.is unread.1

@@ -1,0 +1,164 @@
+//! Where something waits first in larger instances.
+
+ghost use Rattle.std.specs.Prelude.{◌≡◌, ◌≢◌, ◌<◌, ◌≤◌, ◌^◌, ◌↔◌, true, ℕ, Ok, Err, None, IfOk, IfErr, IfSome, map};
+ghost use Rattle.wire_types.specs.declared.Fault.{Fault as FaultSpec};
+ghost use Rattle.wire_types.specs.declared.Fault.TheVariants.{Memory};
+ghost use Rattle.wire_script.specs.declared.Size.TheVariants.{OfVersion};
+ghost use Rattle.wire_script.specs.Reads.{Reads};
+ghost use Rattle.wire_pattern.specs.Instances.{IsCast, instance_text};
+ghost use Rattle.wire_pattern.specs.Shown.{role_by};
+ghost use Rattle.wire_instances.specs.Shown.{cast_by};
+ghost use Rattle.wire_sweep_laws.specs.Sizes.{total_of};
+ghost use Rattle.wire_pattern_waits.specs.LineSets.{has_line};
+ghost use Rattle.wire_pattern_later.specs.Later as spec;
+ghost use Rattle.wire_pattern_later.specs.Later.{AreLater, AreWaitingWith, IsNoneLater, IsPastLimits, IsReadWith, StopsWith};
+
+use crate::listing::noted_lines;
+use crate::noting::waits_of;
+use crate::through::{end_size, first_size};
+use std::alloc::{AllocError, Global};
+use wire_content::Scripts;
+use wire_instances::{Cast, all_alone, process_total, write_front};
+use wire_pattern::{Pattern, Role};
+use wire_pattern_waits::{CallLine, LineSet};
+use wire_script::{Size, read_sized, reads_once};
+use wire_types::Fault;
+
+/// The least number of processes of each group with which something waits, and the call lines at which it does.
+#[derive(Drop)]
+pub struct Later {
+    pub ranks: u32,
+    pub lines: Vec<CallLine>,
+}
+
+/// So many processes of each group, and one of each single role.
+fn sizes_with(alloc: Global, ranks: u32, roles: &[Role]) -> Result<Vec<u32>, AllocError>
+    ensures { IfOk result (λ v. v.items ≡ spec.sizes_with ranks (map role_by roles.now)) }
+{
+    let mut sizes = Vec::with_capacity(alloc, roles.len())?;
+    for role in roles {
+        sizes.push(if role.single { 1 } else { ranks })?;
+    }
+    Ok(sizes)
+}
+
+/// The instance with so many processes of each group, each on a node of its own, with all turns; none where it has 2^31
+/// processes or more.
+fn grown(alloc: Global, pattern: &Pattern, ranks: u32) -> Result<Option<Cast>, AllocError>
+    ensures is { IfOk result (λ r. IfSome r (λ c. cast_by c ≡ spec.grown pattern.now ranks)) }
+    ensures cast { IfOk result (λ r. IfSome r (λ c. IsCast pattern.now (cast_by c))) }
+    ensures many { result ≡ Ok None → 2 ^ 31 ≤ total_of (spec.sizes_with ranks pattern.now.roles) }
+{
+    let sizes = sizes_with(alloc, ranks, pattern.roles())?;
+    let Some(total) = process_total(sizes.as_slice()) else {
+        return Ok(None);
+    };
+    let nodes = all_alone(alloc, total)?;
+    Ok(Some(Cast {
+        sizes,
+        chosen: Vec::new(alloc),
+        nodes,
+    }))
+}
+
+/// Nothing, where a text has this fault; a fault of memory says nothing about the text.
+fn unread(fault: Fault) -> Result<Option<Scripts>, Fault>
+    ensures ok { IfOk result (λ r. r ≡ None) }
+    ensures none { result ≡ Ok None → fault ≢ Memory }
+    ensures err { IfErr result (λ e. e ≡ Memory) }
+{
+    match fault {
+        Fault::Memory => Err(Fault::Memory),
+        _ => Ok(None),
+    }
+}
+
+/// The scripts of an instance, by its text; none where that doesn't read as a plan.
+fn scripts_of(alloc: Global, pattern: &Pattern, cast: &Cast) -> Result<Option<Scripts>, Fault>
+    requires { IsCast pattern.now (cast_by cast.now) }
+    ensures ok { IfOk result (λ r. IfSome r (λ s. Reads OfVersion (instance_text pattern.now (cast_by cast.now)) (Ok s))) }
+    ensures none { result ≡ Ok None → (fault : FaultSpec) × Reads OfVersion (instance_text pattern.now (cast_by cast.now)) (Err fault) }
+    ensures err { IfErr result (λ e. e ≡ Memory) }
+{
+    let text = write_front(alloc, pattern, cast, Size::OfVersion.file_bytes() + 1)?;
+    match read_sized(alloc, Size::OfVersion, text.as_slice()) {
+        Ok(scripts) => Ok(Some(scripts)),
+        Err(fault) => unread(fault),
+    }
+}
+
+/// The call lines at which something waits in this instance: these, and no others. None where its text doesn't read as
+/// a plan.
+fn waits_there(
+    alloc: Global,
+    pattern: &Pattern,
+    ranks: u32,
+    cast: &Cast,
+) -> Result<Option<LineSet>, Fault>
+    requires is { cast_by cast.now ≡ spec.grown pattern.now ranks }
+    requires cast { IsCast pattern.now (cast_by cast.now) }
+    ensures ok { IfOk result (λ r. IfSome r (λ v. (role line : ℕ) → (has_line v role line ≡ true) ↔ StopsWith pattern.now ranks role line)) }
+    ensures read { IfOk result (λ r. IfSome r (λ v. IsReadWith pattern.now ranks)) }
+    ensures none { result ≡ Ok None → IsPastLimits pattern.now ranks }
+    ensures err { IfErr result (λ e. e ≡ Memory) }
+{
+    reads_once();
+    let Some(scripts) = scripts_of(alloc, pattern, cast)? else {
+        return Ok(None);
+    };
+    let noted = waits_of(alloc, pattern, cast, scripts)?;
+    Ok(Some(noted))
+}
+
+/// The same in the instance with so many processes of each group.
+fn waits_with(alloc: Global, pattern: &Pattern, ranks: u32) -> Result<Option<LineSet>, Fault>
+    ensures ok { IfOk result (λ r. IfSome r (λ v. (role line : ℕ) → (has_line v role line ≡ true) ↔ StopsWith pattern.now ranks role line)) }
+    ensures read { IfOk result (λ r. IfSome r (λ v. IsReadWith pattern.now ranks)) }
+    ensures none { result ≡ Ok None → IsPastLimits pattern.now ranks }
+    ensures err { IfErr result (λ e. e ≡ Memory) }
+{
+    let Some(cast) = grown(alloc, pattern, ranks)? else {
+        return Ok(None);
+    };
+    let noted = waits_there(alloc, pattern, ranks, &cast)?;
+    Ok(noted)
+}
+
+/// The call lines at which something waits with so many processes of each group, in the order of roles and lines; none
+/// where they are past the limits.
+fn lines_with(alloc: Global, pattern: &Pattern, ranks: usize) -> Result<Option<Later>, Fault>
+    ensures ok { IfOk result (λ r. IfSome r (λ l. (l.ranks ≡ ranks) × AreWaitingWith pattern.now ranks l.lines.items)) }
+    ensures none { result ≡ Ok None → IsPastLimits pattern.now ranks }
+    ensures err { IfErr result (λ e. e ≡ Memory) }
+{
+    if ranks >= 1 << 31 {
+        return Ok(None);
+    }
+    let ranks = ranks as u32;
+    let Some(noted) = waits_with(alloc, pattern, ranks)? else {
+        return Ok(None);
+    };
+    let lines = noted_lines(alloc, pattern, &noted)?;
+    Ok(Some(Later { ranks, lines }))
+}
+
+/// The least number of processes of each group with which something waits, where it doesn't with few of them, and the
+/// call lines at which it does: exactly these. Looked at are the instances with as many of each group, all turns taken,
+/// up to one more than there are through loops over a group (`last_size`), and up to the limits of a plan; none where
+/// nothing waits in them.
+pub fn later_lines(alloc: Global, pattern: &Pattern) -> Result<Option<Later>, Fault>
+    ensures some { IfOk result (λ r. IfSome r (λ l. AreLater pattern.now l.ranks l.lines.items)) }
+    ensures none { result ≡ Ok None → IsNoneLater pattern.now }
+    ensures err { IfErr result (λ e. e ≡ Memory) }
+{
+    let end = end_size(pattern)?;
+    for ranks in first_size(pattern.roles()) as usize..end {
+        let Some(later) = lines_with(alloc, pattern, ranks)? else {
+            return Ok(None);
+        };
+        if !later.lines.as_slice().is_empty() {
+            return Ok(Some(later));
+        }
+    }
+    Ok(None)
+}

@@ -1,0 +1,11 @@
+//! Where something waits first in instances of a pattern that are larger than those that are judged.
+#![tactic(auto)]
+
+mod later;
+mod listing;
+mod noting;
+mod text;
+mod through;
+
+pub use later::{Later, later_lines};
+pub use text::write_later;

@@ -1,0 +1,5 @@
+use Rattle.std.proofs.Common.{◌-◌}
+use Rattle.wire_portable.proofs.own_calls.has_left.Given as goal
+
+abbrev pub decreases-deliveries : goal.decreases-deliveries
+decreases-deliveries l = l.count - l.from

@@ -1,0 +1,46 @@
+-- The gets that come to be made, listed by the owner of the key and the place of the reader: for the contracts of private
+-- functions.
+use Rattle.std.specs.Prelude.{◌≡◌, ◌≢◌, ℕ, List, [], Bool, ◌&&◌, ◌==◌, Option, Some, None, Vec, map, if◌then◌else◌}
+use Rattle.std.specs.declared.alloc.Global.{Global}
+use Rattle.std.specs.HashMap.{get}
+use Rattle.wire_runs.specs.Plan.{Plan, Event, Get, kind, node_of, event_of}
+use Rattle.wire_runs.specs.EventLists.{IsLower, AreAll}
+use Rattle.wire_types.specs.declared.Event.{Event as CodeEvent}
+use Rattle.wire_library_laws.specs.Portable.{IsAsked}
+use Rattle.wire_portable.specs.declared.gets.GetTable.{GetTable}
+
+-- where a process's gets are listed: by its node, or all together
+abbrev pub place_in : Bool → Plan → ℕ → ℕ
+place_in together plan q = if together then 0 else node_of plan q
+
+-- z is a get that comes to be made, of a key of p, another process, and is listed at n
+pub record IsOpenGet (together : Bool) (plan : Plan) (p n : ℕ) (z : Event) : Type 0 where
+  pub key : ℕ
+  pub is : kind plan z ≡ Some (Get p key)
+  pub other : z.proc ≢ p
+  pub asked : IsAsked plan z
+  pub there : place_in together plan z.proc ≡ n
+
+abbrev pub AreOpenGets : Bool → Plan → ℕ → ℕ → List Event → Type 0
+AreOpenGets together plan p n places = AreAll (IsOpenGet together plan p n) places
+
+-- whether owner and place are the same
+abbrev pub is_same : ℕ × ℕ → ℕ × ℕ → Bool
+is_same a b = (a.0 == b.0) && (a.1 == b.1)
+
+abbrev pub events_in : Option (Vec CodeEvent Global) → List Event
+events_in None = []
+events_in (Some list) = map event_of list.items
+
+-- the list of an owner and a place
+abbrev pub gets_under : GetTable → ℕ × ℕ → List Event
+gets_under table asked = events_in (get is_same table.lists asked)
+
+-- each list has the gets of that owner and that place
+abbrev pub AreGetLists : Bool → Plan → GetTable → Type 0
+AreGetLists together plan table = (p n : ℕ) → AreOpenGets together plan p n (gets_under table (p, n))
+
+-- the same of those that stand before the i-th event of the q-th process
+abbrev pub AreGetsTo : Bool → Plan → ℕ → ℕ → GetTable → Type 0
+AreGetsTo together plan q i table =
+    (p n : ℕ) → AreAll (λ z. IsOpenGet together plan p n z × IsLower z (record { proc = q; at = i })) (gets_under table (p, n))

@@ -1,0 +1,30 @@
+//! The calls by which a plan isn't portable: where some library may do otherwise than the rules say.
+#![tactic(auto)]
+
+mod asked;
+mod coming;
+mod commits;
+mod fences;
+mod gets;
+mod jobs;
+mod judge;
+mod libraries;
+mod listed;
+mod mates;
+mod names;
+mod nows;
+mod numbering;
+mod own_calls;
+mod puts;
+mod reserved;
+mod search;
+mod spelled;
+mod spelling;
+mod spelt_apart;
+mod sure;
+mod waiting;
+
+pub use libraries::{Libraries, Library};
+pub use listed::{Rule, Unportable, UnportableList};
+pub use search::{find_unportable, find_unportable_anywhere};
+pub use spelling::{Spelling, Spelt, read_spelling};

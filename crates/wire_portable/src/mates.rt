@@ -1,0 +1,145 @@
+//! Gets that share a request.
+
+ghost use Rattle.std.specs.Prelude.{◌≡◌, ◌<◌, ◌≤◌, ℕ, suc, Some, None, false, map, length, slice_get, IsTrue};
+ghost use Rattle.wire_runs.specs.Plan.{Get, event_of, event_count, kind};
+ghost use Rattle.wire_runs.specs.Puts.{stored};
+ghost use Rattle.wire_runs.specs.Plan as runs;
+ghost use Rattle.wire_content.specs.Planned.{plan_of};
+ghost use Rattle.wire_library_laws.specs.Portable.{EndsFirst, IsAsked, Lacks};
+ghost use Rattle.wire_portable.specs.declared.libraries.Library.{Library as L};
+ghost use Rattle.wire_portable.specs.Commits.{IsLastOf};
+ghost use Rattle.wire_portable.specs.Libraries.{family_of, has, only_v4};
+ghost use Rattle.wire_portable.specs.Judging.{AreFineMates};
+ghost use Rattle.wire_portable.specs.Sharing.{AreAskedGets, AreTurns, IsApart};
+
+use crate::asked::ends_first;
+use crate::judge::{Judge, Key};
+use crate::libraries::Libraries;
+use wire_fates::process_end;
+use wire_plan::Kind;
+use wire_types::Event;
+
+/// Whether a get can't share its request with another one that is asked before its key is there; nor, then, with a
+/// later one of that process.
+fn is_apart(judge: &Judge<'_>, get: Event, asked: Key, mate: Event) -> bool
+    ensures { IsTrue result → IsApart (plan_of judge.now) asked.owner.number asked.key (event_of get) (event_of mate) }
+{
+    if mate.proc.number == get.proc.number {
+        return true;
+    }
+    if ends_first(&judge.marked(), get, mate) {
+        return true;
+    }
+    judge.is_there_first(asked, mate)
+}
+
+/// Whether the key of another get comes no later than this commit.
+fn is_sooner(judge: &Judge<'_>, mate: Event, lacking: Event) -> bool
+    requires { mate.at < event_count (plan_of judge.now) mate.proc.number }
+    ensures { result ≡ false → (p key : ℕ) → kind (plan_of judge.now) (event_of mate) ≡ Some (Get p key) → lacking.proc.number ≡ p →
+        stored (plan_of judge.now) p key (suc lacking.at) ≡ None }
+{
+    let Kind::Get { owner, key } = judge.plan().kind(mate) else {
+        return false;
+    };
+    match judge.plan().store_of(owner, key) {
+        Some(store) => store.at <= lacking.at,
+        None => false,
+    }
+}
+
+/// How many of a process's gets, in their order, have ended when a get is asked: those are the first ones. They are
+/// looked for by bisection.
+fn ended_count(judge: &Judge<'_>, gets: &[Event], get: Event) -> usize
+    requires turns { (p : ℕ) × AreTurns (plan_of judge.now) p (map event_of gets.now) }
+    requires asked { IsAsked (plan_of judge.now) (event_of get) }
+    ensures within { result ≤ length gets.now }
+    ensures ended { (k : ℕ) (h : runs.Event) → k < result → slice_get (map event_of gets.now) k ≡ Some h →
+        EndsFirst (plan_of judge.now) h (event_of get) }
+{
+    let mut low = 0;
+    let mut high = gets.len();
+    'bisection: while low < high {
+        let middle = low + (high - low) / 2;
+        if ends_first(&judge.marked(), gets[middle], get) {
+            low = middle + 1;
+        } else {
+            high = middle;
+        }
+    }
+    low
+}
+
+/// Whether the key of one of these gets of a process, in their order, comes no later than the last commit that lacks
+/// the key of a get: of one with which that get can share its request.
+fn some_sooner(judge: &Judge<'_>, gets: &[Event], get: Event, asked: Key, lacking: Event) -> bool
+    requires turns { AreTurns (plan_of judge.now) asked.owner.number (map event_of gets.now) }
+    requires lacking { IsLastOf (Lacks (plan_of judge.now) asked.owner.number asked.key) (Some lacking) }
+    ensures { result ≡ false → (library : L) → has only_v4 library ≡ false →
+        AreFineMates (family_of library) (plan_of judge.now) asked.owner.number asked.key (event_of get) (map event_of gets.now) }
+{
+    for at in 0..gets.len() {
+        let mate = gets[at];
+        if is_apart(judge, get, asked, mate) {
+            return false;
+        }
+        if is_sooner(judge, mate, lacking) {
+            return true;
+        }
+    }
+    false
+}
+
+/// The libraries on which a get may get the answer of one of these of a process, in their order, which lacks its key,
+/// given the last commit that lacks it. Those that end before the get is asked are the first of them, and those that
+/// are asked once it has ended, or once its key is there, the last.
+fn with_process(
+    judge: &Judge<'_>,
+    gets: &[Event],
+    get: Event,
+    asked: Key,
+    lacking: Event,
+) -> Libraries
+    requires turns { AreTurns (plan_of judge.now) asked.owner.number (map event_of gets.now) }
+    requires asked { IsAsked (plan_of judge.now) (event_of get) }
+    requires lacking { IsLastOf (Lacks (plan_of judge.now) asked.owner.number asked.key) (Some lacking) }
+    ensures { (library : L) → has result library ≡ false →
+        AreFineMates (family_of library) (plan_of judge.now) asked.owner.number asked.key (event_of get) (map event_of gets.now) }
+{
+    let first = ended_count(judge, gets, get);
+    if first >= gets.len() {
+        return Libraries::none();
+    }
+    if is_apart(judge, get, asked, gets[first]) {
+        return Libraries::none();
+    }
+    let rest = &gets[first..];
+    if some_sooner(judge, rest, get, asked, lacking) {
+        return Libraries::all();
+    }
+    Libraries::only_v4()
+}
+
+/// The libraries on which a get may get the answer of one of these, in process order, which lacks its key.
+pub(crate) fn mates(judge: &Judge<'_>, gets: &[Event], get: Event, asked: Key) -> Libraries
+    requires gets { AreAskedGets (plan_of judge.now) asked.owner.number (map event_of gets.now) }
+    requires asked { IsAsked (plan_of judge.now) (event_of get) }
+    ensures { (library : L) → has result library ≡ false →
+        AreFineMates (family_of library) (plan_of judge.now) asked.owner.number asked.key (event_of get) (map event_of gets.now) }
+{
+    let mut found = Libraries::none();
+    let Some(lacking) = judge.last_lacking(asked) else {
+        return found;
+    };
+    let mut place = 0;
+    'processes: while place < gets.len() {
+        let end = process_end(gets, place);
+        let row = &gets[place..end];
+        found = found.or(with_process(judge, row, get, asked, lacking));
+        if found.is_all() {
+            return found;
+        }
+        place = end;
+    }
+    found
+}

@@ -1,0 +1,212 @@
+//! The numbers of sets: the same for two that are spelt alike.
+
+ghost use Rattle.std.specs.Prelude.{◌≡◌, ◌++◌, ◌∷◌, ◌==◌, [], Some, codes, slice_get, IfOk, List, OnOk, Option, map, option_map};
+ghost use Rattle.std.specs.List.{slice_split};
+ghost use Rattle.wire_types.specs.Texts.{lists_of};
+ghost use Rattle.wire_portable.specs.Spelling.{AreNumbered, SpelledSet as Set, items_of as items_in};
+ghost use Rattle.wire_portable.specs.Spelled.{row_by, rows_by, set_by};
+ghost use Rattle.wire_portable.specs.Numbering.{AreApart, IsCallTold, IsInOrder, IsRowTold, IsTold, Keeps, has_neighbours};
+ghost use Rattle.wire_portable.specs.Numbering as spec;
+
+use crate::spelled::{SpelledSet, is_word};
+use crate::spelling::Spelt;
+use indexmap::IndexSet;
+use std::alloc::{AllocError, Global};
+use std::marker::Model;
+use wire_lines::cut_parts;
+
+/// All processes of a job, as the one item of a set.
+fn own_items(alloc: Global, job: &[u8]) -> Result<Vec<Vec<u8>>, AllocError>
+    ensures { IfOk result (λ items. lists_of items.items ≡ (job.now ++ codes ":*") ∷ []) }
+{
+    let mut item = Vec::from_slice(alloc, job)?;
+    item.extend_from_slice(b":*".as_slice())?;
+    let mut items = Vec::new(alloc);
+    items.push(item)?;
+    Ok(items)
+}
+
+/// What stands between the commas of a set.
+fn listed_items(alloc: Global, set: &[u8]) -> Result<Vec<Vec<u8>>, AllocError>
+    ensures { IfOk result (λ items. lists_of items.items ≡ slice_split (λ b. b == 44) set.now) }
+{
+    let parts = cut_parts(alloc, set)?;
+    let mut items = Vec::new(alloc);
+    for part in &parts {
+        let item = Vec::from_slice(alloc, *part)?;
+        items.push(item)?;
+    }
+    Ok(items)
+}
+
+/// The items of a set; `all` is the job of the caller.
+fn items_of(alloc: Global, spelled: SpelledSet<'_>) -> Result<Vec<Vec<u8>>, AllocError>
+    ensures { IfOk result (λ items. lists_of items.items ≡ items_in (set_by spelled.entry)) }
+{
+    if spelled.set == b"all".as_slice() {
+        own_items(alloc, spelled.job)
+    } else {
+        listed_items(alloc, spelled.set)
+    }
+}
+
+/// The items of a set in ascending order.
+fn ordered_items(alloc: Global, spelled: SpelledSet<'_>) -> Result<Vec<Vec<u8>>, AllocError>
+    ensures { IfOk result (λ items. IsInOrder (set_by spelled.entry) (lists_of items.items)) }
+{
+    let mut items = items_of(alloc, spelled)?;
+    items.sort_unstable();
+    Ok(items)
+}
+
+/// Whether an item is the same as the first of these, or two neighbours of these are the same.
+fn repeats_after<'a>(item: &'a [u8], items: &'a [Vec<u8>]) -> bool
+    ensures { result ≡ spec.repeats_after item.now (lists_of items.now) }
+{
+    let mut last = item;
+    for next in items {
+        if is_word(last, next.as_slice()) {
+            return true;
+        }
+        last = next.as_slice();
+    }
+    false
+}
+
+/// Whether two neighbours of these are the same.
+fn has_repeats(items: &[Vec<u8>]) -> bool
+    ensures { result ≡ has_neighbours (lists_of items.now) }
+{
+    match items {
+        [first, others @ ..] => repeats_after(first.as_slice(), others),
+        [] => false,
+    }
+}
+
+/// Lists of items, each once, with its place as its number.
+struct Numbers {
+    table: IndexSet<Vec<Vec<u8>>>,
+}
+
+// By hand and not derived: so dropping one is a call, and the proof of a function that drops one doesn't take it apart.
+impl Drop for Numbers {
+    fn drop(self) {
+        let Numbers { table: _ } = self;
+    }
+}
+
+impl Model for Numbers {
+    ghost use Rattle.std.specs.Prelude.{List, ℕ, map};
+    ghost use Rattle.wire_types.specs.Texts.{lists_of};
+    ghost use Rattle.wire_portable.specs.Numbering.{AreApart};
+
+    ghost Value = { List (List (List ℕ)) };
+
+    ghost view = { λ n. map (λ v. lists_of v.items) n.table.keys };
+
+    ghost invariant = { λ n. AreApart (map (λ v. lists_of v.items) n.table.keys) };
+}
+
+impl Numbers {
+    /// No lists.
+    fn none(alloc: Global) -> Numbers
+        ensures { result ≡ [] }
+    {
+        Numbers {
+            table: IndexSet::new(alloc),
+        }
+    }
+
+    /// No list stands there twice.
+    fn are_apart(&self)
+        ensures { AreApart self.now }
+    {
+        let _ = &self.table;
+    }
+
+    /// The number of a list, which is added if it isn't there.
+    fn number(&mut self, items: Vec<Vec<u8>>) -> Result<usize, AllocError>
+        ensures there { IfOk result (λ number. slice_get self.new number ≡ Some (lists_of items.items)) }
+        ensures kept { OnOk result (Keeps self.old self.new) }
+    {
+        let added = self.table.insert_full(items)?;
+        Ok(added.0)
+    }
+
+    /// How a call spells a set.
+    fn spelt(&mut self, alloc: Global, spelled: SpelledSet<'_>) -> Result<Spelt, AllocError>
+        ensures told { IfOk result (λ spelt. IsTold self.new (set_by spelled.entry) spelt) }
+        ensures kept { OnOk result (Keeps self.old self.new) }
+    {
+        let items = ordered_items(alloc, spelled)?;
+        let repeats = has_repeats(items.as_slice());
+        let number = self.number(items)?;
+        Ok(Spelt { number, repeats })
+    }
+
+    /// The same of a call, if it is one of a fence.
+    fn spelt_call(
+        &mut self,
+        alloc: Global,
+        call: Option<SpelledSet<'_>>,
+    ) -> Result<Option<Spelt>, AllocError>
+        ensures told { IfOk result (λ spelt. IsCallTold self.new (option_map set_by call.entry) spelt) }
+        ensures kept { OnOk result (Keeps self.old self.new) }
+    {
+        match call {
+            Some(spelled) => {
+                let spelt = self.spelt(alloc, spelled)?;
+                Ok(Some(spelt))
+            }
+            None => Ok(None),
+        }
+    }
+
+    /// The same of the calls of a process.
+    fn spelt_row(
+        &mut self,
+        alloc: Global,
+        row: &[Option<SpelledSet<'_>>],
+    ) -> Result<Vec<Option<Spelt>>, AllocError>
+        ensures told { IfOk result (λ spelt. IsRowTold self.new (row_by row.now) spelt.items) }
+        ensures kept { OnOk result (Keeps self.old self.new) }
+    {
+        let mut spelt = Vec::new(alloc);
+        for call in row {
+            let told = self.spelt_call(alloc, *call)?;
+            spelt.push(told)?;
+        }
+        Ok(spelt)
+    }
+}
+
+/// How the calls of each process spell their sets, by number.
+fn number_rows(
+    alloc: Global,
+    rows: &[Vec<Option<SpelledSet<'_>>>],
+) -> Result<Vec<Vec<Option<Spelt>>>, AllocError>
+    ensures { IfOk result (λ spelt. AreNumbered (rows_by rows.now) (map (λ row. row.items) spelt.items)) }
+{
+    let mut numbers = Numbers::none(alloc);
+    let mut spelt = Vec::new(alloc);
+    for row in rows {
+        let told = numbers.spelt_row(alloc, row.as_slice())?;
+        spelt.push(told)?;
+    }
+    numbers.are_apart();
+    Ok(spelt)
+}
+
+/// The same of the rows behind the first.
+pub(crate) fn number_behind(
+    alloc: Global,
+    rows: &[Vec<Option<SpelledSet<'_>>>],
+) -> Result<Vec<Vec<Option<Spelt>>>, AllocError>
+    ensures { IfOk result (λ spelt. (first : List (Option Set)) (others : List (List (Option Set))) → rows_by rows.now ≡ first ∷ others →
+        AreNumbered others (map (λ row. row.items) spelt.items)) }
+{
+    match rows {
+        [_, others @ ..] => number_rows(alloc, others),
+        [] => Ok(Vec::new(alloc)),
+    }
+}

@@ -1,0 +1,9 @@
+use Rattle.std.proofs.Common.{subst, IfOk}
+use Rattle.wire_commands.specs.Answer.{rows_in}
+use Rattle.wire_portable_commands.specs.CheckPortable.{TellsLibraries}
+use Rattle.wire_portable_commands.proofs.check.answer_plan.Goals as goal
+
+pub returns-clause-ok : goal.returns-clause-ok
+returns-clause-ok g c =
+    subst (λ s. IfOk c.tell.result (λ a. TellsLibraries c.args.judging.anywhere c.args.judging.telling.form c.args.judging.telling.places.name.now c.args.judging.spelling.now s
+    (rows_in c.args.judging.telling.places) a.text.items a.ended)) c.scripts.ensures.scripts c.tell.ensures.ok

@@ -1,0 +1,7 @@
+pub mod Words
+pub mod Lines
+pub mod Json
+pub mod Text
+pub mod Read
+pub mod CheckPortable
+pub mod SpelledCalls

@@ -1,0 +1,4 @@
+pub mod Awaited
+pub mod Found
+pub mod Parts
+pub mod Ranks

@@ -1,0 +1,4 @@
+pub mod Standstill
+pub mod Lines
+pub mod Report
+pub mod Told

@@ -1,0 +1,93 @@
+"""On which libraries each run of a plan does as the rules say: `wire_up check --portable` tells."""
+import json
+from collections.abc import Sequence
+from dataclasses import dataclass
+from typing import Any, Optional
+
+from wire_up_tools.checker import Checker
+
+OPTION = "--portable"
+# How the names of libraries begin that are told by their versions alone.
+OF_OPENPMIX = "openpmix-"
+ANSWERED = (0, 1)
+
+
+@dataclass(frozen=True)
+class Unportable:
+    """A call by which a plan isn't portable: its rank, its number and its verb; the rule; and the
+    libraries, by their versions."""
+
+    rank: str
+    call: int
+    verb: str
+    rule: str
+    libraries: Sequence[str]
+
+    def __str__(self) -> str:
+        return f"{self.rank} {self.call} {self.verb}"
+
+
+@dataclass(frozen=True)
+class Portable:
+    """The libraries on which each run of a plan does as the rules say, by their versions; and the
+    calls by which it may not on others."""
+
+    libraries: Sequence[str]
+    calls: Sequence[Unportable]
+
+    def is_for(self, name: str) -> bool:
+        """Whether it is portable for a library, by its whole name, such as `openpmix-4.2`."""
+        return name.removeprefix(OF_OPENPMIX) in self.libraries
+
+    def is_judged(self, name: str) -> bool:
+        """Whether a library is one of those that the checker judges: those of OpenPMIx."""
+        return name.startswith(OF_OPENPMIX)
+
+    def blamed(self, name: str) -> list[Unportable]:
+        """The calls by which it isn't portable for a library."""
+        version = name.removeprefix(OF_OPENPMIX)
+        return [it for it in self.calls if version in it.libraries]
+
+
+def find_portable(checker: Checker, plan: bytes) -> Optional[Portable]:
+    """On which libraries a plan is portable; None where the checker can't tell. It is asked with
+    whatever is found in the plan."""
+    try:
+        if not checker.takes("check", OPTION):
+            return None
+        answer = checker.ask("check", OPTION, "--json", plan=plan)
+    except OSError:
+        return None
+    return read_portable(answer.stdout) if answer.status in ANSWERED else None
+
+
+def read_portable(text: str) -> Optional[Portable]:
+    """What the checker wrote; None where it isn't that."""
+    try:
+        said = json.loads(text)
+        calls = [read_call(it) for it in said["unportable"]]
+        return Portable([str(it) for it in said["portable"]], calls)
+    except (ValueError, KeyError, TypeError):
+        return None
+
+
+def read_call(said: dict[str, Any]) -> Unportable:
+    """A call. Raises KeyError, TypeError, ValueError."""
+    libraries = [str(it) for it in said["libraries"]]
+    return Unportable(said["proc"], int(said["call"]), said["verb"], said["rule"], libraries)
+
+
+def list_libraries(portable: Portable) -> str:
+    """The libraries in words: `OpenPMIx 5.0 and 7.0`; nothing where there are none."""
+    *before, last = portable.libraries or [""]
+    return f"OpenPMIx {', '.join(before)}{' and ' * bool(before)}{last}" if last else ""
+
+
+def say_portable(portable: Portable) -> str:
+    """For which libraries a plan is portable, as a clause."""
+    listed = list_libraries(portable)
+    count = len({str(it) for it in portable.calls})
+    of_calls = f"by {count} call{'s' * (count != 1)} (wire_up check {OPTION})"
+    if not listed:
+        return f"portable for no library that is known, {of_calls}"
+    return f"portable for {listed}" + (f", for no other {of_calls}" if count else "")

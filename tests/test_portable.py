@@ -1,0 +1,155 @@
+"""`check --portable` of the built program: the table of rows/portable.py, each form of its answer,
+and what it says of small random plans beside all that libraries may do by the axioms."""
+import itertools
+import json
+import os
+import unittest
+from collections import Counter
+from collections.abc import Iterator
+
+import model_runs
+import pattern_faults
+from library_axioms import LIBRARIES
+from library_plans import Facts
+from portable_histories import Divergence
+from rows.portable import ROWS, Told
+from running import ProgramCase, Run, Runs, start
+from small_plans import make_small
+from support import TOP
+
+CHECK, PORTABLE, ANYWHERE = "check", "--portable", "--anywhere"
+MISUSED = b"wire_up: usage --portable: of patterns it isn't known, and it doesn't go with --same\n"
+# The libraries of two families at least, by the names of their tables and of the answer.
+JUDGED = {"openpmix-4.2": "4.2", "openpmix-5.0": "5.0", "openpmix-7.0": "7.0"}
+SEED, COUNT, MOST_STATES = 73, 400, 20_000
+# So many of these plans are portable for a library at least: else the test says little.
+LEAST = 100
+LATE = (
+    "rehearsal 1 / node n0 / job app / rank n0 / put global a 1 / commit / put global z 2 / commit"
+    " / rank n0 / get app:0 z / rank n0 / get app:0 z"
+)
+EARLY = "examples/early-get.plan"
+
+
+def lines_of(text: str) -> bytes:
+    """Lines that stand in one with ` / ` between them."""
+    return "".join(f"{it}\n" for it in text.split(" / ")).encode()
+
+
+class Rows(ProgramCase):
+    """The table, behind the findings that `check` has."""
+
+    def hold_row(self, row: Told, told: str, *options: str) -> None:
+        """Tests what is told of a row, and the status."""
+        plan = pattern_faults.text_of(row.lines)
+        found = start(self.program, Run(row.name, [CHECK, *options], plan))
+        told_of = start(self.program, Run(row.name, [CHECK, PORTABLE, *options], plan))
+        self.assertEqual(found.stdout + lines_of(told), told_of.stdout)
+        is_clean = not found.returncode and "unportable" not in told
+        self.assertEqual(0 if is_clean else 1, told_of.returncode)
+
+    def test_rows(self) -> None:
+        for row in ROWS:
+            with self.subTest(row.name):
+                self.hold_row(row, row.here)
+                self.hold_row(row, row.anywhere, ANYWHERE)
+
+    def test_rows_have_every_rule(self) -> None:
+        words = " / ".join(f"{it.here} / {it.anywhere}" for it in ROWS).split(" / ")
+        rules = {it.split()[4] for it in words if it.startswith("unportable")}
+        self.assertEqual(15, len(rules))
+
+
+class Forms(ProgramCase):
+    """The forms of the answer, and what doesn't go together."""
+
+    def runs_of_forms(self) -> Runs:
+        plan = lines_of(LATE)
+        wrote = b"findings 0\n<stdin>:10: 2 unportable by near-get in 4.2,5.0,7.0: app:1 1 get\n"
+        words = [CHECK, PORTABLE, "--lines"]
+        yield Run("groups", words, plan, status=1, wrote=wrote + b"portable none\n")
+        call = (
+            '{"call":1,"libraries":["4.2","5.0","7.0"],%s"proc":"app:%d","rule":"near-get",'
+            '"verb":"get"}'
+        )
+        plain = ",".join(call % ("", it) for it in (1, 2))
+        wrote = f'{{"findings":[],"portable":[],"unportable":[{plain}]}}\n'.encode()
+        yield Run("JSON", [CHECK, PORTABLE, "--json"], plan, status=1, wrote=wrote)
+        placed = ",".join(call % (f'"line":{8 + 2 * it},', it) for it in (1, 2))
+        wrote = (
+            f'{{"findings":[],"groups":[],"portable":[],"unportable":[{placed}]}}\n'.encode()
+        )
+        words = [CHECK, PORTABLE, "--json", "--lines"]
+        yield Run("JSON with lines", words, plan, status=1, wrote=wrote)
+        wrote = b"race app:0 2 app:1 1 key app:0 card\nfindings 1\nportable 4.2,5.0,7.0\n"
+        yield Run("a race alone", [CHECK, PORTABLE, EARLY], status=1, wrote=wrote)
+        yield Run("the help", [CHECK, "--help"], wrote=(b"--portable",))
+
+    def test_forms(self) -> None:
+        self.hold_all(self.runs_of_forms())
+
+    def runs_misused(self) -> Runs:
+        pattern = "examples/patterns/business-cards.pattern"
+        for others in (["--same", ANYWHERE], ["--same"], ["--answers"], ["--complete"]):
+            words = [CHECK, PORTABLE, *others, EARLY]
+            yield Run(f"--portable with {others}", words, status=5, said=MISUSED)
+        words = [CHECK, PORTABLE, "--pattern", pattern]
+        yield Run("--portable with --pattern", words, status=5, said=MISUSED)
+        yield Run("a bad plan", [CHECK, PORTABLE], b"rehearsal 3\n", status=2, said=(b"BadHeader",))
+
+    def test_misused(self) -> None:
+        self.hold_all(self.runs_misused())
+
+
+class Examples(ProgramCase):
+    """The examples, which are known to be portable or not."""
+
+    def test_examples(self) -> None:
+        found: dict[str, str] = {}
+        for name in sorted(os.listdir(os.path.join(TOP, "examples"))):
+            if name.endswith(".plan"):
+                path = os.path.join("examples", name)
+                ran = start(self.program, Run(name, [CHECK, PORTABLE, path]))
+                found[name.removesuffix(".plan")] = ran.stdout.decode().splitlines()[-1]
+        for name in ("business-card", "optimistic", "standstill", "waiting-lookup", "kept-fence"):
+            self.assertEqual("portable 4.2,5.0,7.0", found[name], name)
+        for name in ("card-fence", "leaders", "shared-fence"):
+            self.assertEqual("portable 4.2,7.0", found[name], name)
+        for name in ("ordered-get", "ring", "second-card", "service"):
+            self.assertEqual("portable 5.0,7.0", found[name], name)
+        for name in ("closed-service", "kept-card", "foreign-fence", "process-map", "two-jobs"):
+            self.assertEqual("portable none", found[name], name)
+
+
+class Random(ProgramCase):
+    """Small random plans."""
+
+    def portable_of(self, text: str) -> set[str]:
+        """The libraries for which the program says that a plan is portable."""
+        ran = start(self.program, Run("random", [CHECK, PORTABLE, "--json"], text.encode()))
+        return set(json.loads(ran.stdout)["portable"])
+
+    def judge(self, text: str) -> Iterator[tuple[str, bool, bool]]:
+        """Of each library that can be looked through: whether the plan is called portable for it,
+        and whether it may do otherwise than the rules."""
+        facts, said = Facts(text.encode()), self.portable_of(text)
+        run = model_runs.Run(facts.plan).go()
+        rules = {it: run.end(it) for it in facts.plan.firsts}
+        for library, name in JUDGED.items():
+            for found in Divergence(facts, LIBRARIES[library], rules).find(MOST_STATES):
+                yield name, name in said, found is not None
+                if name in said and found:
+                    self.fail(f"{name}: {found}\n{text}")
+
+    def test_no_library_differs_on_a_portable_plan(self) -> None:
+        """And on most of the others it may."""
+        counts: Counter[tuple[str, bool, bool]] = Counter()
+        for text in itertools.islice(make_small(SEED), COUNT):
+            counts.update(self.judge(text))
+        for name in JUDGED.values():
+            self.assertGreater(counts[name, True, False], LEAST)
+            self.assertGreater(counts[name, False, True], counts[name, False, False])
+
+
+if __name__ == "__main__":
+    unittest.main()
