@@ -201,12 +201,7 @@ fn judge_scripts(
 
 /// The report of a settled plan, of whose plain run this is the outcome, in the form that is asked for.
 #[tactic(auto, using(crate::proofs::Worked::standstill_tells, crate::proofs::Worked::report_told))]
-fn settled_text(
-    alloc: Global,
-    plan: &Plan,
-    outcome: &Outcome,
-    mode: Mode,
-) -> Result<Vec<u8>, Fault>
+fn settled_text(alloc: Global, plan: &Plan, outcome: &Outcome, mode: Mode) -> Result<Vec<u8>, Fault>
     requires { ends_of outcome.now ≡ plain_ends plan.now }
     ensures tells { IfOk result (λ text. TellsEnd mode.json mode.explain plan.now text.items) }
     ensures err { IfErr result (λ e. e ≡ Memory) }

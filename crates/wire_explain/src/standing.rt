@@ -21,11 +21,7 @@ pub struct Standing {
 }
 
 /// Appends a call, and its verb.
-pub fn push_said_call(
-    out: &mut Vec<u8>,
-    scripts: &Scripts,
-    place: CallAt,
-) -> Result<(), AllocError>
+pub fn push_said_call(out: &mut Vec<u8>, scripts: &Scripts, place: CallAt) -> Result<(), AllocError>
     ensures { OnOk result (out.new.items ≡ out.old.items ++ spec.said_call scripts.now place) }
 {
     push_call(out, scripts, place)?;

@@ -106,11 +106,7 @@ fn first_text(alloc: Global, pattern: &Pattern, first: &FirstWait) -> Result<Vec
 
 /// The lines about the first instance in which a rank waits, if there is one.
 #[tactic(auto, using(crate::proofs::FirstWaits::lines_told, crate::proofs::FirstWaits::no_lines_told))]
-fn lines_of(
-    alloc: Global,
-    pattern: &Pattern,
-    found: &Option<FirstWait>,
-) -> Result<Vec<u8>, Fault>
+fn lines_of(alloc: Global, pattern: &Pattern, found: &Option<FirstWait>) -> Result<Vec<u8>, Fault>
     ensures ok { IfOk result (λ text. LinesOf pattern.now found.now text.items) }
     ensures err { IfErr result (λ e. e ≡ Memory) }
 {
@@ -148,11 +144,7 @@ fn first_json(alloc: Global, pattern: &Pattern, first: &FirstWait) -> Result<Vec
 
 /// The member about the first instance in which a rank waits, and the end of the object.
 #[tactic(auto, using(crate::proofs::FirstWaits::member_told, crate::proofs::FirstWaits::no_member_told))]
-fn member_of(
-    alloc: Global,
-    pattern: &Pattern,
-    found: &Option<FirstWait>,
-) -> Result<Vec<u8>, Fault>
+fn member_of(alloc: Global, pattern: &Pattern, found: &Option<FirstWait>) -> Result<Vec<u8>, Fault>
     ensures ok { IfOk result (λ text. MemberOf pattern.now found.now text.items) }
     ensures err { IfErr result (λ e. e ≡ Memory) }
 {

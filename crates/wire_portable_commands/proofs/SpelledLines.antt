@@ -363,10 +363,11 @@ module _ (d : Declared) where
           (let here : slice_get (map (as_call one.0.job) one.0.calls) c ≡ Some (written.Fence set collect) = ap (λ o. slice_get (calls_of o) c) (sym one.1) ∙ is in
           elim (at_map (as_call one.0.job) (as_set one.0.job) None one.0.calls c) [
             | inl two ↦
-                (let fence = fence_said d (seen_in d) one.0.job two.0.1 set collect (same_Some _ _ (sym two.1 ∙ here)) in
-                (record { job = text_at d.jobs one.0.job; set = fence.0 },
-                ap (λ (r : Row). slice_index_or r c None) one.2 ∙ two.2 ∙ ap (of_job (text_at d.jobs one.0.job)) fence.1,
-                ap (λ (o : Option Process). text_at d.jobs (job_of o)) (sym one.1)))
+                (let fence = fence_said d (seen_in d) one.0.job two.0.1 set collect (same_Some _ _ (sym two.1 ∙ here)) in (
+                  record { job = text_at d.jobs one.0.job; set = fence.0 },
+                  ap (λ (r : Row). slice_index_or r c None) one.2 ∙ two.2 ∙ ap (of_job (text_at d.jobs one.0.job)) fence.1,
+                  ap (λ (o : Option Process). text_at d.jobs (job_of o)) (sym one.1),
+                ))
             | inr none ↦ absurd (none-some _ (sym none.0 ∙ here))
           ])
       | inr none ↦ absurd (none-some _ (ap (λ o. slice_get (calls_of o) c) (sym none.0) ∙ is))

@@ -98,11 +98,7 @@ fn report_at(alloc: Global, core: &Core<'_>, outcome: &Outcome) -> Result<Vec<u8
 
 /// The report of an outcome, behind who waits for ever where the plain run of a plan stands at last, as JSON: all ranks
 /// of a deadlock, where there is one, and all ranks that wait for no rank, each with its call and what it waits for.
-pub fn standstill_report(
-    alloc: Global,
-    plan: &Plan,
-    outcome: &Outcome,
-) -> Result<Vec<u8>, Fault>
+pub fn standstill_report(alloc: Global, plan: &Plan, outcome: &Outcome) -> Result<Vec<u8>, Fault>
     ensures reports { IfOk result (λ text. ReportsStandstill plan.now (ends_of outcome.now) text.items) }
     ensures err { IfErr result (λ e. e ≡ Memory) }
 {

@@ -12,6 +12,6 @@ returns-clause-ok c =
       lists = c.in_ok-members.ensures.lists;
       is = c.in_ok-extend_from_slice-2.ensures.items
           ∙ ap (λ xs. xs ++ c.as_slice-2.result.now)
-              (c.in_ok-extend_from_slice.ensures.items ∙ ap (λ xs. xs ++ c.as_slice.result.now) c.in_ok-text.ensures.items ∙ ap (λ xs. start ++ xs) c.as_slice.ensures.value)
+          (c.in_ok-extend_from_slice.ensures.items ∙ ap (λ xs. xs ++ c.as_slice.result.now) c.in_ok-text.ensures.items ∙ ap (λ xs. start ++ xs) c.as_slice.ensures.value)
           ∙ ap (λ xs. (start ++ members) ++ xs) (c.as_slice-2.ensures.value ∙ c.in_ok-rest.ensures) ∙ append_assoc start members rest;
     }
