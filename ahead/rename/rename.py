@@ -1,4 +1,3 @@
-#!/usr/bin/env python3
 """Renames definitions, types, functions, modules and crates of this repository by a table.
 
 `python3 ahead/rename/rename.py [TABLE]` at the top of a checkout changes its files in place. It finds out by imports

@@ -2,7 +2,7 @@
 
 ghost use Rattle.std.specs.Prelude.{◌≡◌, ◌<◌, IfOk, IfSome};
 ghost use Rattle.std.specs.List.{All};
-ghost use Rattle.wire_content.specs.Planned.{plan_of};
+ghost use Rattle.wire_scripts.specs.Planned.{plan_of};
 ghost use Rattle.wire_board.specs.Cuts.{procs_of};
 ghost use Rattle.wire_board.specs.Seats.{opening_seats};
 ghost use Rattle.wire_board.specs.Lanes.{AreTrails};
@@ -13,8 +13,8 @@ use std::sync::Wait;
 use std::test::Fail;
 use std::thread::{self, Threads, join};
 use wire_board::{Board, Seat};
-use wire_collect::outcome_of;
 use wire_core::plain_outcome;
+use wire_parallel_run::outcome_of;
 use wire_races::{Fate, Settled};
 use wire_sched::{Crew, Lanes, OpenGate, Round, take_turns, work};
 use wire_types::{Fault, Outcome, Proc};

@@ -3,7 +3,7 @@
 use crate::workers::plan_of_file;
 use std::alloc::Global;
 use std::test::Fail;
-use wire_marks::Marks;
+use wire_happens_before::HappensBefore;
 use wire_types::{Event, Fault, Proc};
 
 /// A plan whose ranks meet between two publishes of one name.
@@ -48,9 +48,9 @@ const CLOCKS: [(&[u8], u32, u32, (u32, u32)); 7] = [
 ];
 
 /// The marks of a file's plan.
-fn marks_of_file(alloc: Global, file: &[u8]) -> Result<Marks, Fault> {
+fn marks_of_file(alloc: Global, file: &[u8]) -> Result<HappensBefore, Fault> {
     let plan = plan_of_file(alloc, file)?;
-    let marks = Marks::of(alloc, &plan);
+    let marks = HappensBefore::of(alloc, &plan);
     drop(plan);
     marks
 }

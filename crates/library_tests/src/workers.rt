@@ -1,8 +1,8 @@
 //! What two threads do, and what one does.
 
 ghost use Rattle.std.specs.Prelude.{IfOk};
-ghost use Rattle.wire_content.specs.Planned.{plan_of};
-ghost use Rattle.wire_marks.specs.Clocks.{AreMarks};
+ghost use Rattle.wire_scripts.specs.Planned.{plan_of};
+ghost use Rattle.wire_happens_before.specs.Clocks.{AreMarks};
 ghost use Rattle.wire_findings.specs.Findings.{AreFindings};
 
 use crate::gates::{Counter, Later, Meeting};
@@ -11,15 +11,15 @@ use std::process::Abort;
 use std::sync::Wait;
 use std::test::Fail;
 use std::thread::Threads;
-use wire_collect::{run_any, run_workers};
 use wire_core::Core;
 use wire_findings::Finding;
+use wire_happens_before::HappensBefore;
 use wire_locked::LockedCore;
-use wire_marks::Marks;
+use wire_parallel_run::{run_any, run_workers};
 use wire_plan::Plan;
 use wire_races::{Settled, findings};
+use wire_reader::read;
 use wire_sched::{Gate, OpenGate, Round, work_locked};
-use wire_script::read;
 use wire_types::{CallEnd, Fault, MemorySink, MemorySource, Outcome, Proc, Status};
 use wire_up::{Ended, Mode, rehearse};
 
@@ -177,11 +177,11 @@ fn judge<R: Threads + Sync>(
     rt: &R,
     alloc: Global,
     plan: &Plan,
-) -> Result<(Marks, Vec<Finding>), Fault>
+) -> Result<(HappensBefore, Vec<Finding>), Fault>
     ensures marks { IfOk result (λ r. AreMarks (plan_of plan.now) r.0) }
     ensures findings { IfOk result (λ r. AreFindings plan.now r.1.items) }
 {
-    let marks = Marks::of(alloc, plan)?;
+    let marks = HappensBefore::of(alloc, plan)?;
     let found = findings(rt, alloc, plan, &marks)?;
     Ok((marks, found))
 }

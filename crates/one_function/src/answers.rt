@@ -2,8 +2,8 @@
 
 ghost use Rattle.std.specs.Prelude.{◌≡◌, IfOk};
 ghost use Rattle.std.specs.List.{All};
-ghost use Rattle.wire_content.specs.Planned.{plan_of};
-ghost use Rattle.wire_marks.specs.Clocks.{AreMarks};
+ghost use Rattle.wire_scripts.specs.Planned.{plan_of};
+ghost use Rattle.wire_happens_before.specs.Clocks.{AreMarks};
 ghost use Rattle.wire_findings.specs.Findings.{AreFindings};
 
 use crate::texts::{marks_text, plan_text, push_pieces, push_words, seats_text, workers_text};
@@ -11,15 +11,15 @@ use std::alloc::Global;
 use std::sync::Wait;
 use std::thread::Threads;
 use wire_board::{Board, Seat};
-use wire_collect::run_any;
 use wire_core::Core;
 use wire_findings::Finding;
-use wire_marks::Marks;
+use wire_happens_before::HappensBefore;
+use wire_parallel_run::run_any;
 use wire_plan::Plan;
 use wire_races::{Settled, findings};
+use wire_reader::read;
 use wire_report::{findings_text, report_text, unsettled_text};
 use wire_sched::{OpenGate, Round};
-use wire_script::read;
 use wire_types::Fault;
 
 /// What the deal of a round has: its number, and how many workers.
@@ -45,8 +45,8 @@ pub enum Part {
 /// A function that is given a plan, or what is made of it.
 #[derive(Clone, Copy)]
 pub enum OverPlan {
-    /// `Marks::of`.
-    Marks,
+    /// `HappensBefore::of`.
+    HappensBefore,
     /// `findings`.
     Findings,
     /// `Core::new`.
@@ -138,10 +138,10 @@ fn of_part(
     text
 }
 
-/// What `Marks::of` gives.
+/// What `HappensBefore::of` gives.
 fn of_marks(alloc: Global, plan: &Plan, stage: &mut Stage) -> Result<Vec<u8>, Fault> {
     *stage = Stage::Within;
-    let marks = Marks::of(alloc, plan)?;
+    let marks = HappensBefore::of(alloc, plan)?;
     *stage = Stage::After;
     let text = marks_text(alloc, &marks.with(plan));
     drop(marks);
@@ -154,7 +154,7 @@ fn of_findings(
     plan: &Plan,
     stage: &mut Stage,
 ) -> Result<Vec<u8>, Fault> {
-    let marks = Marks::of(rt.alloc(), plan)?;
+    let marks = HappensBefore::of(rt.alloc(), plan)?;
     *stage = Stage::Within;
     let found = findings(rt, rt.alloc(), plan, &marks);
     drop(marks);
@@ -211,11 +211,11 @@ fn of_workers(
 fn judge(
     rt: &(impl AllocGlobal + Threads + Sync),
     plan: &Plan,
-) -> Result<(Marks, Vec<Finding>), Fault>
+) -> Result<(HappensBefore, Vec<Finding>), Fault>
     ensures marks { IfOk result (λ r. AreMarks (plan_of plan.now) r.0) }
     ensures findings { IfOk result (λ r. AreFindings plan.now r.1.items) }
 {
-    let marks = Marks::of(rt.alloc(), plan)?;
+    let marks = HappensBefore::of(rt.alloc(), plan)?;
     match findings(rt, rt.alloc(), plan, &marks) {
         Ok(found) => Ok((marks, found)),
         Err(fault) => {

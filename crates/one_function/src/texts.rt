@@ -3,12 +3,12 @@
 ghost use Rattle.std.specs.Prelude.{◌≡◌, ◌<◌};
 ghost use Rattle.std.specs.List.{All};
 ghost use Rattle.wire_runs.specs.Plan.{event_count};
-ghost use Rattle.wire_content.specs.Planned.{plan_of};
+ghost use Rattle.wire_scripts.specs.Planned.{plan_of};
 
 use std::alloc::{AllocError, Global};
 use std::fmt::Write;
 use wire_board::{Board, Seat};
-use wire_marks::MarkedPlan;
+use wire_happens_before::MarkedPlan;
 use wire_plan::Plan;
 use wire_races::Settled;
 use wire_sched::{Pass, Piece};

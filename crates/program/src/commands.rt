@@ -8,18 +8,19 @@ use std::rt::Files;
 use std::sync::Wait;
 use std::thread::Threads;
 use wire_command_line::{
-    CallPair, Command, ExpandOptions, Judged, PairOptions, PatternOptions, ReplayOptions, Request,
-    Spread as SpreadAsked,
+    CallPair, CheckScope, Command, ExpandOptions, PairOptions, PatternOptions, ReplayOptions,
+    Request, Spread as SpreadAsked,
 };
 use wire_commands::{
-    Ended, Manner, Mode, PairAsked, Replaying, answer_question, check_placements, check_plan,
-    check_replies, follow_plan, migrate_plan, place_plan, replay_plan, witness_pair, witness_races,
+    CommandOptions, Ended, Mode, PairAsked, ReplaySettings, check_placements, check_plan,
+    check_replies, explain_order, follow_plan, migrate_plan, place_plan, replay_plan, witness_pair,
+    witness_races,
 };
 use wire_explain::Language;
 use wire_pattern_commands::{Expansion, PatternAsked, Spread, check_pattern, expand_pattern};
 use wire_portable_commands::{PortableAsked, check_portable};
+use wire_reader::Size;
 use wire_sched::OpenGate;
-use wire_script::Size;
 use wire_types::{Fault, FromRead, Sink, Source};
 
 /// The exit status of what was done, where nothing is to be told by it.
@@ -42,8 +43,8 @@ pub fn name_of(plan: Option<&str>) -> &str {
 }
 
 /// In which manner a command works.
-fn manner_of<'a>(request: &Request<'a>) -> Manner<'a> {
-    Manner {
+fn manner_of<'a>(request: &Request<'a>) -> CommandOptions<'a> {
+    CommandOptions {
         name: name_of(request.plan).as_bytes(),
         size: request.size,
         form: request.form,
@@ -101,7 +102,7 @@ pub fn groups_of<'a>(command: Command<'a>) -> Option<&'a str> {
 /// In which language the file of a command is written.
 pub fn language_of(command: Command<'_>) -> Language {
     match command {
-        Command::Check(Judged::Pattern(_)) | Command::Expand(_) => Language::Pattern,
+        Command::Check(CheckScope::Pattern(_)) | Command::Expand(_) => Language::Pattern,
         _ => Language::Plan,
     }
 }
@@ -140,7 +141,7 @@ pub fn run_command<R: Read, W: Sink>(
         }
         Command::Why(calls) => {
             let words = words_of(calls);
-            status_of(answer_question(rt.alloc(), manner, reader, writer, words))
+            status_of(explain_order(rt.alloc(), manner, reader, writer, words))
         }
         Command::Migrate => {
             migrate_plan(rt.alloc(), request.size, reader, writer)?;
@@ -169,18 +170,18 @@ pub fn run_command<R: Read, W: Sink>(
 fn check<S: Source, W: Sink>(
     rt: &(impl AllocGlobal + Threads + Sync),
     request: &Request<'_>,
-    judged: Judged,
+    judged: CheckScope,
     reader: &mut S,
     writer: &mut W,
 ) -> Result<Ended, Fault> {
     let manner = manner_of(request);
     match judged {
-        Judged::Written => check_plan(rt, rt.alloc(), manner, reader, writer),
-        Judged::Anywhere => check_placements(rt, rt.alloc(), manner, reader, writer),
-        Judged::Same => check_replies(rt, rt.alloc(), manner, reader, writer),
-        Judged::Portable => check_libraries(rt, manner, false, reader, writer),
-        Judged::PortableAnywhere => check_libraries(rt, manner, true, reader, writer),
-        Judged::Pattern(options) => {
+        CheckScope::Written => check_plan(rt, rt.alloc(), manner, reader, writer),
+        CheckScope::Anywhere => check_placements(rt, rt.alloc(), manner, reader, writer),
+        CheckScope::Same => check_replies(rt, rt.alloc(), manner, reader, writer),
+        CheckScope::Portable => check_libraries(rt, manner, false, reader, writer),
+        CheckScope::PortableAnywhere => check_libraries(rt, manner, true, reader, writer),
+        CheckScope::Pattern(options) => {
             let asked = pattern_asked(request, options);
             check_pattern(rt, rt.alloc(), asked, reader, writer)
         }
@@ -190,7 +191,7 @@ fn check<S: Source, W: Sink>(
 /// Checks a plan, and tells on which libraries each run does as the rules say.
 fn check_libraries<S: Source, W: Sink>(
     rt: &(impl AllocGlobal + Threads + Sync),
-    manner: Manner<'_>,
+    manner: CommandOptions<'_>,
     anywhere: bool,
     reader: &mut S,
     writer: &mut W,
@@ -252,13 +253,16 @@ fn asked_of<'a>(options: PairOptions<'a>) -> PairAsked<'a> {
 }
 
 /// How a plan is replayed. With `--explain` JSON has who waits for ever.
-fn replaying_of(request: &Request<'_>, options: ReplayOptions) -> Replaying<'static, OpenGate> {
+fn replaying_of(
+    request: &Request<'_>,
+    options: ReplayOptions,
+) -> ReplaySettings<'static, OpenGate> {
     let mode = Mode {
         json: request.form.is_json(),
         anyway: options.anyway,
         explain: request.explain,
     };
-    Replaying {
+    ReplaySettings {
         size: request.size,
         workers: options.workers,
         mode,
@@ -269,7 +273,7 @@ fn replaying_of(request: &Request<'_>, options: ReplayOptions) -> Replaying<'sta
 /// Replays a plan. If it is to be complete, it names the first call that doesn't succeed.
 fn replay<S: Source, W: Sink>(
     rt: &(impl Eprint + AllocGlobal + Threads + Wait + Sync),
-    replaying: Replaying<'_, OpenGate>,
+    replaying: ReplaySettings<'_, OpenGate>,
     complete: bool,
     watch: OrderWatch<'_>,
     reader: &mut S,
@@ -298,7 +302,7 @@ fn tell_call(rt: &impl Eprint, line: &[u8]) {
 /// Follows the order of a file on a plan, which was opened first.
 fn follow<S: Source, W: Sink>(
     rt: &(impl Files + AllocGlobal),
-    manner: Manner<'_>,
+    manner: CommandOptions<'_>,
     order: &str,
     watch: OrderWatch<'_>,
     reader: &mut S,

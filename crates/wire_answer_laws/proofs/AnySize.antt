@@ -5,14 +5,14 @@ use Rattle.std.proofs.lemmas.Option.{slice_get_within}
 use Rattle.wire_types.specs.Said.{is_reserved}
 use Rattle.wire_runs.specs.Plan.{process_count}
 use Rattle.wire_runs.specs.Races.{IsSettled}
-use Rattle.wire_content.specs.Scripts.{text_at, call_at}
-use Rattle.wire_content.specs.Planned.{plan_of}
+use Rattle.wire_scripts.specs.Scripts.{text_at, call_at}
+use Rattle.wire_scripts.specs.Planned.{plan_of}
 use Rattle.wire_pattern.specs.Instances as text
 use Rattle.wire_pattern.specs.Instances.{cast_of}
 use Rattle.wire_instances.proofs.Groups.{length_roles}
 use Rattle.wire_instance_laws.specs.Reading.{IsOfCast}
 use Rattle.wire_instance_laws.proofs.Read.{instances_read}
-use Rattle.wire_sweep.proofs.Texts.{texts_settled}
+use Rattle.wire_cutoff.proofs.Texts.{texts_settled}
 use Rattle.wire_pattern_answers.specs.Answers.{Answers}
 use Rattle.wire_answer_laws.specs.AnySize.{AnswersOfSmall}
 use Rattle.wire_answer_laws.proofs.AskedLines.{AsksFor}

@@ -9,15 +9,15 @@ use Rattle.wire_types.specs.declared.Proc.{Proc}
 use Rattle.wire_runs.specs.Patterns.{Who, who}
 use Rattle.wire_runs.proofs.Codings.{have_coding}
 use Rattle.wire_runs.proofs.Lists.{slice_get-map_kept, slice_get-map_back}
-use Rattle.wire_content.specs.Scripts.{Scripts, text_at, calls_in, call_at}
-use Rattle.wire_script.specs.declared.limits.Size.{Size}
-use Rattle.wire_script.specs.FirstPass.{Started, Declared, is_among, number_or_count}
-use Rattle.wire_script.specs.Reads.{Reads, proc_number, keys_in, seen_in, numbered, process_of, scripts_of}
-use Rattle.wire_script.proofs.Seen.{alone}
+use Rattle.wire_scripts.specs.Scripts.{Scripts, text_at, calls_in, call_at}
+use Rattle.wire_reader.specs.declared.limits.Size.{Size}
+use Rattle.wire_reader.specs.FirstPass.{Started, Declared, is_among, number_or_count}
+use Rattle.wire_reader.specs.Reads.{Reads, proc_number, keys_in, seen_in, numbered, process_of, scripts_of}
+use Rattle.wire_reader.proofs.Seen.{alone}
 use Rattle.wire_pattern.specs.Pattern.{Indexed, Call, Put, Commit, Fence, Get, GetNow, Publish, Lookup, LookupWait, Unpublish, UnpublishAll, Pattern}
 use Rattle.wire_pattern.specs.Planned.{steps_in}
 use Rattle.wire_pattern.specs.Instances.{Cast, IsCast, process_count, cast_of, word_text, owner_job, owner_rank, call_said, instance_text}
-use Rattle.wire_pattern.specs.Lawful.{IsSound}
+use Rattle.wire_pattern.specs.Lawful.{IsSoundPattern}
 use Rattle.wire_instance_laws.proofs.Declared.{IsDeclaredAs, declared_as, IsStarted, as_many, started, number_is}
 use Rattle.wire_instance_laws.proofs.Lawful.{made_good}
 use Rattle.wire_instance_laws.proofs.Made.{Turned, in_steps, said_by, steps_are_said, IsGoodCall}
@@ -52,7 +52,7 @@ pub record AsksFor (s : Scripts) (v c : ℕ) (text : List ℕ) : Type 0 where
   pub there : owner.number < length s.processes
   pub text_is : text_at s.keys key ≡ text
 
-module _ (p : Pattern) (cast : Cast) (sound : IsSound p) (is_cast : IsCast p cast) (size : Size) (s : Scripts)
+module _ (p : Pattern) (cast : Cast) (sound : IsSoundPattern p) (is_cast : IsCast p cast) (size : Size) (s : Scripts)
     (reads : Reads size (instance_text p cast) (Ok s)) where
   declared : (a : IsDeclaredAs p cast) × (s ≡ scripts_of a.d)
   declared = declared_as p cast sound is_cast size s reads

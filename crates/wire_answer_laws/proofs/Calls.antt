@@ -18,15 +18,15 @@ use Rattle.wire_runs.specs.Patterns.{instance_of, calls_from}
 use Rattle.wire_runs.specs.Restrictions.{on_nodes}
 use Rattle.wire_runs.specs.Renamed.{renumbering}
 use Rattle.wire_runs.proofs.Codings.{have_coding}
-use Rattle.wire_content.specs.Scripts.{Scripts, text_at, call_at, calls_in}
-use Rattle.wire_content.specs.Planned.{reply_of_key, unless_reserved, planned_call, plan_of}
+use Rattle.wire_scripts.specs.Scripts.{Scripts, text_at, call_at, calls_in}
+use Rattle.wire_scripts.specs.Planned.{reply_of_key, unless_reserved, planned_call, plan_of}
 use Rattle.wire_pattern.specs.Pattern.{Pattern, Step}
 use Rattle.wire_pattern.specs.Planned.{pattern_of, step_of, steps_in}
 use Rattle.wire_pattern.specs.Instances.{Cast, cast_of}
 use Rattle.wire_pattern_laws.specs.Lines.{numbers_from, IsOfLine}
 use Rattle.wire_instance_laws.specs.Reading.{IsInstance, IsOfCast}
 use Rattle.wire_instance_laws.proofs.Calls.{instance_calls}
-use Rattle.wire_sweep.proofs.Texts.{there_is}
+use Rattle.wire_cutoff.proofs.Texts.{there_is}
 use Rattle.wire_pattern_waits.specs.Places.{steps_places}
 use Rattle.wire_pattern_answers.specs.FewPlacings.{asks_now}
 use Rattle.wire_pattern_answers.proofs.Calls.{first_kind, kind_there, place_in, planned_there}

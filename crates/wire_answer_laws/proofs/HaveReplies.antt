@@ -10,15 +10,15 @@ use Rattle.wire_runs.specs.Ends.{row, calls_of}
 use Rattle.wire_runs.specs.Laws.{plain_end}
 use Rattle.wire_runs.proofs.Ends.{rows_are_whole}
 use Rattle.wire_runs.proofs.PlainRun.{plain_runs}
-use Rattle.wire_content.specs.Scripts.{Scripts}
-use Rattle.wire_content.specs.Planned.{plan_of}
+use Rattle.wire_scripts.specs.Scripts.{Scripts}
+use Rattle.wire_scripts.specs.Planned.{plan_of}
 use Rattle.wire_core.specs.EndsAfter.{plain_ends}
-use Rattle.wire_script.specs.declared.Size.TheVariants.{OfVersion}
-use Rattle.wire_script.specs.Reads.{Reads}
+use Rattle.wire_reader.specs.declared.Size.TheVariants.{OfVersion}
+use Rattle.wire_reader.specs.Reads.{Reads}
 use Rattle.wire_pattern.specs.Pattern.{Pattern}
 use Rattle.wire_pattern.specs.Instances.{instance_text}
-use Rattle.wire_sweep.specs.Selections.{Selection, selections}
-use Rattle.wire_sweep.proofs.Texts.{there_is}
+use Rattle.wire_cutoff.specs.Selections.{Selection, selections}
+use Rattle.wire_cutoff.proofs.Texts.{there_is}
 use Rattle.wire_pattern_waits.specs.Waits.{alone, AllReplied}
 use Rattle.wire_pattern_waits.proofs.Answered.{row_of}
 

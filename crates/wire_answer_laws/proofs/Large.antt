@@ -16,12 +16,12 @@ use Rattle.wire_runs.proofs.Codings.{have_coding}
 use Rattle.wire_runs.proofs.Lists.{slice_get-map_back}
 use Rattle.wire_runs.proofs.PlacingKeeps.{placing_keeps, kind_kept}
 use Rattle.wire_runs.proofs.RestrictedWhole.{instance_node}
-use Rattle.wire_content.specs.Scripts.{Scripts, call_at, calls_in}
-use Rattle.wire_content.specs.Planned.{plan_of}
-use Rattle.wire_content.proofs.PlannedCalls.{as_many_planned}
+use Rattle.wire_scripts.specs.Scripts.{Scripts, call_at, calls_in}
+use Rattle.wire_scripts.specs.Planned.{plan_of}
+use Rattle.wire_scripts.proofs.PlannedCalls.{as_many_planned}
 use Rattle.wire_pattern.specs.Pattern.{Pattern}
 use Rattle.wire_pattern.specs.Planned.{pattern_of, least_of}
-use Rattle.wire_pattern.specs.Lawful.{IsSound}
+use Rattle.wire_pattern.specs.Lawful.{IsSoundPattern}
 use Rattle.wire_pattern.proofs.Lawful.{sound_is_lawful}
 use Rattle.wire_pattern.specs.Instances as text
 use Rattle.wire_pattern.specs.Instances.{Cast, IsCast, cast_of}
@@ -33,11 +33,11 @@ use Rattle.wire_pattern_laws.proofs.SmallFinds.{finds_are_said, finds_of_small}
 use Rattle.wire_pattern_laws.proofs.StatusesNumbered.{renumbered_finds}
 use Rattle.wire_instances.proofs.Groups.{length_roles}
 use Rattle.wire_instance_laws.specs.Reading.{IsInstance, IsOfCast}
-use Rattle.wire_sweep_laws.specs.Promised.{IsAnyCast, IsSettledForAll}
-use Rattle.wire_sweep_laws.proofs.Few.{most_at, three}
-use Rattle.wire_sweep.specs.Texts.{HaveLeast}
-use Rattle.wire_sweep.proofs.Texts.{there_is, any_cast}
-use Rattle.wire_pattern_answers.specs.Answers.{IsAnswered}
+use Rattle.wire_cutoff_laws.specs.Promised.{IsAnyCast, IsSettledForAll}
+use Rattle.wire_cutoff_laws.proofs.Few.{most_at, three}
+use Rattle.wire_cutoff.specs.Texts.{HaveLeast}
+use Rattle.wire_cutoff.proofs.Texts.{there_is, any_cast}
+use Rattle.wire_pattern_answers.specs.Answers.{IsAnsweredAtLine}
 use Rattle.wire_pattern_answers.proofs.Calls.{place_in}
 use Rattle.wire_pattern_answers.proofs.Events.{row_to, said_status, end_reached}
 use Rattle.wire_answer_laws.proofs.SameNodes.{agree_all, finds_there}
@@ -80,8 +80,8 @@ instance_there p cast s of nodes v lt =
     let role = there_is (cast_of cast).roles v (omega (arith, few, count)) in
     (of.instances have_coding nodes).renumbered.nodes v ∙ instance_node (pattern_of p) have_coding (on_nodes nodes (cast_of cast)) v role.0 role.1
 
-module _ (p : Pattern) (sound : IsSound p) (settled : IsSettledForAll p) (cast : Cast) (s : Scripts) (is_cast : IsCast p cast) (least : HaveLeast p.roles cast.sizes) (of : IsOfCast p cast s)
-    (here : IsSettled (plan_of s)) (role line : ℕ) (status : Status) (a : IsAnswered p cast s role line status)
+module _ (p : Pattern) (sound : IsSoundPattern p) (settled : IsSettledForAll p) (cast : Cast) (s : Scripts) (is_cast : IsCast p cast) (least : HaveLeast p.roles cast.sizes) (of : IsOfCast p cast s)
+    (here : IsSettled (plan_of s)) (role line : ℕ) (status : Status) (a : IsAnsweredAtLine p cast s role line status)
     (asked : AsksPlainly s (call_at s.processes a.process a.call)) where
   abbrev x : Event
   x = record { proc = a.process; at = place_in s a.process a.call }

@@ -13,18 +13,18 @@ use Rattle.wire_runs.proofs.Lists.{slice_get-map_kept}
 use Rattle.wire_pattern.specs.Pattern.{Role, Pattern}
 use Rattle.wire_pattern.specs.Planned.{single_in}
 use Rattle.wire_pattern.specs.Instances.{Turn, is_turn, is_taken, cast_of}
-use Rattle.wire_pattern.specs.Lawful.{IsSound}
+use Rattle.wire_pattern.specs.Lawful.{IsSoundPattern}
 use Rattle.wire_instances.specs.Tables.{first_of}
 use Rattle.wire_instances.proofs.Groups.{group_range}
 use Rattle.wire_instance_laws.proofs.Roles.{member_role, role_member}
-use Rattle.wire_sweep_laws.specs.Sizes.{most_of}
-use Rattle.wire_sweep_laws.specs.Choices.{optional_turns, chosen_by}
-use Rattle.wire_sweep_laws.proofs.Few.{most_at, three}
-use Rattle.wire_sweep.specs.Selections.{Selection, select, selections, most_sizes}
-use Rattle.wire_sweep.proofs.Listed.{most_are}
-use Rattle.wire_sweep.proofs.Members.{In, in_left, in_right, in_place, in_parts}
-use Rattle.wire_sweep.proofs.Selected.{selection_there}
-use Rattle.wire_sweep.proofs.Texts.{there_is}
+use Rattle.wire_cutoff_laws.specs.Sizes.{most_of}
+use Rattle.wire_cutoff_laws.specs.Choices.{optional_turns, chosen_by}
+use Rattle.wire_cutoff_laws.proofs.Few.{most_at, three}
+use Rattle.wire_cutoff.specs.Selections.{Selection, select, selections, most_sizes}
+use Rattle.wire_cutoff.proofs.Listed.{most_are}
+use Rattle.wire_cutoff.proofs.Members.{In, in_left, in_right, in_place, in_parts}
+use Rattle.wire_cutoff.proofs.Selected.{selection_there}
+use Rattle.wire_cutoff.proofs.Texts.{there_is}
 use Rattle.wire_pattern_waits.specs.Waits.{alone}
 
 in_range : (a k i : ℕ) → i < k → In (a + i) (range_with_len a k)
@@ -117,7 +117,7 @@ some_processes role = elim (cases_Bool role.single) [
   | inr many ↦ let two = two_processes role many in omega (arith, two)
 ]
 
-module _ (p : Pattern) (sound : IsSound p) where
+module _ (p : Pattern) (sound : IsSoundPattern p) where
   abbrev pub sizes : List ℕ
   sizes = most_sizes p.roles
 

@@ -11,13 +11,13 @@ use Rattle.wire_runs.specs.Plan.{process_count}
 use Rattle.wire_runs.specs.Patterns.{who}
 use Rattle.wire_runs.specs.Races.{IsSettled}
 use Rattle.wire_runs.proofs.Lists.{slice_get-map_kept, slice_get-map_back}
-use Rattle.wire_content.specs.Scripts.{Scripts, text_at, calls_in}
-use Rattle.wire_content.specs.Planned.{plan_of}
-use Rattle.wire_content.proofs.PlannedCalls.{as_many_planned}
+use Rattle.wire_scripts.specs.Scripts.{Scripts, text_at, calls_in}
+use Rattle.wire_scripts.specs.Planned.{plan_of}
+use Rattle.wire_scripts.proofs.PlannedCalls.{as_many_planned}
 use Rattle.wire_core.specs.EndsAfter.{plain_ends}
-use Rattle.wire_script.specs.declared.limits.Size.{Size}
-use Rattle.wire_script.specs.declared.Size.TheVariants.{OfVersion}
-use Rattle.wire_script.specs.Reads.{Reads}
+use Rattle.wire_reader.specs.declared.limits.Size.{Size}
+use Rattle.wire_reader.specs.declared.Size.TheVariants.{OfVersion}
+use Rattle.wire_reader.specs.Reads.{Reads}
 use Rattle.wire_pattern.specs.Pattern.{Pattern, Step}
 use Rattle.wire_pattern.specs.Planned.{steps_in}
 use Rattle.wire_pattern.specs.Instances as text
@@ -29,16 +29,16 @@ use Rattle.wire_instance_laws.proofs.Facts.{role_low}
 use Rattle.wire_instance_laws.proofs.Made.{Turned, in_steps}
 use Rattle.wire_instance_laws.proofs.Read.{instances_read}
 use Rattle.wire_instance_laws.proofs.Words.{reserved_is}
-use Rattle.wire_sweep.specs.Selections.{Selection, selections}
-use Rattle.wire_sweep.specs.Texts.{HaveLeast}
-use Rattle.wire_sweep.proofs.Members.{In, in_place, at_place}
-use Rattle.wire_sweep.proofs.Selected.{selections_are, selections_few}
-use Rattle.wire_sweep.proofs.Texts.{there_is, texts_settled, any_cast}
+use Rattle.wire_cutoff.specs.Selections.{Selection, selections}
+use Rattle.wire_cutoff.specs.Texts.{HaveLeast}
+use Rattle.wire_cutoff.proofs.Members.{In, in_place, at_place}
+use Rattle.wire_cutoff.proofs.Selected.{selections_are, selections_few}
+use Rattle.wire_cutoff.proofs.Texts.{there_is, texts_settled, any_cast}
 use Rattle.wire_pattern_waits.specs.Places.{steps_places}
 use Rattle.wire_pattern_waits.specs.Waits.{alone}
 use Rattle.wire_pattern_waits.proofs.Replied.{alone_cast}
 use Rattle.wire_pattern_answers.specs.FewPlacings.{asks_now}
-use Rattle.wire_pattern_answers.specs.Answers.{IsAnswered, Answers}
+use Rattle.wire_pattern_answers.specs.Answers.{IsAnsweredAtLine, Answers}
 use Rattle.wire_pattern_answers.proofs.Placed.{own_nodes, itself}
 use Rattle.wire_pattern_answers.proofs.Settled.{have_least}
 use Rattle.wire_answer_laws.specs.AnySize.{IsAllAnswered}
@@ -67,7 +67,7 @@ line_of_call cast v c line steps is =
     }
 
 module _ (p : Pattern) (all : IsAllAnswered p) (cast : Cast) (size : Size) (s : Scripts) (is_cast : IsCast p cast) (least : HaveLeast p.roles cast.sizes)
-    (reads : Reads size (instance_text p cast) (Ok s)) (role line : ℕ) (status : Status) (a : IsAnswered p cast s role line status) where
+    (reads : Reads size (instance_text p cast) (Ok s)) (role line : ℕ) (status : Status) (a : IsAnsweredAtLine p cast s role line status) where
   abbrev steps : List Step
   steps = steps_in (slice_get p.roles role)
 
@@ -176,7 +176,7 @@ module _ (p : Pattern) (all : IsAllAnswered p) (cast : Cast) (size : Size) (s : 
         (ap is_reserved asked_there.text_is ∙ reserved_is asks.word.base _ ∙ reserved_base) asked_there.there
         replied.0.status (record { reply = replied.0; is = replied.1; has = refl }) ∙ ap reserved_status asked_there.text_is
 
-    answered : IsAnswered p whole there role line status
+    answered : IsAnsweredAtLine p whole there role line status
     answered = record {
       process = v;
       call = c;
@@ -203,6 +203,6 @@ module _ (p : Pattern) (all : IsAllAnswered p) (cast : Cast) (size : Size) (s : 
         reads = reads_there;
         names = there.nodes;
         nodes = own_nodes there;
-        answered = subst (λ scripts. IsAnswered p whole scripts role line status) (itself there) answered;
+        answered = subst (λ scripts. IsAnsweredAtLine p whole scripts role line status) (itself there) answered;
       };
     }

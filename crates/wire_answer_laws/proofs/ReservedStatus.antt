@@ -16,9 +16,9 @@ use Rattle.wire_runs.specs.Plan as runs
 use Rattle.wire_runs.specs.Plan.{Event, Kind, kind, kind_at, process_count}
 use Rattle.wire_runs.specs.Ends.{calls_of}
 use Rattle.wire_runs.specs.Races.{IsSettled}
-use Rattle.wire_content.specs.Reserved.{reserved_reply}
-use Rattle.wire_content.specs.Scripts.{Scripts, text_at, call_at}
-use Rattle.wire_content.specs.Planned.{reply_of_key, planned_call, plan_of}
+use Rattle.wire_scripts.specs.Reserved.{reserved_reply}
+use Rattle.wire_scripts.specs.Scripts.{Scripts, text_at, call_at}
+use Rattle.wire_scripts.specs.Planned.{reply_of_key, planned_call, plan_of}
 use Rattle.wire_pattern.specs.Instances.{indexed_text}
 use Rattle.wire_pattern_laws.specs.Finds.{status_of}
 use Rattle.wire_pattern_answers.specs.FewPlacings.{IsAnsweredWith}

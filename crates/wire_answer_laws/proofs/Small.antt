@@ -23,14 +23,14 @@ use Rattle.wire_runs.proofs.PlacingKeeps.{turned, kind_kept}
 use Rattle.wire_runs.proofs.PlacingReplies.{reflexive}
 use Rattle.wire_runs.proofs.PlacingRuns.{done_alike}
 use Rattle.wire_runs.proofs.Renumbered.{embeds}
-use Rattle.wire_content.specs.Scripts.{Scripts, call_at}
-use Rattle.wire_content.specs.Planned.{planned_process, plan_of}
-use Rattle.wire_content.specs.Placed.{moved}
-use Rattle.wire_content.proofs.Moved.{moved_length, as_placing, node_moved}
-use Rattle.wire_content.proofs.PlannedCalls.{as_many_planned}
+use Rattle.wire_scripts.specs.Scripts.{Scripts, call_at}
+use Rattle.wire_scripts.specs.Planned.{planned_process, plan_of}
+use Rattle.wire_scripts.specs.Placed.{moved}
+use Rattle.wire_scripts.proofs.Moved.{moved_length, as_placing, node_moved}
+use Rattle.wire_scripts.proofs.PlannedCalls.{as_many_planned}
 use Rattle.wire_core.specs.EndsAfter.{plain_ends}
-use Rattle.wire_script.specs.declared.Size.TheVariants.{OfVersion}
-use Rattle.wire_script.specs.Reads.{Reads}
+use Rattle.wire_reader.specs.declared.Size.TheVariants.{OfVersion}
+use Rattle.wire_reader.specs.Reads.{Reads}
 use Rattle.wire_pattern.specs.Pattern.{Pattern}
 use Rattle.wire_pattern.specs.Planned.{pattern_of, least_of, steps_in}
 use Rattle.wire_pattern.specs.Instances as text
@@ -44,15 +44,15 @@ use Rattle.wire_pattern_laws.proofs.StatusesNumbered.{renumbered_finds}
 use Rattle.wire_instances.proofs.Groups.{length_roles}
 use Rattle.wire_instance_laws.specs.Reading.{IsInstance, IsOfCast}
 use Rattle.wire_instance_laws.proofs.Read.{instances_read}
-use Rattle.wire_sweep_laws.specs.Sizes.{AreFewSizes, total_of}
-use Rattle.wire_sweep_laws.specs.Choices.{optional_turns, chosen_by, cast_on}
-use Rattle.wire_sweep_laws.specs.Promised.{IsAnyCast, AreFewSettled}
-use Rattle.wire_sweep_laws.proofs.Few as few
-use Rattle.wire_sweep_laws.proofs.Few.{most_at}
-use Rattle.wire_sweep.specs.Selections.{Selection, select, selections}
-use Rattle.wire_sweep.proofs.Members.{in_place}
-use Rattle.wire_sweep.proofs.Selected.{selection_there, selections_few}
-use Rattle.wire_sweep.proofs.Texts.{any_cast}
+use Rattle.wire_cutoff_laws.specs.Sizes.{AreFewSizes, total_of}
+use Rattle.wire_cutoff_laws.specs.Choices.{optional_turns, chosen_by, cast_on}
+use Rattle.wire_cutoff_laws.specs.Promised.{IsAnyCast, AreFewSettled}
+use Rattle.wire_cutoff_laws.proofs.Few as few
+use Rattle.wire_cutoff_laws.proofs.Few.{most_at}
+use Rattle.wire_cutoff.specs.Selections.{Selection, select, selections}
+use Rattle.wire_cutoff.proofs.Members.{in_place}
+use Rattle.wire_cutoff.proofs.Selected.{selection_there, selections_few}
+use Rattle.wire_cutoff.proofs.Texts.{any_cast}
 use Rattle.wire_pattern_waits.specs.Places.{steps_places}
 use Rattle.wire_pattern_waits.specs.Waits.{alone}
 use Rattle.wire_pattern_waits.proofs.Answered.{places_between}

@@ -11,7 +11,7 @@ use Rattle.wire_pattern.specs.Pattern.{Line, Step, Once, Loop, Pattern}
 use Rattle.wire_pattern.specs.Instances.{Cast, cast_of}
 use Rattle.wire_pattern.specs.Lawful.{waits_after_step, is_sound_step, are_sound_steps}
 use Rattle.wire_instance_laws.proofs.Made.{Turned, in_turn, in_turns, in_step, in_steps}
-use Rattle.wire_sweep.proofs.Members.{In, in_left, in_right, in_parts, in_flat, flat_in}
+use Rattle.wire_cutoff.proofs.Members.{In, in_left, in_right, in_parts, in_flat, flat_in}
 use Rattle.wire_pattern_waits.specs.Places.{line_count, step_places, steps_places}
 
 -- the number of a line, and the line in a turn

@@ -8,7 +8,7 @@ use Rattle.wire_runs.specs.Fences.{is_member}
 use Rattle.wire_runs.specs.Order.{IsArrival, Live, Before}
 use Rattle.wire_runs.specs.Races.{Delivery, ByFence, ByGet, IsOf, FenceBringsAway, GetBringsAway}
 use Rattle.wire_runs.specs.Placings.{Carries, HasSurely, IsFarRace}
-use Rattle.wire_runs.specs.FindingsAnywhere.{Placed, IsLeastFar}
+use Rattle.wire_runs.specs.FindingsAnywhere.{PlacementFinding, IsLeastFar}
 use Rattle.wire_plan.specs.Index.{IsDelivering, AreArrivals}
 use Rattle.wire_plan.proofs.Delivering.{here}
 use Rattle.wire_runs.proofs.FenceChains.{one_member_tells, member_arrives}
@@ -20,9 +20,9 @@ use Rattle.wire_runs.proofs.Histories.{joined}
 use Rattle.wire_fates.proofs.Sooner.{sooner_live, sooner_before}
 use Rattle.wire_anywhere.specs.declared.placed.PlacedFinding.{PlacedFinding}
 use Rattle.wire_anywhere.specs.Gets.{AreCarrying}
-use Rattle.wire_anywhere.specs.Carriers.{Lacks, IsFirstLacking}
-use Rattle.wire_anywhere.specs.Adding.{Adds}
-use Rattle.wire_anywhere.specs.Races.{IsUnsure, IsRaceWith, IsFarBy, IsFarAt, AreFarBelow, AreFarByGets, AreFarGetsBelow}
+use Rattle.wire_anywhere.specs.Carriers.{LacksSurely, IsFirstLacking}
+use Rattle.wire_anywhere.specs.Adding.{AddsPlacementFindings}
+use Rattle.wire_anywhere.specs.Races.{IsUnsureAnywhere, IsRaceWith, IsFarBy, IsFarAt, AreFarBelow, AreFarByGets, AreFarGetsBelow}
 use Rattle.wire_anywhere.proofs.Growing.{adds_none, adds_same, adds_both}
 use Rattle.wire_anywhere.proofs.Surely.{delivering}
 
@@ -33,7 +33,7 @@ arrival_no_get plan x members j p key a is = let arrives : kind plan x ≡ Some 
 module _ (plan : Plan) (get : Event) (p key : ℕ) where
   -- of a far race of an arrival the other process is a member that lacks the key
   far_member : (at : ℕ) (x : Event) (m : ℕ) → (d : IsDelivering plan p key (node_of plan p) at) → IsLate plan get (here p at) x → IsFarRace plan x get p key m →
-      (is_member d.members m ≡ true) × Lacks plan p key get m
+      (is_member d.members m ≡ true) × LacksSurely plan p key get m
   far_member at x m d l r = (go r.delivery r.carries r.of_it, (r.carries.another, r.neighbour_not_sure))
     where
       there : IsArrival plan d.members d.j x
@@ -44,7 +44,7 @@ module _ (plan : Plan) (get : Event) (p key : ℕ) where
       go (ByGet z) c e = absurd (arrival_no_get plan x d.members d.j p key there (ap (kind plan) e ∙ c.brings_away.is))
 
   -- the arrivals at a late fence, in process order
-  module _ (n : IsUnsure plan get p key) (at : ℕ) (x : Event) (d : IsDelivering plan p key (node_of plan p) at) (l : IsLate plan get (here p at) x) (places : List Event)
+  module _ (n : IsUnsureAnywhere plan get p key) (at : ℕ) (x : Event) (d : IsDelivering plan p key (node_of plan p) at) (l : IsLate plan get (here p at) x) (places : List Event)
       (those : (members : List ℕ) (j : ℕ) → IsArrival plan members j (here p at) → AreArrivals plan members j places) where
     are : AreArrivals plan d.members d.j places
     are = those d.members d.j d.arrival
@@ -86,7 +86,7 @@ module _ (plan : Plan) (get : Event) (p key : ℕ) where
           let its = there.3 in
           let mine = f.proc in
           elim (cases_lt there.0 f.k) [
-            | inl low ↦ f.others there.0 there.1 low there.2 (subst (Lacks plan p key get) (sym its) w.1)
+            | inl low ↦ f.others there.0 there.1 low there.2 (subst (LacksSurely plan p key get) (sym its) w.1)
             | inr ge ↦ elim (cases_eq f.k there.0) [
               | inl e ↦ (let one : f.z ≡ there.1 = same_Some _ _ (sym f.is ∙ ap (slice_get places) e ∙ there.2) in let q = ap (λ (v : Event). v.proc) one in omega (arith, q, its, mine, lt))
               | inr ne ↦ elim (are.rising f.k there.0 f.z there.1 (omega (arith, ge, ne)) f.is there.2) [
@@ -98,14 +98,14 @@ module _ (plan : Plan) (get : Event) (p key : ℕ) where
     }
 
     -- where none lacks the key, the fence is no far race
-    pub none_far : ((k : ℕ) (z : Event) → slice_get places k ≡ Some z → ¬ (Lacks plan p key get z.proc)) → (m : ℕ) → IsFarRace plan x get p key m → ⊥
+    pub none_far : ((k : ℕ) (z : Event) → slice_get places k ≡ Some z → ¬ (LacksSurely plan p key get z.proc)) → (m : ℕ) → IsFarRace plan x get p key m → ⊥
     none_far none m r =
         let w = far_member at x m d l r in
         let there = member_at m w.0 in
-        none there.0 there.1 there.2 (subst (Lacks plan p key get) (sym there.3) w.1)
+        none there.0 there.1 there.2 (subst (LacksSurely plan p key get) (sym there.3) w.1)
 
   -- a get that brings the key away, may come later, and whose process lacks the key
-  pub far_get : IsUnsure plan get p key → (z : Event) → GetBringsAway plan p key z → MayRace plan z get → Lacks plan p key get z.proc → IsLeastFar plan z get p key z.proc
+  pub far_get : IsUnsureAnywhere plan get p key → (z : Event) → GetBringsAway plan p key z → MayRace plan z get → LacksSurely plan p key get z.proc → IsLeastFar plan z get p key z.proc
   far_get n z b may lacks = record {
     far = record {
       is = n.opened.is;
@@ -132,17 +132,17 @@ module _ (plan : Plan) (get : Event) (p key : ℕ) where
       go k lt (ByGet v) c e = let its = c.takes_part in let same = ap (λ (u : Event). u.proc) e in omega (arith, lt, its, same)
 
   -- and no other get is a far race
-  pub get_is_far : (z : Event) (m : ℕ) → GetBringsAway plan p key z → IsFarRace plan z get p key m → MayRace plan z get × Lacks plan p key get z.proc
+  pub get_is_far : (z : Event) (m : ℕ) → GetBringsAway plan p key z → IsFarRace plan z get p key m → MayRace plan z get × LacksSurely plan p key get z.proc
   get_is_far z m b r = go r.delivery r.carries r.before_none r.of_it
     where
-      go : (e : Delivery) → Carries plan p key m e → ((v : Event) → IsOf plan e v → ¬ (Before plan get v)) → IsOf plan e z → MayRace plan z get × Lacks plan p key get z.proc
+      go : (e : Delivery) → Carries plan p key m e → ((v : Event) → IsOf plan e v → ¬ (Before plan get v)) → IsOf plan e z → MayRace plan z get × LacksSurely plan p key get z.proc
       go (ByFence members j) c none a = absurd (arrival_no_get plan z members j p key a b.is)
       go (ByGet v) c none e =
           let same : m ≡ z.proc = sym c.takes_part ∙ ap (λ (u : Event). u.proc) (sym e) in
-          ((c.all_live z e, none z e), subst (Lacks plan p key get) same (c.another, r.neighbour_not_sure))
+          ((c.all_live z e, none z e), subst (LacksSurely plan p key get) same (c.another, r.neighbour_not_sure))
 
   -- each far race is one of a fence or of a get
-  pub far_either : (f : Placed) → IsFarBy plan get p key f → ((at : ℕ) × IsFarAt plan get p key at f) ⊎ AreFarByGets plan get p key f
+  pub far_either : (f : PlacementFinding) → IsFarBy plan get p key f → ((at : ℕ) × IsFarAt plan get p key at f) ⊎ AreFarByGets plan get p key f
   far_either f t = go t.source t.m t.far t.is t.far.far.delivery t.far.far.carries t.far.far.before_none t.far.far.of_it t.far.far.not_before t.far.far.first
     where
       go : (x : Event) (m : ℕ) → IsLeastFar plan x get p key m → IsRaceWith x get p key m f → (e : Delivery) → Carries plan p key m e → ((z : Event) → IsOf plan e z → ¬ (Before plan get z)) →
@@ -225,7 +225,7 @@ module _ (plan : Plan) (get : Event) (p key : ℕ) where
 
   -- one fence is looked at
   pub one_late : (old new : List PlacedFinding) (at : ℕ) (x : Event) (m : ℕ) → IsDelivering plan p key (node_of plan p) at → IsLate plan get (here p at) x → IsLeastFar plan x get p key m →
-      Adds plan old new (IsRaceWith x get p key m) → Adds plan old new (IsFarAt plan get p key at)
+      AddsPlacementFindings plan old new (IsRaceWith x get p key m) → AddsPlacementFindings plan old new (IsFarAt plan get p key at)
   one_late old new at x m d l far =
       adds_same plan old new (IsRaceWith x get p key m) (IsFarAt plan get p key at)
       (λ f i. record { source = x; m = m; delivers = d; late = l; far = far; is = i })
@@ -234,19 +234,19 @@ module _ (plan : Plan) (get : Event) (p key : ℕ) where
       let its : IsLeastFar plan x get p key t.m = subst (λ v. IsLeastFar plan v get p key t.m) same t.far in
       subst (λ k. IsRaceWith x get p key k f) (least_one x t.m m its far) (subst (λ v. IsRaceWith v get p key t.m f) same t.is))
 
-  pub not_late : (found : List PlacedFinding) (at : ℕ) → ((x : Event) → IsLate plan get (here p at) x → ⊥) → Adds plan found found (IsFarAt plan get p key at)
+  pub not_late : (found : List PlacedFinding) (at : ℕ) → ((x : Event) → IsLate plan get (here p at) x → ⊥) → AddsPlacementFindings plan found found (IsFarAt plan get p key at)
   not_late found at never = adds_none plan found (IsFarAt plan get p key at) (λ f t. never t.source t.late)
 
-  pub not_far : (found : List PlacedFinding) (at : ℕ) (x : Event) → IsLate plan get (here p at) x → ((m : ℕ) → IsFarRace plan x get p key m → ⊥) → Adds plan found found (IsFarAt plan get p key at)
+  pub not_far : (found : List PlacedFinding) (at : ℕ) (x : Event) → IsLate plan get (here p at) x → ((m : ℕ) → IsFarRace plan x get p key m → ⊥) → AddsPlacementFindings plan found found (IsFarAt plan get p key at)
   not_far found at x l never = adds_none plan found (IsFarAt plan get p key at)
       (λ f t. never t.m (subst (λ v. IsFarRace plan v get p key t.m) (late_once plan get (here p at) x t.source l t.late) t.far.far))
 
   -- no fence so far
-  pub no_fence : (found : List PlacedFinding) → Adds plan found found (AreFarBelow plan get p key 0)
+  pub no_fence : (found : List PlacedFinding) → AddsPlacementFindings plan found found (AreFarBelow plan get p key 0)
   no_fence found = adds_none plan found (AreFarBelow plan get p key 0) (λ f t. let lt = t.1 in omega (arith, lt))
 
   pub late_more : (old mid new : List PlacedFinding) (from at next : ℕ) → from ≤ at → next ≡ suc at → ((k : ℕ) → from ≤ k → k < at → ¬ (IsDelivering plan p key (node_of plan p) k)) →
-      Adds plan old mid (AreFarBelow plan get p key from) → Adds plan mid new (IsFarAt plan get p key at) → Adds plan old new (AreFarBelow plan get p key next)
+      AddsPlacementFindings plan old mid (AreFarBelow plan get p key from) → AddsPlacementFindings plan mid new (IsFarAt plan get p key at) → AddsPlacementFindings plan old new (AreFarBelow plan get p key next)
   late_more old mid new from at next le one others first second =
       adds_both plan old mid new (AreFarBelow plan get p key from) (IsFarAt plan get p key at) (AreFarBelow plan get p key next)
       (λ f t. let lt = t.1 in (t.0, omega (arith, lt, le, one), t.2))
@@ -262,7 +262,7 @@ module _ (plan : Plan) (get : Event) (p key : ℕ) where
 
   -- where a fence can't be late, no later one is
   pub no_later : (from at : ℕ) → ((k : ℕ) → from ≤ k → k < at → ¬ (IsDelivering plan p key (node_of plan p) k)) → IsDelivering plan p key (node_of plan p) at → (MayBeLate plan get (here p at) → ⊥) →
-      (k : ℕ) → from ≤ k → (f : Placed) → IsFarAt plan get p key k f → ⊥
+      (k : ℕ) → from ≤ k → (f : PlacementFinding) → IsFarAt plan get p key k f → ⊥
   no_later from at others d never k ge f t = elim (cases_lt k at) [
     | inl lt ↦ others k ge lt t.delivers
     | inr le ↦ elim (cases_eq k at) [
@@ -278,24 +278,24 @@ module _ (plan : Plan) (get : Event) (p key : ℕ) where
     ]
   ]
 
-  pub late_done : (old new : List PlacedFinding) (from : ℕ) → ((k : ℕ) → from ≤ k → (f : Placed) → IsFarAt plan get p key k f → ⊥) → Adds plan old new (AreFarBelow plan get p key from) →
-      Adds plan old new (AreFarBelow plan get p key (event_count plan p))
+  pub late_done : (old new : List PlacedFinding) (from : ℕ) → ((k : ℕ) → from ≤ k → (f : PlacementFinding) → IsFarAt plan get p key k f → ⊥) → AddsPlacementFindings plan old new (AreFarBelow plan get p key from) →
+      AddsPlacementFindings plan old new (AreFarBelow plan get p key (event_count plan p))
   late_done old new from never =
       adds_same plan old new (AreFarBelow plan get p key from) (AreFarBelow plan get p key (event_count plan p))
       (λ f t. (t.0, delivering_within plan p key (node_of plan p) t.0 t.2.delivers, t.2))
       (λ f t. elim (cases_lt t.0 from) [ inl lt ↦ (t.0, lt, t.2) | inr ge ↦ absurd (never t.0 ge f t.2) ])
 
-  pub late_whole : (old new : List PlacedFinding) (from : ℕ) → ((k : ℕ) → from ≤ k → ¬ (IsDelivering plan p key (node_of plan p) k)) → Adds plan old new (AreFarBelow plan get p key from) →
-      Adds plan old new (AreFarBelow plan get p key (event_count plan p))
+  pub late_whole : (old new : List PlacedFinding) (from : ℕ) → ((k : ℕ) → from ≤ k → ¬ (IsDelivering plan p key (node_of plan p) k)) → AddsPlacementFindings plan old new (AreFarBelow plan get p key from) →
+      AddsPlacementFindings plan old new (AreFarBelow plan get p key (event_count plan p))
   late_whole old new from later = late_done old new from (λ k ge f t. later k ge t.delivers)
 
   module _ (places : List Event) (are : AreCarrying plan p key places) where
-    pub no_get : (found : List PlacedFinding) → Adds plan found found (AreFarGetsBelow plan get p key places 0)
+    pub no_get : (found : List PlacedFinding) → AddsPlacementFindings plan found found (AreFarGetsBelow plan get p key places 0)
     no_get found = adds_none plan found (AreFarGetsBelow plan get p key places 0) (λ f t. let lt = t.2 in omega (arith, lt))
 
     -- one get more
     pub get_more : (old mid new : List PlacedFinding) (n next : ℕ) (z : Event) → next ≡ suc n → slice_get places n ≡ Some z → IsLeastFar plan z get p key z.proc →
-        Adds plan old mid (AreFarGetsBelow plan get p key places n) → Adds plan mid new (IsRaceWith z get p key z.proc) → Adds plan old new (AreFarGetsBelow plan get p key places next)
+        AddsPlacementFindings plan old mid (AreFarGetsBelow plan get p key places n) → AddsPlacementFindings plan mid new (IsRaceWith z get p key z.proc) → AddsPlacementFindings plan old new (AreFarGetsBelow plan get p key places next)
     get_more old mid new n next z one is far first second =
         adds_both plan old mid new (AreFarGetsBelow plan get p key places n) (IsRaceWith z get p key z.proc) (AreFarGetsBelow plan get p key places next)
         (λ f t. let lt = t.2 in (t.0, t.1, omega (arith, lt, one), t.3, t.4))
@@ -306,28 +306,28 @@ module _ (plan : Plan) (get : Event) (p key : ℕ) where
         ])
         first second
 
-    pub get_skip : (old new : List PlacedFinding) (n next : ℕ) (z : Event) → next ≡ suc n → slice_get places n ≡ Some z → (MayRace plan z get × Lacks plan p key get z.proc → ⊥) →
-        Adds plan old new (AreFarGetsBelow plan get p key places n) → Adds plan old new (AreFarGetsBelow plan get p key places next)
+    pub get_skip : (old new : List PlacedFinding) (n next : ℕ) (z : Event) → next ≡ suc n → slice_get places n ≡ Some z → (MayRace plan z get × LacksSurely plan p key get z.proc → ⊥) →
+        AddsPlacementFindings plan old new (AreFarGetsBelow plan get p key places n) → AddsPlacementFindings plan old new (AreFarGetsBelow plan get p key places next)
     get_skip old new n next z one is never =
         adds_same plan old new (AreFarGetsBelow plan get p key places n) (AreFarGetsBelow plan get p key places next)
         (λ f t. let lt = t.2 in (t.0, t.1, omega (arith, lt, one), t.3, t.4))
         (λ f t. elim (cases_eq t.0 n) [
           | inl e ↦ absurd (
               let same : t.1 ≡ z = same_Some _ _ (sym t.3 ∙ ap (slice_get places) e ∙ is) in
-              never (subst (λ v. MayRace plan v get × Lacks plan p key get v.proc) same (get_is_far t.1 t.1.proc t.4.brings t.4.far.far)))
+              never (subst (λ v. MayRace plan v get × LacksSurely plan p key get v.proc) same (get_is_far t.1 t.1.proc t.4.brings t.4.far.far)))
           | inr ne ↦ (let lt = t.2 in (t.0, t.1, omega (arith, lt, one, ne), t.3, t.4))
         ])
 
-    pub gets_done : (old new : List PlacedFinding) (n : ℕ) → ((k : ℕ) (z : Event) → slice_get places k ≡ Some z → k < n) → Adds plan old new (AreFarGetsBelow plan get p key places n) →
-        Adds plan old new (AreFarByGets plan get p key)
+    pub gets_done : (old new : List PlacedFinding) (n : ℕ) → ((k : ℕ) (z : Event) → slice_get places k ≡ Some z → k < n) → AddsPlacementFindings plan old new (AreFarGetsBelow plan get p key places n) →
+        AddsPlacementFindings plan old new (AreFarByGets plan get p key)
     gets_done old new n all =
         adds_same plan old new (AreFarGetsBelow plan get p key places n) (AreFarByGets plan get p key)
         (λ f t. (t.1, t.4))
         (λ f t. let at = are.all t.0 t.1.brings in (at.0, t.0, all at.0 t.0 at.1, at.1, t.1))
 
   -- the fences and the gets are all far races
-  pub adds_far : (old mid new : List PlacedFinding) → Adds plan old mid (AreFarBelow plan get p key (event_count plan p)) → Adds plan mid new (AreFarByGets plan get p key) →
-      Adds plan old new (IsFarBy plan get p key)
+  pub adds_far : (old mid new : List PlacedFinding) → AddsPlacementFindings plan old mid (AreFarBelow plan get p key (event_count plan p)) → AddsPlacementFindings plan mid new (AreFarByGets plan get p key) →
+      AddsPlacementFindings plan old new (IsFarBy plan get p key)
   adds_far old mid new =
       adds_both plan old mid new (AreFarBelow plan get p key (event_count plan p)) (AreFarByGets plan get p key) (IsFarBy plan get p key)
       (λ f t. record { source = t.2.source; m = t.2.m; far = t.2.far; is = t.2.is })
@@ -335,5 +335,5 @@ module _ (plan : Plan) (get : Event) (p key : ℕ) where
       (λ f t. elim (far_either f t) [ inl w ↦ inl (w.0, delivering_within plan p key _ w.0 w.1.delivers, w.1) | inr w ↦ inr w ])
 
   -- where the reader surely has the key there is none
-  pub sure_none : (found : List PlacedFinding) → HasSurely plan p key get.proc get → Adds plan found found (IsFarBy plan get p key)
+  pub sure_none : (found : List PlacedFinding) → HasSurely plan p key get.proc get → AddsPlacementFindings plan found found (IsFarBy plan get p key)
   sure_none found sure = adds_none plan found (IsFarBy plan get p key) (λ f t. t.far.far.reader_not_sure sure)

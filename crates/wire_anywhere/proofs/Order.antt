@@ -13,7 +13,7 @@ use Rattle.wire_runs.specs.Plan.{Plan, Event, Commit, Arrive, Get, GetNow, kind}
 use Rattle.wire_runs.specs.Races.{Delivery, ByFence, ByGet, IsOf}
 use Rattle.wire_runs.specs.Findings.{Rewrite, KeyRace, NameRace, IsSooner}
 use Rattle.wire_runs.specs.Placings.{Carries}
-use Rattle.wire_runs.specs.FindingsAnywhere.{Placed, OnAll, OnPair, finding_of, IsKeyRaceOn, IsFoundSomewhere, IsPlacedSorted}
+use Rattle.wire_runs.specs.FindingsAnywhere.{PlacementFinding, OnAll, OnPair, finding_of, IsKeyRaceOn, IsFoundSomewhere, IsPlacedSorted}
 use Rattle.wire_runs.proofs.Basics.{stores_commit}
 use Rattle.wire_runs.proofs.FindingsAnywhere.{one_pair}
 use Rattle.wire_findings.specs.Findings.{shown, lower_name}
@@ -24,7 +24,7 @@ use Rattle.wire_findings.proofs.Ordered.{told_total, sooner, one_there}
 use Rattle.wire_anywhere.specs.declared.placed.PlacedFinding.{PlacedFinding}
 use Rattle.wire_anywhere.specs.declared.placed.Pair.{Pair}
 use Rattle.wire_anywhere.specs.Anywhere.{placed_on, placed_shown, all_placed}
-use Rattle.wire_anywhere.specs.Adding.{Tells, AreSomewhere}
+use Rattle.wire_anywhere.specs.Adding.{TellsPlacementFinding, AreSomewhere}
 use Rattle.wire_anywhere.specs.Order.{placed_cmp}
 use Rattle.wire_anywhere.proofs.Races.{race_open}
 
@@ -58,7 +58,7 @@ get_starts : (plan : Plan) (y : Event) (owner key : ℕ) → kind plan y ≡ Som
 get_starts plan y owner key is = record { what = GetNow owner key; is = is; first = refl }
 
 -- what is found on some placing is what the list takes for granted
-like : (plan : Plan) (f : Placed) → IsFoundSomewhere plan f → IsLike plan (finding_of f)
+like : (plan : Plan) (f : PlacementFinding) → IsFoundSomewhere plan f → IsLike plan (finding_of f)
 like plan (OnAll (Rewrite x y)) h = h
 like plan (OnAll (KeyRace x y owner key)) h = absurd h
 like plan (OnAll (NameRace x y name)) h = h
@@ -96,12 +96,12 @@ module _ (plan : Plan) (names : List (List ℕ)) (of : AreNamesOf plan names) wh
       (finding_placed plan x ∙ one_there plan names of x.finding k.finding e (told_like plan x a) (told_like plan k b) ∙ sym (finding_placed plan k))
 
   -- what is told once is told as before
-  kept : (k : PlacedFinding) (xs : List PlacedFinding) (f : Placed) → AreSomewhere plan (k ∷ xs) → Tells plan (k ∷ xs) f → Tells plan (dedup_from (same_placed names) k xs) f
+  kept : (k : PlacedFinding) (xs : List PlacedFinding) (f : PlacementFinding) → AreSomewhere plan (k ∷ xs) → TellsPlacementFinding plan (k ∷ xs) f → TellsPlacementFinding plan (dedup_from (same_placed names) k xs) f
   kept k [] f found h = h
   kept k (x ∷ xs) f found h =
       let rest : AreSomewhere plan (x ∷ xs) = λ g i. found g (inr i) in
       let without : AreSomewhere plan (k ∷ xs) = λ g i. found g (⊎_elim (λ e. inl e) (λ j. inr (inr j)) i) in
-      cond_both (same_placed names x k) (dedup_from (same_placed names) k xs) (k ∷ dedup_from (same_placed names) x xs) (λ l. Tells plan l f)
+      cond_both (same_placed names x k) (dedup_from (same_placed names) k xs) (k ∷ dedup_from (same_placed names) x xs) (λ l. TellsPlacementFinding plan l f)
       (λ t. kept k xs f without (elim h [
         | inl e ↦ inl e
         | inr i ↦ elim i [
@@ -111,32 +111,32 @@ module _ (plan : Plan) (names : List (List ℕ)) (of : AreNamesOf plan names) wh
       ]))
       (λ n. elim h [ inl e ↦ inl e | inr i ↦ inr (kept x xs f rest i) ])
 
-  were : (k : PlacedFinding) (xs : List PlacedFinding) (f : Placed) → Tells plan (dedup_from (same_placed names) k xs) f → Tells plan (k ∷ xs) f
+  were : (k : PlacedFinding) (xs : List PlacedFinding) (f : PlacementFinding) → TellsPlacementFinding plan (dedup_from (same_placed names) k xs) f → TellsPlacementFinding plan (k ∷ xs) f
   were k [] f = λ h. h
   were k (x ∷ xs) f =
-      cond_both (same_placed names x k) (dedup_from (same_placed names) k xs) (k ∷ dedup_from (same_placed names) x xs) (λ l. Tells plan l f → Tells plan (k ∷ x ∷ xs) f)
+      cond_both (same_placed names x k) (dedup_from (same_placed names) k xs) (k ∷ dedup_from (same_placed names) x xs) (λ l. TellsPlacementFinding plan l f → TellsPlacementFinding plan (k ∷ x ∷ xs) f)
       (λ t h. ⊎_elim (λ e. inl e) (λ i. inr (inr i)) (were k xs f h))
       (λ n h. elim h [ inl e ↦ inl e | inr i ↦ inr (were x xs f i) ])
 
-  once : (xs : List PlacedFinding) (f : Placed) → AreSomewhere plan xs → Tells plan (dedup (same_placed names) xs) f ↔ Tells plan xs f
+  once : (xs : List PlacedFinding) (f : PlacementFinding) → AreSomewhere plan xs → TellsPlacementFinding plan (dedup (same_placed names) xs) f ↔ TellsPlacementFinding plan xs f
   once [] f found = ((λ h. h), (λ h. h))
   once (x ∷ xs) f found = ((λ h. were x xs f h), (λ h. kept x xs f found h))
 
-  told_at : (xs : List PlacedFinding) (f : Placed) → Tells plan xs f → (t : PlacedFinding) × Contains xs t × (f ≡ placed_shown plan t)
+  told_at : (xs : List PlacedFinding) (f : PlacementFinding) → TellsPlacementFinding plan xs f → (t : PlacedFinding) × Contains xs t × (f ≡ placed_shown plan t)
   told_at [] f h = absurd h
   told_at (x ∷ xs) f (inl e) = (x, (0, omega arith, refl), e)
   told_at (x ∷ xs) f (inr h) = let w = told_at xs f h in let lt = w.1.1 in (w.0, (suc w.1.0, omega (arith, lt), w.1.2), w.2)
 
-  at_told : (xs : List PlacedFinding) (t : PlacedFinding) → Contains xs t → Tells plan xs (placed_shown plan t)
+  at_told : (xs : List PlacedFinding) (t : PlacedFinding) → Contains xs t → TellsPlacementFinding plan xs (placed_shown plan t)
   at_told [] t (k, lt, is) = omega (arith, lt)
   at_told (x ∷ xs) t (zero, lt, is) = inl (ap (placed_shown plan) (sym is))
   at_told (x ∷ xs) t (suc k, lt, is) = inr (at_told xs t (k, omega (arith, lt), is))
 
-  moved : (xs ys : List PlacedFinding) (f : Placed) → IsPermutation xs ys → Tells plan xs f → Tells plan ys f
-  moved xs ys f p h = let w = told_at xs f h in subst (λ g. Tells plan ys g) (sym w.2) (at_told ys w.0 (Contains-permutation xs ys w.0 p w.1))
+  moved : (xs ys : List PlacedFinding) (f : PlacementFinding) → IsPermutation xs ys → TellsPlacementFinding plan xs f → TellsPlacementFinding plan ys f
+  moved xs ys f p h = let w = told_at xs f h in subst (λ g. TellsPlacementFinding plan ys g) (sym w.2) (at_told ys w.0 (Contains-permutation xs ys w.0 p w.1))
 
-  first_sooner : (t : PlacedFinding) (ts : List PlacedFinding) → IsFoundSomewhere plan (placed_shown plan t) → AreSomewhere plan ts → AllByRecursion (λ g. placed_cmp names t g ≡ Less) ts → (g : Placed) →
-      Tells plan ts g → IsSooner (lower_name names) (finding_of (placed_shown plan t)) (finding_of g)
+  first_sooner : (t : PlacedFinding) (ts : List PlacedFinding) → IsFoundSomewhere plan (placed_shown plan t) → AreSomewhere plan ts → AllByRecursion (λ g. placed_cmp names t g ≡ Less) ts → (g : PlacementFinding) →
+      TellsPlacementFinding plan ts g → IsSooner (lower_name names) (finding_of (placed_shown plan t)) (finding_of g)
   first_sooner t [] a found all g h = absurd h
   first_sooner t (x ∷ ts) a found all g (inl is) =
       let here = sooner plan names of t.finding x.finding (told_like plan t a) (told_like plan x (found (placed_shown plan x) (inl refl))) all.0 in
@@ -157,10 +157,10 @@ module _ (plan : Plan) (names : List (List ℕ)) (of : AreNamesOf plan names) wh
     sorted_found f h = found f (moved ys xs f (IsPermutation-sym xs ys p) h)
 
     -- the list tells what was met
-    pub list_tells : (f : Placed) → Tells plan zs f ↔ Tells plan xs f
+    pub list_tells : (f : PlacementFinding) → TellsPlacementFinding plan zs f ↔ TellsPlacementFinding plan xs f
     list_tells f = (
-      (λ h. moved ys xs f (IsPermutation-sym xs ys p) ((once ys f sorted_found).0 (subst (λ l. Tells plan l f) is h))),
-      (λ h. subst (λ l. Tells plan l f) (sym is) ((once ys f sorted_found).1 (moved xs ys f p h))),
+      (λ h. moved ys xs f (IsPermutation-sym xs ys p) ((once ys f sorted_found).0 (subst (λ l. TellsPlacementFinding plan l f) is h))),
+      (λ h. subst (λ l. TellsPlacementFinding plan l f) (sym is) ((once ys f sorted_found).1 (moved xs ys f p h))),
     )
 
     -- in the order of findings

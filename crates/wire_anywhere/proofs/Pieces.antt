@@ -6,41 +6,41 @@ use Rattle.std.specs.List.{AllZip, Contains, range_with_len}
 use Rattle.std.specs.declared.alloc.AllocError.{AllocError}
 use Rattle.std.proofs.lemmas.Option.{slice_get_within, slice_get_cases}
 use Rattle.wire_runs.specs.Plan.{Plan}
-use Rattle.wire_runs.specs.FindingsAnywhere.{Placed}
+use Rattle.wire_runs.specs.FindingsAnywhere.{PlacementFinding}
 use Rattle.wire_runs.proofs.Lists.{slice_get_push_cases, slice_get_push_kept, slice_get_push_last}
 use Rattle.wire_races.proofs.Gathered.{gathered}
 use Rattle.wire_anywhere.specs.declared.placed.PlacedFinding.{PlacedFinding}
-use Rattle.wire_anywhere.specs.Adding.{Tells, Adds, IsPiece, ArePieces, IsInSome}
+use Rattle.wire_anywhere.specs.Adding.{TellsPlacementFinding, AddsPlacementFindings, IsPiece, ArePieces, IsInSome}
 use Rattle.wire_anywhere.proofs.Growing.{adds_none, adds_same, adds_both}
 
 -- what is added to nothing is a piece
-pub piece_of : (plan : Plan) (those : Placed → Type 0) (old new : List PlacedFinding) → old ≡ [] → Adds plan old new those → IsPiece plan those new
+pub piece_of : (plan : Plan) (those : PlacementFinding → Type 0) (old new : List PlacedFinding) → old ≡ [] → AddsPlacementFindings plan old new those → IsPiece plan those new
 piece_of plan those old new empty h = λ f. (
   (λ t. elim (h.only f t) [
-    | inl was ↦ absurd (subst (λ l. Tells plan l f) empty was)
+    | inl was ↦ absurd (subst (λ l. TellsPlacementFinding plan l f) empty was)
     | inr it ↦ it
   ]),
   (λ t. h.all f t),
 )
 
 -- one piece more
-pub some_more : (plan : Plan) (done : List (List PlacedFinding)) (piece : List PlacedFinding) (old now new : List PlacedFinding) → Adds plan old now (IsInSome plan done) →
-    Adds plan now new (Tells plan piece) → Adds plan old new (IsInSome plan (done ++ piece ∷ []))
+pub some_more : (plan : Plan) (done : List (List PlacedFinding)) (piece : List PlacedFinding) (old now new : List PlacedFinding) → AddsPlacementFindings plan old now (IsInSome plan done) →
+    AddsPlacementFindings plan now new (TellsPlacementFinding plan piece) → AddsPlacementFindings plan old new (IsInSome plan (done ++ piece ∷ []))
 some_more plan done piece old now new =
-    adds_both plan old now new (IsInSome plan done) (Tells plan piece) (IsInSome plan (done ++ piece ∷ []))
+    adds_both plan old now new (IsInSome plan done) (TellsPlacementFinding plan piece) (IsInSome plan (done ++ piece ∷ []))
     (λ f t. (t.0, t.1, slice_get_push_kept done piece t.0 t.1 t.2, t.3))
     (λ f t. (length done, piece, slice_get_push_last done piece, t))
     (λ f t. elim (slice_get_push_cases done piece t.0 t.1 t.2) [
       | inl there ↦ inl (t.0, t.1, there, t.3)
-      | inr last ↦ inr (subst (λ (p : List PlacedFinding). Tells plan p f) (sym last.1) t.3)
+      | inr last ↦ inr (subst (λ (p : List PlacedFinding). TellsPlacementFinding plan p f) (sym last.1) t.3)
     ])
 
 -- none at all
-pub none_more : (plan : Plan) (found : List PlacedFinding) → Adds plan found found (IsInSome plan [])
+pub none_more : (plan : Plan) (found : List PlacedFinding) → AddsPlacementFindings plan found found (IsInSome plan [])
 none_more plan found = adds_none plan found (IsInSome plan []) (λ f t. let lt = slice_get_within {A = List PlacedFinding} [] t.0 t.1 t.2 in omega (arith, lt))
 
 -- a finding of the piece of number k is in some piece
-in_some : (plan : Plan) (n : ℕ) (those : ℕ → Placed → Type 0) (pieces : List (List PlacedFinding)) → ArePieces plan n those pieces → (k : ℕ) (f : Placed) → k < n → those k f →
+in_some : (plan : Plan) (n : ℕ) (those : ℕ → PlacementFinding → Type 0) (pieces : List (List PlacedFinding)) → ArePieces plan n those pieces → (k : ℕ) (f : PlacementFinding) → k < n → those k f →
     IsInSome plan pieces f
 in_some plan n those pieces are k f lt t =
     let count = are.count in
@@ -50,16 +50,16 @@ in_some plan n those pieces are k f lt t =
     ]
 
 -- the pieces tell all of these
-pub pieces_added : (plan : Plan) (n : ℕ) (those : ℕ → Placed → Type 0) (all : Placed → Type 0) (pieces : List (List PlacedFinding)) (old new : List PlacedFinding)
-    → ((k : ℕ) (f : Placed) → those k f → all f)
-    → ((f : Placed) → all f → (k : ℕ) × (k < n) × those k f)
-    → ArePieces plan n those pieces → Adds plan old new (IsInSome plan pieces) → Adds plan old new all
+pub pieces_added : (plan : Plan) (n : ℕ) (those : ℕ → PlacementFinding → Type 0) (all : PlacementFinding → Type 0) (pieces : List (List PlacedFinding)) (old new : List PlacedFinding)
+    → ((k : ℕ) (f : PlacementFinding) → those k f → all f)
+    → ((f : PlacementFinding) → all f → (k : ℕ) × (k < n) × those k f)
+    → ArePieces plan n those pieces → AddsPlacementFindings plan old new (IsInSome plan pieces) → AddsPlacementFindings plan old new all
 pieces_added plan n those all pieces old new there back are =
     adds_same plan old new (IsInSome plan pieces) all
     (λ f t. there t.0 f ((are.each t.0 t.1 t.2 f).0 t.3))
     (λ f o. let by = back f o in in_some plan n those pieces are by.0 f by.1 by.2)
 
-module _ (plan : Plan) (n : ℕ) (those : ℕ → Placed → Type 0) where
+module _ (plan : Plan) (n : ℕ) (those : ℕ → PlacementFinding → Type 0) where
   as_pieces : (r : Result (Vec (List PlacedFinding) Global) AllocError)
       → IfOk r (λ v. (length v.items ≡ n) × ((k : ℕ) (piece : List PlacedFinding) → slice_get v.items k ≡ Some piece → IsPiece plan (those k) piece))
       → IfOk r (λ v. ArePieces plan n those v.items)

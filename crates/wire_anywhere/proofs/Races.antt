@@ -7,18 +7,18 @@ use Rattle.wire_runs.specs.EventLists.{IsLower}
 use Rattle.wire_runs.specs.Ends.{call_of, first_event}
 use Rattle.wire_runs.specs.Races.{IsUnordered, IsNearRace, IsPutOnce, GetBringsAway}
 use Rattle.wire_runs.specs.Findings.{Finding, KeyRace}
-use Rattle.wire_runs.specs.FindingsAnywhere.{Placed, OnPair, IsPair, IsKeyRaceOn}
+use Rattle.wire_runs.specs.FindingsAnywhere.{PlacementFinding, OnPair, IsPair, IsKeyRaceOn}
 use Rattle.wire_runs.proofs.Basics.{event_within, process_within, stores_commit}
 use Rattle.wire_runs.proofs.EventLists.{one_lower, lower_one_way}
 use Rattle.wire_plan.proofs.KeyFacts.{stores_once}
 use Rattle.wire_types.specs.declared.CallAt.{CallAt}
 use Rattle.wire_findings.specs.Findings.{shown}
 use Rattle.wire_fates.proofs.First.{first_of_call}
-use Rattle.wire_races.specs.KeyRaces.{IsRaceOf, IsOpen}
+use Rattle.wire_races.specs.KeyRaces.{IsRaceOf, IsOpenRead}
 use Rattle.wire_anywhere.specs.declared.placed.PlacedFinding.{PlacedFinding}
 use Rattle.wire_anywhere.specs.declared.placed.Pair.{Pair}
 use Rattle.wire_anywhere.specs.Anywhere.{placed_shown}
-use Rattle.wire_anywhere.specs.Adding.{Adds}
+use Rattle.wire_anywhere.specs.Adding.{AddsPlacementFindings}
 use Rattle.wire_anywhere.specs.Races.{IsSource, IsRaceWith, IsShownBy, IsNearBy, IsFarBy}
 use Rattle.wire_anywhere.proofs.Growing.{adds_none, adds_one, adds_same, adds_both}
 
@@ -32,7 +32,7 @@ arrival_source plan x members j a = record { what = Arrive members a.collect; is
 pub get_source : (plan : Plan) (p key : ℕ) (z : Event) → GetBringsAway plan p key z → IsSource plan z
 get_source plan p key z b = record { what = Get p key; is = b.is; no_leave = λ members h. cc; no_get_now = λ owner other h. cc }
 
-module _ (plan : Plan) (x y : Event) (owner key : ℕ) (s : IsSource plan x) (o : IsOpen plan y owner key) where
+module _ (plan : Plan) (x y : Event) (owner key : ℕ) (s : IsSource plan x) (o : IsOpenRead plan y owner key) where
   pub source_there : x.at < event_count plan x.proc
   source_there = event_within plan x.proc x.at s.what s.is
 
@@ -80,7 +80,7 @@ one_pair_of a b c d p q (low, inr e) (low', inl f) = absurd (let e0 = e.0 in let
 
 -- a race is added, with its pair
 pub adds_race : (plan : Plan) (old new : List PlacedFinding) (x y : Event) (owner key other : ℕ) (t : PlacedFinding) (pair : Pair) → new ≡ old ++ t ∷ [] → t.on ≡ Some pair →
-    IsRaceOf x y owner key (shown plan t.finding) → IsPair pair.lower.number pair.higher.number y.proc other → Adds plan old new (IsRaceWith x y owner key other)
+    IsRaceOf x y owner key (shown plan t.finding) → IsPair pair.lower.number pair.higher.number y.proc other → AddsPlacementFindings plan old new (IsRaceWith x y owner key other)
 adds_race plan old new x y owner key other t pair is on race its =
     let told : placed_shown plan t ≡ OnPair (shown plan t.finding) pair.lower.number pair.higher.number = ap (λ o. placed_shown plan (record { finding = t.finding; on = o })) on in
     adds_one plan old new t (IsRaceWith x y owner key other) is
@@ -91,7 +91,7 @@ adds_race plan old new x y owner key other t pair is on race its =
     r.is ∙ (λ i. OnPair (same i) (ends.0 i) (ends.1 i)) ∙ sym told)
 
 -- the get-now of a race on some placing
-pub race_open : (plan : Plan) (x y : Event) (owner key a b : ℕ) → IsKeyRaceOn plan x y owner key a b → IsOpen plan y owner key
+pub race_open : (plan : Plan) (x y : Event) (owner key a b : ℕ) → IsKeyRaceOn plan x y owner key a b → IsOpenRead plan y owner key
 race_open plan x y owner key a b (inl r) = record {
   is = r.1.is ∙ ap (λ p. Some (GetNow p key)) r.0;
   other = λ e. r.1.another (e ∙ sym r.0);
@@ -113,7 +113,7 @@ turned a b p q (low, inl e) = (low, inr e)
 turned a b p q (low, inr e) = (low, inl e)
 
 module _ (plan : Plan) (get : Event) (owner key : ℕ) where
-  abbrev near_shown : (f : Placed) → IsNearBy plan get owner key f → IsShownBy plan get f
+  abbrev near_shown : (f : PlacementFinding) → IsNearBy plan get owner key f → IsShownBy plan get f
   near_shown f t = record {
     source = t.commit;
     owner = owner;
@@ -126,7 +126,7 @@ module _ (plan : Plan) (get : Event) (owner key : ℕ) where
     is = t.is.is;
   }
 
-  abbrev far_shown : (f : Placed) → IsFarBy plan get owner key f → IsShownBy plan get f
+  abbrev far_shown : (f : PlacementFinding) → IsFarBy plan get owner key f → IsShownBy plan get f
   far_shown f t = record {
     source = t.source;
     owner = owner;
@@ -139,7 +139,7 @@ module _ (plan : Plan) (get : Event) (owner key : ℕ) where
     is = t.is.is;
   }
 
-  either_shown : kind plan get ≡ Some (GetNow owner key) → (f : Placed) → IsShownBy plan get f → IsNearBy plan get owner key f ⊎ IsFarBy plan get owner key f
+  either_shown : kind plan get ≡ Some (GetNow owner key) → (f : PlacementFinding) → IsShownBy plan get f → IsNearBy plan get owner key f ⊎ IsFarBy plan get owner key f
   either_shown asks f t =
       let same = same_Some _ _ (sym (race_open plan t.source get t.owner t.key t.lower t.higher t.on_pair).is ∙ asks) in
       let o = ap owner_in same in
@@ -157,20 +157,20 @@ module _ (plan : Plan) (get : Event) (owner key : ℕ) where
       go {x} {a} {b} {g} (inr r) race is = inr (record { source = x; m = r.0; far = r.1; is = record { finding = g; lower = a; higher = b; pair = r.2; race = race; is = is } })
 
   -- the near race and the far races are all
-  pub adds_shown : (old mid new : List PlacedFinding) → kind plan get ≡ Some (GetNow owner key) → Adds plan old mid (IsNearBy plan get owner key) → Adds plan mid new (IsFarBy plan get owner key) →
-      Adds plan old new (IsShownBy plan get)
+  pub adds_shown : (old mid new : List PlacedFinding) → kind plan get ≡ Some (GetNow owner key) → AddsPlacementFindings plan old mid (IsNearBy plan get owner key) → AddsPlacementFindings plan mid new (IsFarBy plan get owner key) →
+      AddsPlacementFindings plan old new (IsShownBy plan get)
   adds_shown old mid new asks =
       adds_both plan old mid new (IsNearBy plan get owner key) (IsFarBy plan get owner key) (IsShownBy plan get) near_shown far_shown (either_shown asks)
 
   -- a get-now that isn't open has none
-  pub not_open : (found : List PlacedFinding) → kind plan get ≡ Some (GetNow owner key) → (IsOpen plan get owner key → ⊥) → Adds plan found found (IsShownBy plan get)
+  pub not_open : (found : List PlacedFinding) → kind plan get ≡ Some (GetNow owner key) → (IsOpenRead plan get owner key → ⊥) → AddsPlacementFindings plan found found (IsShownBy plan get)
   not_open found asks never = adds_none plan found (IsShownBy plan get) (λ f t. elim (either_shown asks f t) [
     | inl near ↦ (let s = near_shown f near in never (race_open plan s.source get owner key s.lower s.higher s.on_pair))
     | inr far ↦ (let s = far_shown f far in never (race_open plan s.source get owner key s.lower s.higher s.on_pair))
   ])
 
   -- the near race
-  near_race : IsOpen plan get owner key → (commit : Event) → commit.proc ≡ owner → Stores plan commit key → IsUnordered plan commit get → IsNearRace plan commit get key
+  near_race : IsOpenRead plan get owner key → (commit : Event) → commit.proc ≡ owner → Stores plan commit key → IsUnordered plan commit get → IsNearRace plan commit get key
   near_race o commit p s u = record {
     is = o.is ∙ ap (λ q. Some (GetNow q key)) (sym p);
     another = λ e. o.other (e ∙ p);
@@ -179,28 +179,28 @@ module _ (plan : Plan) (get : Event) (owner key : ℕ) where
     unordered = u;
   }
 
-  pub adds_near : (old new : List PlacedFinding) (commit : Event) → IsOpen plan get owner key → commit.proc ≡ owner → Stores plan commit key → IsUnordered plan commit get →
-      Adds plan old new (IsRaceWith commit get owner key owner) → Adds plan old new (IsNearBy plan get owner key)
+  pub adds_near : (old new : List PlacedFinding) (commit : Event) → IsOpenRead plan get owner key → commit.proc ≡ owner → Stores plan commit key → IsUnordered plan commit get →
+      AddsPlacementFindings plan old new (IsRaceWith commit get owner key owner) → AddsPlacementFindings plan old new (IsNearBy plan get owner key)
   adds_near old new commit o p s u =
       adds_same plan old new (IsRaceWith commit get owner key owner) (IsNearBy plan get owner key)
       (λ f i. record { commit = commit; proc = p; near = near_race o commit p s u; is = i })
       (λ f t. subst (λ x. IsRaceWith x get owner key owner f) (stores_once plan t.commit commit key (t.proc ∙ sym p) t.near.stores s) t.is)
 
-  pub ordered_commit : (found : List PlacedFinding) (commit : Event) → commit.proc ≡ owner → Stores plan commit key → (IsUnordered plan commit get → ⊥) → Adds plan found found (IsNearBy plan get owner key)
+  pub ordered_commit : (found : List PlacedFinding) (commit : Event) → commit.proc ≡ owner → Stores plan commit key → (IsUnordered plan commit get → ⊥) → AddsPlacementFindings plan found found (IsNearBy plan get owner key)
   ordered_commit found commit p s never = adds_none plan found (IsNearBy plan get owner key)
       (λ f t. never (subst (λ x. IsUnordered plan x get) (stores_once plan t.commit commit key (t.proc ∙ sym p) t.near.stores s) t.near.unordered))
 
-  pub no_commit : (found : List PlacedFinding) → ((x : Event) → x.proc ≡ owner → Stores plan x key → ⊥) → Adds plan found found (IsNearBy plan get owner key)
+  pub no_commit : (found : List PlacedFinding) → ((x : Event) → x.proc ≡ owner → Stores plan x key → ⊥) → AddsPlacementFindings plan found found (IsNearBy plan get owner key)
   no_commit found never = adds_none plan found (IsNearBy plan get owner key) (λ f t. never t.commit t.proc t.near.stores)
 
 -- an event that is no get-now has none
-pub no_get_now : (plan : Plan) (get : Event) (found : List PlacedFinding) → ((owner key : ℕ) → kind plan get ≡ Some (GetNow owner key) → ⊥) → Adds plan found found (IsShownBy plan get)
+pub no_get_now : (plan : Plan) (get : Event) (found : List PlacedFinding) → ((owner key : ℕ) → kind plan get ≡ Some (GetNow owner key) → ⊥) → AddsPlacementFindings plan found found (IsShownBy plan get)
 no_get_now plan get found never =
     adds_none plan found (IsShownBy plan get) (λ f t. never t.owner t.key (race_open plan t.source get t.owner t.key t.lower t.higher t.on_pair).is)
 
 -- the get-nows of races stand among the events
-pub shown_within : (plan : Plan) (y : Event) (f : Placed) → IsShownBy plan y f → y.at < event_count plan y.proc
+pub shown_within : (plan : Plan) (y : Event) (f : PlacementFinding) → IsShownBy plan y f → y.at < event_count plan y.proc
 shown_within plan y f t = event_within plan y.proc y.at _ (race_open plan t.source y t.owner t.key t.lower t.higher t.on_pair).is
 
-pub shown_below : (plan : Plan) (y : Event) (f : Placed) → IsShownBy plan y f → y.proc < process_count plan
+pub shown_below : (plan : Plan) (y : Event) (f : PlacementFinding) → IsShownBy plan y f → y.proc < process_count plan
 shown_below plan y f t = process_within plan y.proc y.at _ (race_open plan t.source y t.owner t.key t.lower t.higher t.on_pair).is

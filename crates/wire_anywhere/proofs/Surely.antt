@@ -15,7 +15,7 @@ use Rattle.wire_fates.proofs.OwnFences.{member_there}
 use Rattle.wire_fates.proofs.Surely.{delivering_within}
 use Rattle.wire_anywhere.specs.Gets.{AreCarrying}
 use Rattle.wire_types.specs.declared.Event.{Event as CodeEvent}
-use Rattle.wire_anywhere.specs.Carriers.{IsSureAt, IsSureByFence, IsSureByGet, Lacks, IsEarliest, IsFirstOf}
+use Rattle.wire_anywhere.specs.Carriers.{IsSureAt, IsSureByFence, IsSureByGet, LacksSurely, IsEarliest, IsFirstOf}
 
 -- a fence that brings a key away is one that brings it to its owner's node
 abbrev pub delivering : (plan : Plan) (p key : ℕ) (members : List ℕ) (j : ℕ) → (b : FenceBringsAway plan p key members j) → IsDelivering plan p key (node_of plan p) b.at
@@ -125,11 +125,11 @@ module _ (plan : Plan) (p key m : ℕ) (get : Event) where
 
 -- what a look at the fences and at the gets tells
 pub not_lacking : (plan : Plan) (p key m : ℕ) (get : Event) (owner other : ℕ) → kind plan get ≡ Some (GetNow owner other) → IsSureByFence plan p key m get ⊎ IsSureByGet plan p key m get →
-    Lacks plan p key get m → ⊥
+    LacksSurely plan p key get m → ⊥
 not_lacking plan p key m get owner other is (inl s) l = l.1 (by_fence plan p key m get owner other is l.0 s)
 not_lacking plan p key m get owner other is (inr s) l = l.1 (by_get plan p key m get l.0 s)
 
-pub is_lacking : (plan : Plan) (p key m : ℕ) (get : Event) → m ≢ p → (IsSureByFence plan p key m get → ⊥) → (IsSureByGet plan p key m get → ⊥) → Lacks plan p key get m
+pub is_lacking : (plan : Plan) (p key m : ℕ) (get : Event) → m ≢ p → (IsSureByFence plan p key m get → ⊥) → (IsSureByGet plan p key m get → ⊥) → LacksSurely plan p key get m
 is_lacking plan p key m get another no_fence no_get = (another, λ h. elim (either_way plan p key m get h) [ inl s ↦ no_fence s | inr s ↦ no_get s ])
 
 -- what is found, if anything, is the process's first event

@@ -4,11 +4,11 @@ use Rattle.wire_runs.specs.Plan.{Plan, Event}
 use Rattle.wire_runs.specs.Races.{IsSettled}
 use Rattle.wire_runs.specs.Findings.{Finding, Rewrite, KeyRace, NameRace, IsFound}
 use Rattle.wire_runs.specs.Placings.{IsPlacing}
-use Rattle.wire_runs.specs.FindingsAnywhere.{Placed, OnAll, OnPair, finding_of, IsFoundSomewhere, IsPlacedSorted, IsFindingsAnywhere}
+use Rattle.wire_runs.specs.FindingsAnywhere.{PlacementFinding, OnAll, OnPair, finding_of, IsFoundSomewhere, IsPlacedSorted, IsFindingsAnywhere}
 use Rattle.wire_runs.proofs.Anywhere.{settled_anywhere}
 use Rattle.wire_runs.proofs.FindingsAnywhere.{findings_anywhere, one_list_anywhere}
-use Rattle.wire_content.specs.Scripts.{Scripts}
-use Rattle.wire_content.specs.Planned.{plan_of}
+use Rattle.wire_scripts.specs.Scripts.{Scripts}
+use Rattle.wire_scripts.specs.Planned.{plan_of}
 use Rattle.wire_findings.specs.declared.finding.Finding.{Finding as Told}
 use Rattle.wire_findings.specs.Findings.{shown, lower_name}
 use Rattle.wire_findings.proofs.OneList.{same_told, one_way}
@@ -16,20 +16,20 @@ use Rattle.wire_races.specs.FindingKinds.{IsOfRewrite, IsOfName, ArePlaceless}
 use Rattle.wire_anywhere.specs.declared.placed.PlacedFinding.{PlacedFinding}
 use Rattle.wire_anywhere.specs.declared.placed.Pair.{Pair}
 use Rattle.wire_anywhere.specs.Anywhere.{placed_on, placed_shown, all_placed, AreFoundAnywhere}
-use Rattle.wire_anywhere.specs.Adding.{Tells, AreSomewhere, Adds, IsOnAll}
+use Rattle.wire_anywhere.specs.Adding.{TellsPlacementFinding, AreSomewhere, AddsPlacementFindings, IsOnAll}
 use Rattle.wire_anywhere.specs.Races.{IsShownBy, IsShown}
 use Rattle.wire_anywhere.proofs.Order.{finding_placed, told_like}
 
 -- a race of a get-now is found on its pair
-pub shown_somewhere : (plan : Plan) (y : Event) (f : Placed) → IsShownBy plan y f → IsFoundSomewhere plan f
+pub shown_somewhere : (plan : Plan) (y : Event) (f : PlacementFinding) → IsShownBy plan y f → IsFoundSomewhere plan f
 shown_somewhere plan y f t = subst (IsFoundSomewhere plan) (sym t.is) (elim t.race [
   | inl low ↦ subst (λ g. IsFoundSomewhere plan (OnPair g t.lower t.higher)) (sym low.1) (low.0, inl t.on_pair)
   | inr high ↦ subst (λ g. IsFoundSomewhere plan (OnPair g t.lower t.higher)) (sym high.1) (high.0, inr t.on_pair)
 ])
 
 -- of what is met each is found on some placing, and all that is
-module _ (plan : Plan) (placeless : List Told) (none mid found : List PlacedFinding) (empty : none ≡ []) (are : ArePlaceless plan placeless) (first : Adds plan none mid (IsOnAll plan placeless))
-    (then : Adds plan mid found (IsShown plan)) where
+module _ (plan : Plan) (placeless : List Told) (none mid found : List PlacedFinding) (empty : none ≡ []) (are : ArePlaceless plan placeless) (first : AddsPlacementFindings plan none mid (IsOnAll plan placeless))
+    (then : AddsPlacementFindings plan mid found (IsShown plan)) where
   on_all : (g : Finding) → (IsOfRewrite g ⊎ IsOfName g) × IsFound plan g → IsFoundSomewhere plan (OnAll g)
   on_all g (inl put, h) = subst (λ v. IsFoundSomewhere plan (OnAll v)) (sym put.2) (subst (IsFound plan) put.2 h)
   on_all g (inr named, h) = subst (λ v. IsFoundSomewhere plan (OnAll v)) (sym named.3) (subst (IsFound plan) named.3 h)
@@ -38,15 +38,15 @@ module _ (plan : Plan) (placeless : List Told) (none mid found : List PlacedFind
   all_somewhere f h = elim (then.only f h) [
     | inr s ↦ shown_somewhere plan s.0 f s.1
     | inl before ↦ elim (first.only f before) [
-      | inl was ↦ absurd (subst (λ l. Tells plan l f) empty was)
+      | inl was ↦ absurd (subst (λ l. TellsPlacementFinding plan l f) empty was)
       | inr o ↦ subst (IsFoundSomewhere plan) (sym o.1) (on_all o.0 ((are o.0).0 o.2))
     ]
   ]
 
-  met : (g : Finding) → (IsOfRewrite g ⊎ IsOfName g) × IsFound plan g → Tells plan found (OnAll g)
+  met : (g : Finding) → (IsOfRewrite g ⊎ IsOfName g) × IsFound plan g → TellsPlacementFinding plan found (OnAll g)
   met g k = then.kept (OnAll g) (first.all (OnAll g) (g, refl, (are g).1 k))
 
-  pub all_met : (f : Placed) → IsFoundSomewhere plan f → Tells plan found f
+  pub all_met : (f : PlacementFinding) → IsFoundSomewhere plan f → TellsPlacementFinding plan found f
   all_met (OnAll (Rewrite x y)) h = met (Rewrite x y) (inl (x, y, refl), h)
   all_met (OnAll (KeyRace x y owner key)) h = absurd h
   all_met (OnAll (NameRace x y name)) h = met (NameRace x y name) (inr (x, y, name, refl), h)
@@ -58,11 +58,11 @@ module _ (plan : Plan) (placeless : List Told) (none mid found : List PlacedFind
       (x, record { source = y; owner = owner; key = key; lower = a; higher = b; finding = KeyRace x y owner key; on_pair = r; race = inr (low, refl); is = refl })
 
 -- put in order it is the list
-pub whole_list : (s : Scripts) (found list : List PlacedFinding) → AreSomewhere (plan_of s) found → ((f : Placed) → IsFoundSomewhere (plan_of s) f → Tells (plan_of s) found f) →
-    ((f : Placed) → Tells (plan_of s) list f ↔ Tells (plan_of s) found f) → IsPlacedSorted (lower_name s.names) (all_placed (plan_of s) list) → AreFoundAnywhere s list
+pub whole_list : (s : Scripts) (found list : List PlacedFinding) → AreSomewhere (plan_of s) found → ((f : PlacementFinding) → IsFoundSomewhere (plan_of s) f → TellsPlacementFinding (plan_of s) found f) →
+    ((f : PlacementFinding) → TellsPlacementFinding (plan_of s) list f ↔ TellsPlacementFinding (plan_of s) found f) → IsPlacedSorted (lower_name s.names) (all_placed (plan_of s) list) → AreFoundAnywhere s list
 whole_list s found list only all same sorted = record { those = λ f. ((λ h. only f ((same f).0 h)), (λ h. (same f).1 (all f h))); sorted = sorted }
 
-none_there : (plan : Plan) (found : List PlacedFinding) → ((f : Placed) → Tells plan found f → ⊥) → found ≡ []
+none_there : (plan : Plan) (found : List PlacedFinding) → ((f : PlacementFinding) → TellsPlacementFinding plan found f → ⊥) → found ≡ []
 none_there plan [] never = refl
 none_there plan (x ∷ xs) never = absurd (never (placed_shown plan x) (inl refl))
 
@@ -76,7 +76,7 @@ none_found s found are =
           none_there plan found (λ f h. (empty.those f).1 ((are.those f).0 h))),
     )
 
-abbrev pair_in : Placed → Option (ℕ × ℕ)
+abbrev pair_in : PlacementFinding → Option (ℕ × ℕ)
 pair_in (OnAll f) = None
 pair_in (OnPair f a b) = Some (a, b)
 

@@ -23,8 +23,8 @@ abbrev pub IsSureByGet : Plan → ℕ → ℕ → ℕ → Event → Type 0
 IsSureByGet plan p key m get = (z : Event) × GetBringsAway plan p key z × (z.proc ≡ m) × Before plan z get
 
 -- m is another process than p, and doesn't surely have p's key before the get
-abbrev pub Lacks : Plan → ℕ → ℕ → Event → ℕ → Type 0
-Lacks plan p key get m = (m ≢ p) × ¬ (HasSurely plan p key m get)
+abbrev pub LacksSurely : Plan → ℕ → ℕ → Event → ℕ → Type 0
+LacksSurely plan p key get m = (m ≢ p) × ¬ (HasSurely plan p key m get)
 
 -- x is m's first event among these
 pub record IsEarliest (places : List Event) (m : ℕ) (x : Event) : Type 0 where
@@ -40,7 +40,7 @@ IsFirstOf places m found =
 
 -- the first n of these events are of processes that don't lack the key
 abbrev pub NoneLacks : Plan → ℕ → ℕ → Event → List Event → ℕ → Type 0
-NoneLacks plan p key get places n = (k : ℕ) (z : Event) → k < n → slice_get places k ≡ Some z → ¬ (Lacks plan p key get z.proc)
+NoneLacks plan p key get places n = (k : ℕ) (z : Event) → k < n → slice_get places k ≡ Some z → ¬ (LacksSurely plan p key get z.proc)
 
 -- m is the process of the first of these events whose process lacks the key
 pub record IsFirstLacking (plan : Plan) (p key : ℕ) (get : Event) (places : List Event) (m : ℕ) : Type 0 where
@@ -48,10 +48,10 @@ pub record IsFirstLacking (plan : Plan) (p key : ℕ) (get : Event) (places : Li
   pub z : Event
   pub is : slice_get places k ≡ Some z
   pub proc : z.proc ≡ m
-  pub lacks : Lacks plan p key get m
+  pub lacks : LacksSurely plan p key get m
   pub others : NoneLacks plan p key get places k
 
 -- what is found, if anything, is that process
 abbrev pub IsLeastLacking : Plan → ℕ → ℕ → Event → List Event → Option Proc → Type 0
 IsLeastLacking plan p key get places found =
-    MatchOption found ((k : ℕ) (z : Event) → slice_get places k ≡ Some z → ¬ (Lacks plan p key get z.proc)) (λ q. IsFirstLacking plan p key get places q.number)
+    MatchOption found ((k : ℕ) (z : Event) → slice_get places k ≡ Some z → ¬ (LacksSurely plan p key get z.proc)) (λ q. IsFirstLacking plan p key get places q.number)

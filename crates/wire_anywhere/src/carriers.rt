@@ -3,14 +3,14 @@
 ghost use Rattle.std.specs.Prelude.{◌≡◌, ◌↔◌, ℕ, Some, IsTrue, map, nat_lt, slice_get};
 ghost use Rattle.wire_runs.specs.Plan.{event_of};
 ghost use Rattle.wire_runs.specs.Plan as runs;
-ghost use Rattle.wire_content.specs.Planned.{plan_of};
+ghost use Rattle.wire_scripts.specs.Planned.{plan_of};
 ghost use Rattle.wire_plan.specs.Bringing.{IsRising};
-ghost use Rattle.wire_races.specs.KeyRaces.{IsOpen};
+ghost use Rattle.wire_races.specs.KeyRaces.{IsOpenRead};
 ghost use Rattle.wire_anywhere.specs.Gets.{AreCarrying};
-ghost use Rattle.wire_anywhere.specs.Carriers.{IsSureByFence, IsSureByGet, Lacks, IsFirstOf, IsLeastLacking};
+ghost use Rattle.wire_anywhere.specs.Carriers.{IsSureByFence, IsSureByGet, LacksSurely, IsFirstOf, IsLeastLacking};
 
 use wire_fates::{KeyRead, all_arrivals, next_arrival};
-use wire_marks::MarkedPlan;
+use wire_happens_before::MarkedPlan;
 use wire_types::{Event, Proc};
 
 /// How many events of a list in process order are of lower processes, by bisection.
@@ -35,7 +35,7 @@ fn first_of(list: &[Event], proc: Proc) -> Option<Event>
 /// Whether a fence brings a key to a process before a get-now in every run. The owner's arrival there tells whether
 /// the fence is complete before the get; where one isn't, no later one is.
 pub(crate) fn fence_brings_surely(marked: &MarkedPlan<'_>, asked: KeyRead, proc: Proc) -> bool
-    requires { IsOpen (plan_of marked.now) (event_of asked.get_now) asked.owner.number asked.key }
+    requires { IsOpenRead (plan_of marked.now) (event_of asked.get_now) asked.owner.number asked.key }
     ensures { IsTrue result ↔ IsSureByFence (plan_of marked.now) asked.owner.number asked.key proc.number (event_of asked.get_now) }
 {
     let plan = marked.plan();
@@ -76,9 +76,9 @@ pub(crate) fn get_brings_surely(
 
 /// Whether a process is another than the owner, and doesn't surely have the key before a get-now.
 pub(crate) fn lacks(marked: &MarkedPlan<'_>, gets: &[Event], asked: KeyRead, proc: Proc) -> bool
-    requires get { IsOpen (plan_of marked.now) (event_of asked.get_now) asked.owner.number asked.key }
+    requires get { IsOpenRead (plan_of marked.now) (event_of asked.get_now) asked.owner.number asked.key }
     requires gets { AreCarrying (plan_of marked.now) asked.owner.number asked.key (map event_of gets.now) }
-    ensures { IsTrue result ↔ Lacks (plan_of marked.now) asked.owner.number asked.key (event_of asked.get_now) proc.number }
+    ensures { IsTrue result ↔ LacksSurely (plan_of marked.now) asked.owner.number asked.key (event_of asked.get_now) proc.number }
 {
     if proc.number == asked.owner.number {
         return false;
@@ -96,7 +96,7 @@ pub(crate) fn first_lacking(
     asked: KeyRead,
     list: &[Event],
 ) -> Option<Proc>
-    requires get { IsOpen (plan_of marked.now) (event_of asked.get_now) asked.owner.number asked.key }
+    requires get { IsOpenRead (plan_of marked.now) (event_of asked.get_now) asked.owner.number asked.key }
     requires gets { AreCarrying (plan_of marked.now) asked.owner.number asked.key (map event_of gets.now) }
     ensures { IsLeastLacking (plan_of marked.now) asked.owner.number asked.key (event_of asked.get_now) (map event_of list.now) result }
 {

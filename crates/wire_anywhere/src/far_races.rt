@@ -6,15 +6,15 @@ ghost use Rattle.wire_runs.specs.Plan.{event_of, event_count, node_of};
 ghost use Rattle.wire_runs.specs.Plan as runs;
 ghost use Rattle.wire_runs.specs.Order.{IsArrival};
 ghost use Rattle.wire_runs.specs.Placings.{HasSurely};
-ghost use Rattle.wire_content.specs.Planned.{plan_of};
+ghost use Rattle.wire_scripts.specs.Planned.{plan_of};
 ghost use Rattle.wire_plan.specs.Index.{IsDelivering, AreArrivals};
 ghost use Rattle.wire_fates.specs.Deliveries.{MayBeLate, IsLate};
-ghost use Rattle.wire_races.specs.KeyRaces.{IsOpen};
+ghost use Rattle.wire_races.specs.KeyRaces.{IsOpenRead};
 ghost use Rattle.wire_races.specs.GetRaces.{MayRace};
-ghost use Rattle.wire_anywhere.specs.Adding.{Adds};
+ghost use Rattle.wire_anywhere.specs.Adding.{AddsPlacementFindings};
 ghost use Rattle.wire_anywhere.specs.Gets.{AreGetLists, AreCarrying};
-ghost use Rattle.wire_anywhere.specs.Carriers.{Lacks};
-ghost use Rattle.wire_anywhere.specs.Races.{IsUnsure, IsFarBy, IsFarAt, AreFarBelow, AreFarByGets};
+ghost use Rattle.wire_anywhere.specs.Carriers.{LacksSurely};
+ghost use Rattle.wire_anywhere.specs.Races.{IsUnsureAnywhere, IsFarBy, IsFarAt, AreFarBelow, AreFarByGets};
 
 use crate::carriers::{fence_brings_surely, first_lacking, get_brings_surely, lacks};
 use crate::gets::GetTable;
@@ -22,13 +22,13 @@ use crate::placed::PlacedList;
 use crate::racing_pairs::add_race;
 use std::alloc::AllocError;
 use wire_fates::{KeyRead, all_arrivals, next_arrival};
-use wire_marks::MarkedPlan;
+use wire_happens_before::MarkedPlan;
 use wire_types::Event;
 
 /// Whether the fence of the owner's arrival, whose end is the owner's event after it, may come late: all arrivals there
 /// are live, and a get-now is before none of them. The end tells.
 fn may_be_late(marked: &MarkedPlan<'_>, asked: KeyRead, arrival: Event, end: Event) -> bool
-    requires get { IsOpen (plan_of marked.now) (event_of asked.get_now) asked.owner.number asked.key }
+    requires get { IsOpenRead (plan_of marked.now) (event_of asked.get_now) asked.owner.number asked.key }
     requires proc { arrival.proc ≡ asked.owner }
     requires delivers { let plan = plan_of marked.now in IsDelivering plan asked.owner.number asked.key (node_of plan asked.owner.number) arrival.at }
     requires end_proc { end.proc ≡ asked.owner }
@@ -46,7 +46,7 @@ fn late_source(
     arrival: Event,
     arrivals: &[Event],
 ) -> Option<Event>
-    requires get { IsOpen (plan_of marked.now) (event_of asked.get_now) asked.owner.number asked.key }
+    requires get { IsOpenRead (plan_of marked.now) (event_of asked.get_now) asked.owner.number asked.key }
     requires may { MayBeLate (plan_of marked.now) (event_of asked.get_now) (event_of arrival) }
     requires those { (members : List ℕ) (j : ℕ) → IsArrival (plan_of marked.now) members j (event_of arrival) →
         AreArrivals (plan_of marked.now) members j (map event_of arrivals.now) }
@@ -62,7 +62,7 @@ fn late_source(
     }
 }
 
-/// Adds the far race of a get-now with the fence of an arrival, if there is one: with the first arrival that isn't
+/// AddsPlacementFindings the far race of a get-now with the fence of an arrival, if there is one: with the first arrival that isn't
 /// before the get, shown by the first member that lacks the key.
 fn add_late(
     marked: &MarkedPlan<'_>,
@@ -71,12 +71,12 @@ fn add_late(
     asked: KeyRead,
     arrival: Event,
 ) -> Result<(), AllocError>
-    requires unsure { IsUnsure (plan_of marked.now) (event_of asked.get_now) asked.owner.number asked.key }
+    requires unsure { IsUnsureAnywhere (plan_of marked.now) (event_of asked.get_now) asked.owner.number asked.key }
     requires gets { AreCarrying (plan_of marked.now) asked.owner.number asked.key (map event_of gets.now) }
     requires may { MayBeLate (plan_of marked.now) (event_of asked.get_now) (event_of arrival) }
     requires proc { arrival.proc ≡ asked.owner }
     requires delivers { let plan = plan_of marked.now in IsDelivering plan asked.owner.number asked.key (node_of plan asked.owner.number) arrival.at }
-    ensures { OnOk result (Adds (plan_of marked.now) found.old found.new
+    ensures { OnOk result (AddsPlacementFindings (plan_of marked.now) found.old found.new
         (IsFarAt (plan_of marked.now) (event_of asked.get_now) asked.owner.number asked.key arrival.at)) }
 {
     let plan = marked.plan();
@@ -90,7 +90,7 @@ fn add_late(
     add_race(plan, found, source, asked, other)
 }
 
-/// Adds the far races of a get-now with fences. Where one can't come late, since the get is before an arrival at it or
+/// AddsPlacementFindings the far races of a get-now with fences. Where one can't come late, since the get is before an arrival at it or
 /// one of these isn't live, no later one can.
 fn add_all_late(
     marked: &MarkedPlan<'_>,
@@ -98,9 +98,9 @@ fn add_all_late(
     found: &mut PlacedList,
     asked: KeyRead,
 ) -> Result<(), AllocError>
-    requires unsure { IsUnsure (plan_of marked.now) (event_of asked.get_now) asked.owner.number asked.key }
+    requires unsure { IsUnsureAnywhere (plan_of marked.now) (event_of asked.get_now) asked.owner.number asked.key }
     requires gets { AreCarrying (plan_of marked.now) asked.owner.number asked.key (map event_of gets.now) }
-    ensures { OnOk result (Adds (plan_of marked.now) found.old found.new
+    ensures { OnOk result (AddsPlacementFindings (plan_of marked.now) found.old found.new
         (AreFarBelow (plan_of marked.now) (event_of asked.get_now) asked.owner.number asked.key (event_count (plan_of marked.now) asked.owner.number))) }
 {
     let plan = marked.plan();
@@ -134,24 +134,24 @@ fn may_race(marked: &MarkedPlan<'_>, get: Event, get_now: Event) -> bool
 /// Whether a get-now has a far race with a get that brings its key away: it may come later, and its process lacks the
 /// key.
 fn is_far(marked: &MarkedPlan<'_>, gets: &[Event], asked: KeyRead, get: Event) -> bool
-    requires get { IsOpen (plan_of marked.now) (event_of asked.get_now) asked.owner.number asked.key }
+    requires get { IsOpenRead (plan_of marked.now) (event_of asked.get_now) asked.owner.number asked.key }
     requires gets { AreCarrying (plan_of marked.now) asked.owner.number asked.key (map event_of gets.now) }
     ensures { IsTrue result ↔ (MayRace (plan_of marked.now) (event_of get) (event_of asked.get_now)
-        × Lacks (plan_of marked.now) asked.owner.number asked.key (event_of asked.get_now) get.proc.number) }
+        × LacksSurely (plan_of marked.now) asked.owner.number asked.key (event_of asked.get_now) get.proc.number) }
 {
     may_race(marked, get, asked.get_now) && lacks(marked, gets, asked, get.proc)
 }
 
-/// Adds the far races of a get-now with gets that bring its key away, each shown by its own process.
+/// AddsPlacementFindings the far races of a get-now with gets that bring its key away, each shown by its own process.
 fn add_get_races(
     marked: &MarkedPlan<'_>,
     gets: &[Event],
     found: &mut PlacedList,
     asked: KeyRead,
 ) -> Result<(), AllocError>
-    requires unsure { IsUnsure (plan_of marked.now) (event_of asked.get_now) asked.owner.number asked.key }
+    requires unsure { IsUnsureAnywhere (plan_of marked.now) (event_of asked.get_now) asked.owner.number asked.key }
     requires gets { AreCarrying (plan_of marked.now) asked.owner.number asked.key (map event_of gets.now) }
-    ensures { OnOk result (Adds (plan_of marked.now) found.old found.new
+    ensures { OnOk result (AddsPlacementFindings (plan_of marked.now) found.old found.new
         (AreFarByGets (plan_of marked.now) (event_of asked.get_now) asked.owner.number asked.key)) }
 {
     for get in gets {
@@ -162,16 +162,16 @@ fn add_get_races(
     Ok(())
 }
 
-/// Adds the far races of a get-now. There are none where its own process surely has the key by then.
+/// AddsPlacementFindings the far races of a get-now. There are none where its own process surely has the key by then.
 pub(crate) fn add_far_races(
     marked: &MarkedPlan<'_>,
     table: &GetTable,
     found: &mut PlacedList,
     asked: KeyRead,
 ) -> Result<(), AllocError>
-    requires get { IsOpen (plan_of marked.now) (event_of asked.get_now) asked.owner.number asked.key }
+    requires get { IsOpenRead (plan_of marked.now) (event_of asked.get_now) asked.owner.number asked.key }
     requires table { AreGetLists (plan_of marked.now) table.now }
-    ensures { OnOk result (Adds (plan_of marked.now) found.old found.new
+    ensures { OnOk result (AddsPlacementFindings (plan_of marked.now) found.old found.new
         (IsFarBy (plan_of marked.now) (event_of asked.get_now) asked.owner.number asked.key)) }
 {
     if fence_brings_surely(marked, asked, asked.get_now.proc) {

@@ -3,20 +3,20 @@
 ghost use Rattle.std.specs.Prelude.{OnOk, IfOk, IsOkUnless};
 ghost use Rattle.wire_runs.specs.Plan as runs;
 ghost use Rattle.wire_anywhere.specs.Anywhere.{AreFoundAnywhere};
-ghost use Rattle.wire_anywhere.specs.Adding.{Adds, IsOnAll};
+ghost use Rattle.wire_anywhere.specs.Adding.{AddsPlacementFindings, IsOnAll};
 
 use crate::key_races::add_key_races;
 use crate::placed::{PlacedFinding, PlacedList};
 use std::alloc::{AllocError, Global};
 use std::thread::Threads;
 use wire_findings::FindingList;
-use wire_marks::MarkedPlan;
+use wire_happens_before::MarkedPlan;
 use wire_races::placeless_findings;
 use wire_types::Fault;
 
-/// Adds findings of every placement.
+/// AddsPlacementFindings findings of every placement.
 fn add_placeless(found: &mut PlacedList, list: &FindingList) -> Result<(), AllocError>
-    ensures { OnOk result ((plan : runs.Plan) → Adds plan found.old found.new (IsOnAll plan list.now)) }
+    ensures { OnOk result ((plan : runs.Plan) → AddsPlacementFindings plan found.old found.new (IsOnAll plan list.now)) }
 {
     for number in 0..list.len() {
         let Some(finding) = list.get(number) else {

@@ -3,8 +3,8 @@
 ghost use Rattle.std.specs.Prelude.{◌≡◌, ◌<◌, Some, OnOk, IfOk};
 ghost use Rattle.wire_runs.specs.Plan.{GetNow, event_of, process_count, event_count, kind};
 ghost use Rattle.wire_runs.specs.Plan as runs;
-ghost use Rattle.wire_content.specs.Planned.{plan_of};
-ghost use Rattle.wire_anywhere.specs.Adding.{Adds, ToldIn, IsPiece, ArePieces, IsInSome};
+ghost use Rattle.wire_scripts.specs.Planned.{plan_of};
+ghost use Rattle.wire_anywhere.specs.Adding.{AddsPlacementFindings, ToldIn, IsPiece, ArePieces, IsInSome};
 ghost use Rattle.wire_anywhere.specs.Gets.{AreGetLists};
 ghost use Rattle.wire_anywhere.specs.Races.{IsShownBy, IsShownOf, IsShown};
 
@@ -16,12 +16,12 @@ use rayon::prelude::*;
 use std::alloc::{AllocError, Global};
 use std::thread::Threads;
 use wire_fates::KeyRead;
-use wire_marks::MarkedPlan;
+use wire_happens_before::MarkedPlan;
 use wire_plan::Kind;
 use wire_races::{is_open, least_processes};
 use wire_types::{Event, Proc};
 
-/// Adds the races of a get-now.
+/// AddsPlacementFindings the races of a get-now.
 fn add_get_now(
     marked: &MarkedPlan<'_>,
     table: &GetTable,
@@ -30,7 +30,7 @@ fn add_get_now(
 ) -> Result<(), AllocError>
     requires table { AreGetLists (plan_of marked.now) table.now }
     requires get { kind (plan_of marked.now) (event_of asked.get_now) ≡ Some (GetNow asked.owner.number asked.key) }
-    ensures { OnOk result (Adds (plan_of marked.now) found.old found.new (IsShownBy (plan_of marked.now) (event_of asked.get_now))) }
+    ensures { OnOk result (AddsPlacementFindings (plan_of marked.now) found.old found.new (IsShownBy (plan_of marked.now) (event_of asked.get_now))) }
 {
     if !is_open(marked, asked) {
         return Ok(());
@@ -39,7 +39,7 @@ fn add_get_now(
     add_far_races(marked, table, found, asked)
 }
 
-/// Adds the races of an event of the plan, where it is a get-now.
+/// AddsPlacementFindings the races of an event of the plan, where it is a get-now.
 fn add_event(
     marked: &MarkedPlan<'_>,
     table: &GetTable,
@@ -48,7 +48,7 @@ fn add_event(
 ) -> Result<(), AllocError>
     requires table { AreGetLists (plan_of marked.now) table.now }
     requires there { event.at < event_count (plan_of marked.now) event.proc.number }
-    ensures { OnOk result (Adds (plan_of marked.now) found.old found.new (IsShownBy (plan_of marked.now) (event_of event))) }
+    ensures { OnOk result (AddsPlacementFindings (plan_of marked.now) found.old found.new (IsShownBy (plan_of marked.now) (event_of event))) }
 {
     match marked.plan().kind(event) {
         Kind::GetNow { owner, key } => {
@@ -63,7 +63,7 @@ fn add_event(
     }
 }
 
-/// Adds the races of the get-nows of a process.
+/// AddsPlacementFindings the races of the get-nows of a process.
 fn add_process(
     marked: &MarkedPlan<'_>,
     table: &GetTable,
@@ -71,7 +71,7 @@ fn add_process(
     proc: Proc,
 ) -> Result<(), AllocError>
     requires { AreGetLists (plan_of marked.now) table.now }
-    ensures { OnOk result (Adds (plan_of marked.now) found.old found.new
+    ensures { OnOk result (AddsPlacementFindings (plan_of marked.now) found.old found.new
         (ToldIn (IsShownBy (plan_of marked.now)) proc.number (event_count (plan_of marked.now) proc.number))) }
 {
     for at in 0..marked.plan().event_count(proc) {
@@ -118,9 +118,9 @@ fn make_pieces(
         .collect::<Result<Vec<_>, AllocError>>(rt, alloc)?
 }
 
-/// Adds the findings of all pieces. The one error is that memory ran out.
+/// AddsPlacementFindings the findings of all pieces. The one error is that memory ran out.
 fn add_pieces(found: &mut PlacedList, pieces: Vec<PlacedList>) -> Result<(), AllocError>
-    ensures { OnOk result ((plan : runs.Plan) → Adds plan found.old found.new (IsInSome plan pieces.items)) }
+    ensures { OnOk result ((plan : runs.Plan) → AddsPlacementFindings plan found.old found.new (IsInSome plan pieces.items)) }
 {
     for piece in pieces {
         found.append(piece)?;
@@ -128,14 +128,14 @@ fn add_pieces(found: &mut PlacedList, pieces: Vec<PlacedList>) -> Result<(), All
     Ok(())
 }
 
-/// Adds all races on keys of all placements. The one error is that memory ran out.
+/// AddsPlacementFindings all races on keys of all placements. The one error is that memory ran out.
 pub(crate) fn add_key_races(
     rt: &(impl Threads + Sync),
     alloc: Global,
     marked: &MarkedPlan<'_>,
     found: &mut PlacedList,
 ) -> Result<(), AllocError>
-    ensures { OnOk result (Adds (plan_of marked.now) found.old found.new (IsShown (plan_of marked.now))) }
+    ensures { OnOk result (AddsPlacementFindings (plan_of marked.now) found.old found.new (IsShown (plan_of marked.now))) }
 {
     let table = GetTable::of(alloc, marked.plan())?;
     let pieces = make_pieces(rt, alloc, marked, &table)?;

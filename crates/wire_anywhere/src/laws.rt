@@ -4,8 +4,8 @@ ghost use Rattle.std.specs.Prelude.{◌≡◌, ◌↔◌, List, []};
 ghost use Rattle.wire_runs.specs.Plan.{Plan};
 ghost use Rattle.wire_runs.specs.Races.{IsSettled};
 ghost use Rattle.wire_runs.specs.Placings.{IsPlacing};
-ghost use Rattle.wire_content.specs.Scripts.{Scripts};
-ghost use Rattle.wire_content.specs.Planned.{plan_of};
+ghost use Rattle.wire_scripts.specs.Scripts.{Scripts};
+ghost use Rattle.wire_scripts.specs.Planned.{plan_of};
 ghost use Rattle.wire_anywhere.specs.declared.placed.PlacedFinding.{PlacedFinding};
 ghost use Rattle.wire_anywhere.specs.Anywhere.{AreFoundAnywhere};
 

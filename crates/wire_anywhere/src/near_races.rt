@@ -2,26 +2,26 @@
 
 ghost use Rattle.std.specs.Prelude.{OnOk};
 ghost use Rattle.wire_runs.specs.Plan.{event_of};
-ghost use Rattle.wire_content.specs.Planned.{plan_of};
-ghost use Rattle.wire_races.specs.KeyRaces.{IsOpen};
-ghost use Rattle.wire_anywhere.specs.Adding.{Adds};
+ghost use Rattle.wire_scripts.specs.Planned.{plan_of};
+ghost use Rattle.wire_races.specs.KeyRaces.{IsOpenRead};
+ghost use Rattle.wire_anywhere.specs.Adding.{AddsPlacementFindings};
 ghost use Rattle.wire_anywhere.specs.Races.{IsNearBy};
 
 use crate::placed::PlacedList;
 use crate::racing_pairs::add_race;
 use std::alloc::AllocError;
 use wire_fates::KeyRead;
-use wire_marks::MarkedPlan;
+use wire_happens_before::MarkedPlan;
 use wire_races::are_unordered;
 
-/// Adds the near race of a get-now, if there is one: whatever the scope of the put.
+/// AddsPlacementFindings the near race of a get-now, if there is one: whatever the scope of the put.
 pub(crate) fn add_near_race(
     marked: &MarkedPlan<'_>,
     found: &mut PlacedList,
     asked: KeyRead,
 ) -> Result<(), AllocError>
-    requires { IsOpen (plan_of marked.now) (event_of asked.get_now) asked.owner.number asked.key }
-    ensures { OnOk result (Adds (plan_of marked.now) found.old found.new
+    requires { IsOpenRead (plan_of marked.now) (event_of asked.get_now) asked.owner.number asked.key }
+    ensures { OnOk result (AddsPlacementFindings (plan_of marked.now) found.old found.new
         (IsNearBy (plan_of marked.now) (event_of asked.get_now) asked.owner.number asked.key)) }
 {
     let plan = marked.plan();

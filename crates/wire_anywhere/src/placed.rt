@@ -3,18 +3,18 @@
 ghost use Rattle.std.specs.Prelude.{◌≡◌, ◌==◌, ◌++◌, ◌∷◌, ◌↔◌, [], IsTrue, OnOk, length, slice_get};
 ghost use Rattle.std.specs.Ordering.{is_eq};
 ghost use Rattle.wire_runs.specs.Plan as runs;
-ghost use Rattle.wire_runs.specs.FindingsAnywhere.{Placed, IsPlacedSorted};
+ghost use Rattle.wire_runs.specs.FindingsAnywhere.{PlacementFinding, IsPlacedSorted};
 ghost use Rattle.wire_findings.specs.Findings.{lower_name};
 ghost use Rattle.wire_findings.specs.Standings.{AreNamesOf};
 ghost use Rattle.wire_anywhere.specs.Anywhere.{all_placed};
-ghost use Rattle.wire_anywhere.specs.Adding.{Tells, AreSomewhere};
+ghost use Rattle.wire_anywhere.specs.Adding.{TellsPlacementFinding, AreSomewhere};
 ghost use Rattle.wire_anywhere.specs.Order.{placed_cmp};
 
 use std::alloc::{AllocError, Global};
 use std::cmp::Ordering;
 use std::marker::Model;
-use wire_content::Texts;
 use wire_findings::{Finding, compare_findings};
+use wire_scripts::Texts;
 use wire_types::Proc;
 
 /// Two ranks that have a node of their own, all others elsewhere; the lower first.
@@ -109,7 +109,7 @@ impl PlacedList {
     /// The findings of a plan with these names, each once, in their order.
     pub(crate) fn in_order(self, names: &Texts) -> PlacedList
         ensures those { (plan : runs.Plan) → AreNamesOf plan names.now → AreSomewhere plan self
-            → (f : Placed) → Tells plan result f ↔ Tells plan self f }
+            → (f : PlacementFinding) → TellsPlacementFinding plan result f ↔ TellsPlacementFinding plan self f }
         ensures sorted { (plan : runs.Plan) → AreNamesOf plan names.now → AreSomewhere plan self
             → IsPlacedSorted (lower_name names.now) (all_placed plan result) }
     {

@@ -3,10 +3,10 @@
 ghost use Rattle.std.specs.Prelude.{◌≡◌, ◌≢◌, OnOk};
 ghost use Rattle.wire_runs.specs.Plan.{event_of};
 ghost use Rattle.wire_runs.specs.FindingsAnywhere.{IsPair};
-ghost use Rattle.wire_content.specs.Planned.{plan_of};
+ghost use Rattle.wire_scripts.specs.Planned.{plan_of};
 ghost use Rattle.wire_findings.specs.Findings.{shown};
-ghost use Rattle.wire_races.specs.KeyRaces.{IsRaceOf, IsOpen};
-ghost use Rattle.wire_anywhere.specs.Adding.{Adds};
+ghost use Rattle.wire_races.specs.KeyRaces.{IsRaceOf, IsOpenRead};
+ghost use Rattle.wire_anywhere.specs.Adding.{AddsPlacementFindings};
 ghost use Rattle.wire_anywhere.specs.Races.{IsSource, IsRaceWith};
 
 use crate::placed::{Pair, PlacedFinding, PlacedList};
@@ -38,7 +38,7 @@ fn pair_of(one: Proc, other: Proc) -> Pair
 /// The race of a get-now with an event, the lower call first.
 fn race_of(plan: &Plan, source: Event, asked: KeyRead) -> Finding
     requires source { IsSource (plan_of plan.now) (event_of source) }
-    requires get { IsOpen (plan_of plan.now) (event_of asked.get_now) asked.owner.number asked.key }
+    requires get { IsOpenRead (plan_of plan.now) (event_of asked.get_now) asked.owner.number asked.key }
     ensures { IsRaceOf (event_of source) (event_of asked.get_now) asked.owner.number asked.key (shown (plan_of plan.now) result) }
 {
     let first = plan.call_of(source);
@@ -50,7 +50,7 @@ fn race_of(plan: &Plan, source: Event, asked: KeyRead) -> Finding
     }
 }
 
-/// Adds the race of a get-now with an event, which its process and another show on a node of their own.
+/// AddsPlacementFindings the race of a get-now with an event, which its process and another show on a node of their own.
 pub(crate) fn add_race(
     plan: &Plan,
     found: &mut PlacedList,
@@ -59,9 +59,9 @@ pub(crate) fn add_race(
     other: Proc,
 ) -> Result<(), AllocError>
     requires source { IsSource (plan_of plan.now) (event_of source) }
-    requires get { IsOpen (plan_of plan.now) (event_of asked.get_now) asked.owner.number asked.key }
+    requires get { IsOpenRead (plan_of plan.now) (event_of asked.get_now) asked.owner.number asked.key }
     requires another { asked.get_now.proc.number ≢ other.number }
-    ensures { OnOk result (Adds (plan_of plan.now) found.old found.new
+    ensures { OnOk result (AddsPlacementFindings (plan_of plan.now) found.old found.new
         (IsRaceWith (event_of source) (event_of asked.get_now) asked.owner.number asked.key other.number)) }
 {
     found.push(PlacedFinding {

@@ -1,7 +1,7 @@
 -- The groups of findings of all placements.
 use Rattle.std.proofs.Common.{◌≡◌, ◌∙◌, ap, ap₂, refl, ℕ, List, [], ◌∷◌, map, subst, Result, Ok, Err, IfOk, Vec, Global}
 use Rattle.std.specs.declared.alloc.AllocError.{AllocError}
-use Rattle.wire_content.specs.Scripts.{Scripts}
+use Rattle.wire_scripts.specs.Scripts.{Scripts}
 use Rattle.wire_report.specs.declared.tally.Group.{Group}
 use Rattle.wire_report.specs.Grouped.{AreGroupsOf}
 use Rattle.wire_report.specs.Label.{label_of}

@@ -2,10 +2,10 @@
 use Rattle.std.specs.Prelude.{ℕ, Bool, true, false, List, [], ◌++◌, codes, decimal, length, map}
 use Rattle.std.specs.List.{flat_map}
 use Rattle.wire_types.specs.declared.CallAt.{CallAt}
-use Rattle.wire_types.specs.declared.Form.{Form}
+use Rattle.wire_types.specs.declared.OutputFormat.{OutputFormat}
 use Rattle.wire_types.specs.declared.Status.{Status}
 use Rattle.wire_types.specs.Forms.{has_places, is_json}
-use Rattle.wire_content.specs.Scripts.{Scripts, text_at}
+use Rattle.wire_scripts.specs.Scripts.{Scripts, text_at}
 use Rattle.wire_words.specs.Words.{name_of, status_name}
 use Rattle.wire_json.specs.Chains.{call_member, proc_member, verb_member}
 use Rattle.wire_json.specs.Json.{quoted, bracketed}
@@ -79,5 +79,5 @@ abbrev pub differing_in : (json places : Bool) → List ℕ → List (List ℕ) 
 differing_in false places name rows s differing = differing_report places name rows s differing
 differing_in true places name rows s differing = json_differing places rows s differing
 
-abbrev pub differing_form : Form → List ℕ → List (List ℕ) → Scripts → List Differing → List ℕ
+abbrev pub differing_form : OutputFormat → List ℕ → List (List ℕ) → Scripts → List Differing → List ℕ
 differing_form form name rows s differing = differing_in (is_json form) (has_places form) name rows s differing

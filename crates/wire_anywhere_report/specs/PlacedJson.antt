@@ -2,7 +2,7 @@
 -- share a node where it races, and with places its two calls and their lines.
 use Rattle.std.specs.Prelude.{◌≡◌, ℕ, Bool, true, false, List, [], ◌++◌, Option, Some, None, codes, decimal, map}
 use Rattle.wire_types.specs.declared.CallAt.{CallAt}
-use Rattle.wire_content.specs.Scripts.{Scripts}
+use Rattle.wire_scripts.specs.Scripts.{Scripts}
 use Rattle.wire_findings.specs.declared.finding.Finding.{Finding}
 use Rattle.wire_words.specs.Words.{name_of}
 use Rattle.wire_json.specs.declared.chains.Half.TheVariants.{Whole}

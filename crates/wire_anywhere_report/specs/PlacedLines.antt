@@ -1,7 +1,7 @@
 -- The lines of findings of all placements: as `check` writes a finding, and behind a race on a key the two ranks that share a node where it races.
 use Rattle.std.specs.Prelude.{ℕ, List, [], ◌++◌, Option, Some, None, codes, length, map}
 use Rattle.std.specs.List.{flat_map}
-use Rattle.wire_content.specs.Scripts.{Scripts}
+use Rattle.wire_scripts.specs.Scripts.{Scripts}
 use Rattle.wire_findings.specs.declared.finding.Finding.{Finding}
 use Rattle.wire_words.specs.Words.{name_of}
 use Rattle.wire_report.specs.Findings.{finding_words, count_line}

@@ -11,11 +11,11 @@ ghost use Rattle.wire_anywhere_report.specs.Differing as spec;
 use crate::differing_lines::status_name;
 use crate::placed_json::push_name;
 use std::alloc::{AllocError, Global};
-use wire_content::Scripts;
 use wire_differing::Differing;
 use wire_json::{push_list, push_quoted};
 use wire_report::line_of;
-use wire_types::{CallAt, Form, Status};
+use wire_scripts::Scripts;
+use wire_types::{CallAt, OutputFormat, Status};
 use wire_words::{push_number, verb_at};
 
 /// Appends a status as a string.
@@ -37,7 +37,7 @@ fn push_number_of(out: &mut Vec<u8>, call: CallAt) -> Result<(), AllocError>
 fn push_line_in(
     out: &mut Vec<u8>,
     rows: &[Vec<u64>],
-    form: Form,
+    form: OutputFormat,
     call: CallAt,
 ) -> Result<(), AllocError>
     ensures { OnOk result (out.new.items ≡ out.old.items ++ spec.line_part (has_places form) (lists_of rows.now) call) }
@@ -69,7 +69,7 @@ fn first_members(
     alloc: Global,
     scripts: &Scripts,
     rows: &[Vec<u64>],
-    form: Form,
+    form: OutputFormat,
     differing: Differing,
 ) -> Result<Vec<u8>, AllocError>
     ensures { IfOk result (λ text. text.items ≡ spec.first_members (has_places form) (lists_of rows.now) scripts.now differing) }
@@ -107,7 +107,7 @@ fn differs_json(
     alloc: Global,
     scripts: &Scripts,
     rows: &[Vec<u64>],
-    form: Form,
+    form: OutputFormat,
     differing: Differing,
 ) -> Result<Vec<u8>, AllocError>
     ensures { IfOk result (λ text. text.items ≡ spec.json_differs (has_places form) (lists_of rows.now) scripts.now differing) }
@@ -122,7 +122,7 @@ fn differs_texts(
     alloc: Global,
     scripts: &Scripts,
     rows: &[Vec<u64>],
-    form: Form,
+    form: OutputFormat,
     differing: &[Differing],
 ) -> Result<Vec<Vec<u8>>, AllocError>
     ensures { IfOk result (λ texts. lists_of texts.items ≡ map (spec.json_differs (has_places form) (lists_of rows.now) scripts.now) differing.now) }
@@ -135,7 +135,7 @@ fn differs_texts(
 }
 
 /// The members of the findings and of their groups, of which there are none.
-fn none_found(form: Form) -> &'static str
+fn none_found(form: OutputFormat) -> &'static str
     ensures { result.now ≡ spec.none_found (has_places form) }
 {
     if form.has_places() {
@@ -150,7 +150,7 @@ pub(crate) fn differing_json(
     alloc: Global,
     scripts: &Scripts,
     rows: &[Vec<u64>],
-    form: Form,
+    form: OutputFormat,
     differing: &[Differing],
 ) -> Result<Vec<u8>, AllocError>
     ensures { IfOk result (λ text. text.items ≡ spec.json_differing (has_places form) (lists_of rows.now) scripts.now differing.now) }

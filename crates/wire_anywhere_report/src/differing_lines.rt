@@ -9,10 +9,10 @@ ghost use Rattle.wire_anywhere_report.specs.Differing as spec;
 
 use crate::placed_groups::push_said;
 use std::alloc::{AllocError, Global};
-use wire_content::Scripts;
 use wire_differing::Differing;
-use wire_report::{Places, push_place};
-use wire_types::{CallAt, CallEnd, Form, Proc, Reply, Status};
+use wire_report::{SourceLines, push_place};
+use wire_scripts::Scripts;
+use wire_types::{CallAt, CallEnd, OutputFormat, Proc, Reply, Status};
 use wire_words::{end_word, push_number, push_proc};
 
 /// The name of a status.
@@ -25,8 +25,8 @@ pub(crate) fn status_name(status: Status) -> &'static str
 /// Appends where a call stands, in a form with places.
 fn push_place_in(
     out: &mut Vec<u8>,
-    places: Places<'_>,
-    form: Form,
+    places: SourceLines<'_>,
+    form: OutputFormat,
     call: CallAt,
 ) -> Result<(), AllocError>
     ensures { OnOk result (out.new.items ≡ out.old.items
@@ -76,8 +76,8 @@ fn push_words(out: &mut Vec<u8>, scripts: &Scripts, differing: Differing) -> Res
 fn push_line(
     out: &mut Vec<u8>,
     scripts: &Scripts,
-    places: Places<'_>,
-    form: Form,
+    places: SourceLines<'_>,
+    form: OutputFormat,
     differing: Differing,
 ) -> Result<(), AllocError>
     ensures { OnOk result (out.new.items ≡ out.old.items
@@ -91,8 +91,8 @@ fn push_line(
 fn push_lines(
     out: &mut Vec<u8>,
     scripts: &Scripts,
-    places: Places<'_>,
-    form: Form,
+    places: SourceLines<'_>,
+    form: OutputFormat,
     differing: &[Differing],
 ) -> Result<(), AllocError>
     ensures { OnOk result (out.new.items ≡ out.old.items
@@ -118,8 +118,8 @@ fn push_count(out: &mut Vec<u8>, count: usize) -> Result<(), AllocError>
 pub(crate) fn differing_lines(
     alloc: Global,
     scripts: &Scripts,
-    places: Places<'_>,
-    form: Form,
+    places: SourceLines<'_>,
+    form: OutputFormat,
     differing: &[Differing],
 ) -> Result<Vec<u8>, AllocError>
     ensures { IfOk result (λ text. text.items

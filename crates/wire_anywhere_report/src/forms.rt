@@ -12,31 +12,31 @@ use crate::placed_json::{grouped_json, plain_json};
 use crate::placed_lines::lines_text;
 use std::alloc::{AllocError, Global};
 use wire_anywhere::PlacedList;
-use wire_content::Scripts;
 use wire_differing::Differing;
-use wire_report::Places;
-use wire_types::Form;
+use wire_report::SourceLines;
+use wire_scripts::Scripts;
+use wire_types::OutputFormat;
 
 /// The text of findings of all placements, in this form. A line has what `check` writes of the finding, and of a race
 /// on a key then ` on ` and the two ranks that share a node where it races. In a form with places findings are in
 /// groups, as those of `check`, and the second line of a group ends with the two ranks of its first finding. As JSON
 /// each finding is an object, with its words, and the two ranks as its member `on`. The one error is that memory ran
 /// out.
-pub fn placed_text(
+pub fn on_placement_text(
     alloc: Global,
     scripts: &Scripts,
-    places: Places<'_>,
-    form: Form,
+    places: SourceLines<'_>,
+    form: OutputFormat,
     found: &PlacedList,
 ) -> Result<Vec<u8>, AllocError>
     ensures { IfOk result (λ text. TellsPlaced form places.entry.name.now (lists_of places.entry.rows.now) scripts.now found.now
         text.items) }
 {
     match form {
-        Form::Lines => lines_text(alloc, scripts, found),
-        Form::Places => grouped_text(alloc, places, scripts, found),
-        Form::Json => plain_json(alloc, scripts, places.rows, found),
-        Form::PlacedJson => grouped_json(alloc, scripts, places.rows, found),
+        OutputFormat::Lines => lines_text(alloc, scripts, found),
+        OutputFormat::Places => grouped_text(alloc, places, scripts, found),
+        OutputFormat::Json => plain_json(alloc, scripts, places.rows, found),
+        OutputFormat::PlacedJson => grouped_json(alloc, scripts, places.rows, found),
     }
 }
 
@@ -46,8 +46,8 @@ pub fn placed_text(
 pub fn same_text(
     alloc: Global,
     scripts: &Scripts,
-    places: Places<'_>,
-    form: Form,
+    places: SourceLines<'_>,
+    form: OutputFormat,
     differing: &[Differing],
 ) -> Result<Vec<u8>, AllocError>
     ensures { IfOk result (λ text. text.items

@@ -10,4 +10,4 @@ mod placed_groups;
 mod placed_json;
 mod placed_lines;
 
-pub use forms::{placed_text, same_text};
+pub use forms::{on_placement_text, same_text};

@@ -12,10 +12,10 @@ ghost use Rattle.wire_anywhere_report.specs.PlacedLines.{findings_in};
 use crate::placed_lines::push_on;
 use std::alloc::{AllocError, Global};
 use wire_anywhere::{PlacedFinding, PlacedList};
-use wire_content::Scripts;
 use wire_report::{
-    Group, Label, Places, groups_of, label_of, pair_of, push_first, push_last, push_place,
+    Group, Label, SourceLines, groups_of, label_of, pair_of, push_first, push_last, push_place,
 };
+use wire_scripts::Scripts;
 use wire_types::CallAt;
 use wire_words::{push_call, verb_at};
 
@@ -61,7 +61,7 @@ pub(crate) fn push_said(
 /// Appends where a call stands, and the call, which goes with the one in the line above.
 fn push_note(
     out: &mut Vec<u8>,
-    places: Places<'_>,
+    places: SourceLines<'_>,
     scripts: &Scripts,
     call: CallAt,
 ) -> Result<(), AllocError>
@@ -76,7 +76,7 @@ fn push_note(
 /// Appends the second line of a group: the second call of its first finding, and where that is one.
 fn push_second(
     out: &mut Vec<u8>,
-    places: Places<'_>,
+    places: SourceLines<'_>,
     scripts: &Scripts,
     placed: PlacedFinding,
 ) -> Result<(), AllocError>
@@ -91,7 +91,7 @@ fn push_second(
 /// Appends the lines of a group.
 fn push_group(
     out: &mut Vec<u8>,
-    places: Places<'_>,
+    places: SourceLines<'_>,
     scripts: &Scripts,
     found: &PlacedList,
     group: Group,
@@ -111,7 +111,7 @@ fn push_group(
 /// Appends the lines of all groups.
 fn push_all_groups(
     out: &mut Vec<u8>,
-    places: Places<'_>,
+    places: SourceLines<'_>,
     scripts: &Scripts,
     found: &PlacedList,
     groups: &[Group],
@@ -128,7 +128,7 @@ fn push_all_groups(
 /// The text of these groups of findings.
 fn groups_text(
     alloc: Global,
-    places: Places<'_>,
+    places: SourceLines<'_>,
     scripts: &Scripts,
     found: &PlacedList,
     groups: &[Group],
@@ -145,7 +145,7 @@ fn groups_text(
 /// The text of findings in groups.
 pub(crate) fn grouped_text(
     alloc: Global,
-    places: Places<'_>,
+    places: SourceLines<'_>,
     scripts: &Scripts,
     found: &PlacedList,
 ) -> Result<Vec<u8>, AllocError>

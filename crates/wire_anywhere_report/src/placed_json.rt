@@ -11,11 +11,11 @@ ghost use Rattle.wire_anywhere_report.specs.PlacedJson as spec;
 use crate::placed_groups::group_placed;
 use std::alloc::{AllocError, Global};
 use wire_anywhere::{Pair, PlacedFinding, PlacedList};
-use wire_content::Scripts;
 use wire_findings::Finding;
 use wire_json::{ChainStep, Half, lined_step_json, push_list, push_quoted};
 use wire_report::{Group, line_of, pair_of, push_finding};
-use wire_types::{CallAt, Form, Proc};
+use wire_scripts::Scripts;
+use wire_types::{CallAt, OutputFormat, Proc};
 use wire_words::{push_number, push_proc};
 
 /// A call with its line.
@@ -129,7 +129,7 @@ fn placed_json(
     alloc: Global,
     scripts: &Scripts,
     rows: &[Vec<u64>],
-    form: Form,
+    form: OutputFormat,
     placed: PlacedFinding,
 ) -> Result<Vec<u8>, AllocError>
     ensures { IfOk result (λ text. text.items ≡ spec.json_placed (has_places form) (lists_of rows.now) scripts.now placed) }
@@ -146,7 +146,7 @@ fn placed_texts(
     alloc: Global,
     scripts: &Scripts,
     rows: &[Vec<u64>],
-    form: Form,
+    form: OutputFormat,
     found: &PlacedList,
 ) -> Result<Vec<Vec<u8>>, AllocError>
     ensures { IfOk result (λ texts. lists_of texts.items ≡ map (spec.json_placed (has_places form) (lists_of rows.now) scripts.now) found.now) }
@@ -166,7 +166,7 @@ fn begin_object(
     alloc: Global,
     scripts: &Scripts,
     rows: &[Vec<u64>],
-    form: Form,
+    form: OutputFormat,
     found: &PlacedList,
 ) -> Result<Vec<u8>, AllocError>
     ensures { IfOk result (λ text. text.items ≡ spec.json_all (has_places form) (lists_of rows.now) scripts.now found.now) }
@@ -187,7 +187,7 @@ pub(crate) fn plain_json(
 ) -> Result<Vec<u8>, AllocError>
     ensures { IfOk result (λ text. text.items ≡ spec.json_plain (lists_of rows.now) scripts.now found.now) }
 {
-    let mut text = begin_object(alloc, scripts, rows, Form::Json, found)?;
+    let mut text = begin_object(alloc, scripts, rows, OutputFormat::Json, found)?;
     text.extend_from_slice(b"}\n")?;
     Ok(text)
 }
@@ -227,7 +227,7 @@ fn groups_json(
     ensures { IfOk result (λ text. text.items ≡ spec.json_groups (lists_of rows.now) scripts.now found.now groups.now) }
 {
     let groups = group_texts(alloc, groups)?;
-    let mut text = begin_object(alloc, scripts, rows, Form::PlacedJson, found)?;
+    let mut text = begin_object(alloc, scripts, rows, OutputFormat::PlacedJson, found)?;
     text.extend_from_slice(b",\"groups\":")?;
     push_list(&mut text, groups.as_slice())?;
     text.extend_from_slice(b"}\n")?;

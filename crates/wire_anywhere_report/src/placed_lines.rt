@@ -6,8 +6,8 @@ ghost use Rattle.wire_anywhere_report.specs.PlacedLines as spec;
 
 use std::alloc::{AllocError, Global};
 use wire_anywhere::{Pair, PlacedFinding, PlacedList};
-use wire_content::Scripts;
 use wire_report::{push_count, push_finding};
+use wire_scripts::Scripts;
 use wire_words::push_proc;
 
 /// Appends two ranks, with a comma between them.

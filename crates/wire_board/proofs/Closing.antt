@@ -3,11 +3,11 @@ use Rattle.std.proofs.Common.{◌≡◌, ℕ, zero, suc, ◌+◌, List, [], ◌�
 use Rattle.std.proofs.lemmas.List.Elements.{All-nil, All-cons}
 use mathlib.Core.Option.{some, some-ne-none, some-injective}
 use lib.ListN.{get_elem?}
-use Rattle.wire_content.specs.Scripts.{Scripts}
+use Rattle.wire_scripts.specs.Scripts.{Scripts}
 use Rattle.wire_board.specs.Seats.{SeatIs, hold_of, IsTrueOf}
-use Rattle.wire_board.specs.Positions.{Fits, Each}
+use Rattle.wire_board.specs.Positions.{HoldFits, Each}
 
-pub all_true : (plan : Scripts) (words : List ℕ) (seats : List SeatIs) → Each (Fits plan words) (map hold_of seats) → All (IsTrueOf words) seats
+pub all_true : (plan : Scripts) (words : List ℕ) (seats : List SeatIs) → Each (HoldFits plan words) (map hold_of seats) → All (IsTrueOf words) seats
 all_true plan words [] e = All-nil (IsTrueOf words)
 all_true plan words (s ∷ ss) e = All-cons (IsTrueOf words) s ss (sym e.0.place, e.0.below) (all_true plan words ss e.1)
 

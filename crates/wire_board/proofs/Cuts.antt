@@ -11,11 +11,11 @@ use Rattle.wire_runs.specs.Laws.{FatesHold}
 use Rattle.wire_runs.proofs.Due.{done_same, done_other, reachable_sound}
 use Rattle.wire_runs.proofs.Fates.{runs_are_sound}
 use Rattle.wire_runs.proofs.Runs.{run_push, legal_push}
-use Rattle.wire_content.specs.Scripts.{Scripts}
-use Rattle.wire_content.specs.Planned.{plan_of}
+use Rattle.wire_scripts.specs.Scripts.{Scripts}
+use Rattle.wire_scripts.specs.Planned.{plan_of}
 use Rattle.wire_board.specs.declared.hold.Hold.{Hold}
 use Rattle.wire_board.specs.Cuts.{IsReachedCut, Implies, CutsAreSound}
-use Rattle.wire_board.specs.Positions.{Fits, next_in, ShowsNextIn, ImpliesNextIn}
+use Rattle.wire_board.specs.Positions.{HoldFits, next_in, ShowsNextIn, ImpliesNextIn}
 
 pub zero_at : (n r : ℕ) → get_or (replicate {A = ℕ} n 0) r 0 ≡ 0
 zero_at zero r = refl
@@ -58,16 +58,16 @@ pub shown_implied : (plan : Plan) (h : Hold) → ShowsNextIn plan h → ImpliesN
 shown_implied plan h shown = record { next = shown.next; sources = λ x e. inl (shown.sources x e); comes = shown.comes }
 
 -- what is known to be done is done
-known_done : (plan : Scripts) (words : List ℕ) (h : Hold) → (c : IsReachedCut (plan_of plan) words) → Fits plan words h → (x : Event) → x.at < get_or h.known x.proc 0 → IsDone c.state x
+known_done : (plan : Scripts) (words : List ℕ) (h : Hold) → (c : IsReachedCut (plan_of plan) words) → HoldFits plan words h → (x : Event) → x.at < get_or h.known x.proc 0 → IsDone c.state x
 known_done plan words h c f x k = let b = f.below x.proc in let d = c.done x.proc in omega (arith, k, b, d)
 
 -- and so is what it waited for
-implied_done : (plan : Scripts) (words : List ℕ) (h : Hold) → (c : IsReachedCut (plan_of plan) words) → Fits plan words h → (x : Event) → Implies (plan_of plan) h.known x → IsDone c.state x
+implied_done : (plan : Scripts) (words : List ℕ) (h : Hold) → (c : IsReachedCut (plan_of plan) words) → HoldFits plan words h → (x : Event) → Implies (plan_of plan) h.known x → IsDone c.state x
 implied_done plan words h c f x (inl k) = known_done plan words h c f x k
 implied_done plan words h c f x (inr z) = (reachable_sound (plan_of plan) c.state c.reached).closed x z.0 z.1 (known_done plan words h c f z.0 z.2)
 
 -- what the owner of a rank knows implies that its next event can happen, and so it can
-implied_enabled : (plan : Scripts) (words : List ℕ) (h : Hold) → AreTold (plan_of plan) → (c : IsReachedCut (plan_of plan) words) → Fits plan words h → ImpliesNextIn (plan_of plan) h →
+implied_enabled : (plan : Scripts) (words : List ℕ) (h : Hold) → AreTold (plan_of plan) → (c : IsReachedCut (plan_of plan) words) → HoldFits plan words h → ImpliesNextIn (plan_of plan) h →
     is_enabled (plan_of plan) c.state h.rank ≡ true
 implied_enabled plan words h told c f implied =
     let same : next_in h ≡ next_event c.state h.rank = λ i. record { proc = h.rank; at = (f.place ∙ sym (c.done h.rank)) i } in
@@ -75,7 +75,7 @@ implied_enabled plan words h told c f implied =
     (λ x e. implied_done plan words h c f x (implied.sources x (subst (λ y. Edge (plan_of plan) x y) (sym same) e)))
     (λ w. implied.comes (subst (λ y. HasFate (plan_of plan) y Waits) (sym same) w))
 
-pub reaches : (plan : Scripts) (words : List ℕ) (h : Hold) → AreTold (plan_of plan) → IsReachedCut (plan_of plan) words → Fits plan words h → ImpliesNextIn (plan_of plan) h →
+pub reaches : (plan : Scripts) (words : List ℕ) (h : Hold) → AreTold (plan_of plan) → IsReachedCut (plan_of plan) words → HoldFits plan words h → ImpliesNextIn (plan_of plan) h →
     IsReachedCut (plan_of plan) (set words h.rank (get_or h.known h.rank 0 + 1))
 reaches plan words h told c f implied =
     subst (λ n. IsReachedCut (plan_of plan) (set words h.rank (n + 1))) (sym f.place)

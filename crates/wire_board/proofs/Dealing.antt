@@ -1,6 +1,6 @@
 -- One seat for each rank is cut off the first seat.
 use Rattle.std.proofs.Common.{◌≡◌, ℕ, suc, ◌+◌, ◌-◌, ◌<◌, List, [], ◌∷◌, ◌++◌, take, drop, replicate, sym, ap, ◌∙◌, append_assoc, arith}
-use Rattle.wire_content.specs.Scripts.{Scripts}
+use Rattle.wire_scripts.specs.Scripts.{Scripts}
 use Rattle.wire_board.specs.declared.hold.Hold.{Hold}
 use Rattle.wire_board.specs.Cuts.{procs_of}
 use Rattle.wire_board.specs.Positions.{hold, holds_from}

@@ -9,11 +9,11 @@ use lib.ListN.{get_elem?}
 use Rattle.atomic_table.specs.Table.{Me, step, keeps, opening, Allows, Splits, Joins}
 use Rattle.atomic_table.proofs.Lists.{at_set, at_snoc}
 use Rattle.wire_runs.proofs.Lists.{set_raises}
-use Rattle.wire_content.specs.Scripts.{Scripts}
-use Rattle.wire_content.specs.Planned.{plan_of}
+use Rattle.wire_scripts.specs.Scripts.{Scripts}
+use Rattle.wire_scripts.specs.Planned.{plan_of}
 use Rattle.wire_board.specs.declared.hold.Hold.{Hold}
 use Rattle.wire_board.specs.Cuts.{procs_of}
-use Rattle.wire_board.specs.Positions.{hold, Fits, Each, count_of, owners_of, IsKept, holds_from, opening_view, learn, Learns, Stored, ImpliesNextIn}
+use Rattle.wire_board.specs.Positions.{hold, HoldFits, Each, count_of, owners_of, IsKeptBoard, holds_from, opening_view, learn, Learns, Stored, ImpliesNextIn}
 use Rattle.wire_board.proofs.Cuts.{cut_start, AreTold, reaches}
 
 -- Lists of numbers
@@ -110,7 +110,7 @@ fits_set P views by w others mine j u e =
 
 -- K1, a load
 
-fits_learn : (plan : Scripts) (words : List ℕ) (k : ℕ) (h : Hold) → Fits plan words h → Fits plan words (learn k (get_or words k 0) h)
+fits_learn : (plan : Scripts) (words : List ℕ) (k : ℕ) (h : Hold) → HoldFits plan words h → HoldFits plan words (learn k (get_or words k 0) h)
 fits_learn plan words k h f = record {
   same = f.same;
   here = f.here;
@@ -125,32 +125,32 @@ fits_learn plan words k h f = record {
     below : (j : ℕ) → get_or (set h.known k (get_or words k 0)) j 0 ≤ get_or words j 0
     below j = same_below h.known words k j f.size (f.below j)
 
-pub loads : {S : Type 0} (plan : Scripts) (slots id word : ℕ) (m : Me S (List Hold)) → Allows (IsKept {S = S} plan) slots id m word (λ n. n) (Learns (step slots word 0 0 none) m)
+pub loads : {S : Type 0} (plan : Scripts) (slots id word : ℕ) (m : Me S (List Hold)) → Allows (IsKeptBoard {S = S} plan) slots id m word (λ n. n) (Learns (step slots word 0 0 none) m)
 loads {S} plan slots id word m s kept sized at small =
     let n = get_or s.words word 0 in
     let w = map (learn word n) m.0 in
     let mine = kept.fits id m.0 at in
-    let now : IsKept plan record { words = s.words; homes = s.homes; views = set s.views id w } = record {
+    let now : IsKeptBoard plan record { words = s.words; homes = s.homes; views = set s.views id w } = record {
       cut = kept.cut;
-      fits = fits_set (Each (Fits plan s.words)) s.views id w (λ j u apart e. kept.fits j u e)
-          (each_map (Fits plan s.words) (Fits plan s.words) (learn word n) (fits_learn plan s.words word) m.0 mine);
+      fits = fits_set (Each (HoldFits plan s.words)) s.views id w (λ j u apart e. kept.fits j u e)
+          (each_map (HoldFits plan s.words) (HoldFits plan s.words) (learn word n) (fits_learn plan s.words word) m.0 mine);
       apart = λ r. let o = owners_set r s.views id m.0 w at in let c = count_map r word n m.0 in let one = kept.apart r in omega arith;
     } in
-    let P : List ℕ → Type 0 = λ ws. IsKept {S = S} plan record { words = ws; homes = s.homes; views = set s.views id w } in (
+    let P : List ℕ → Type 0 = λ ws. IsKeptBoard {S = S} plan record { words = ws; homes = s.homes; views = set s.views id w } in (
       w,
       keeps,
       tt,
       subst P (sym (set-get_or s.words word 0)) now,
       (
         refl,
-        each_weaker (Fits plan s.words) (λ h. (get_or h.known word 0 ≤ n) × (word ≡ h.rank → n ≡ get_or h.known word 0))
+        each_weaker (HoldFits plan s.words) (λ h. (get_or h.known word 0 ≤ n) × (word ≡ h.rank → n ≡ get_or h.known word 0))
             (λ h f. (f.below word, λ (e : word ≡ h.rank). sym (subst (λ r. get_or h.known r 0 ≡ get_or s.words r 0) (sym e) f.place))) m.0 mine,
       ),
     )
 
 -- K2, a store to one's own word
 
-fits_move : (plan : Scripts) (words : List ℕ) (h : Hold) (n : ℕ) → Fits plan words h → Fits plan (set words h.rank n) (learn h.rank n h)
+fits_move : (plan : Scripts) (words : List ℕ) (h : Hold) (n : ℕ) → HoldFits plan words h → HoldFits plan (set words h.rank n) (learn h.rank n h)
 fits_move plan words h n f = record {
   same = f.same;
   here = let l = length-set words h.rank n in let b = f.here in omega arith;
@@ -159,7 +159,7 @@ fits_move plan words h n f = record {
   below = λ j. set_below h.known words h.rank j n f.size (f.below j);
 }
 
-fits_other : (plan : Scripts) (words : List ℕ) (k n : ℕ) (h : Hold) → h.rank ≢ k → get_or words k 0 ≤ n → Fits plan words h → Fits plan (set words k n) h
+fits_other : (plan : Scripts) (words : List ℕ) (k n : ℕ) (h : Hold) → h.rank ≢ k → get_or words k 0 ≤ n → HoldFits plan words h → HoldFits plan (set words k n) h
 fits_other plan words k n h apart up f = record {
   same = f.same;
   here = let l = length-set words k n in let b = f.here in omega arith;
@@ -168,12 +168,12 @@ fits_other plan words k n h apart up f = record {
   below = λ j. let a = f.below j in let b = set_raises words k n up j in omega arith;
 }
 
-each_other : (plan : Scripts) (words : List ℕ) (k n : ℕ) → get_or words k 0 ≤ n → (v : List Hold) → count_of k v ≡ 0 → Each (Fits plan words) v → Each (Fits plan (set words k n)) v
+each_other : (plan : Scripts) (words : List ℕ) (k n : ℕ) → get_or words k 0 ≤ n → (v : List Hold) → count_of k v ≡ 0 → Each (HoldFits plan words) v → Each (HoldFits plan (set words k n)) v
 each_other plan words k n up [] nobody e = tt
 each_other plan words k n up (h ∷ hs) nobody e = (fits_other plan words k n h (ones h.rank k (omega arith)) up e.0, each_other plan words k n up hs (omega arith) e.1)
 
 pub stores : {S : Type 0} (plan : Scripts) (slots id : ℕ) (h : Hold) (carried : List (ℕ × S)) → AreTold (plan_of plan) → ImpliesNextIn (plan_of plan) h
-    → Allows (IsKept {S = S} plan) slots id (h ∷ [], carried) h.rank (λ _. get_or h.known h.rank 0 + 1)
+    → Allows (IsKeptBoard {S = S} plan) slots id (h ∷ [], carried) h.rank (λ _. get_or h.known h.rank 0 + 1)
     (λ _. Stored (step slots h.rank (get_or h.known h.rank 0 + 1) 0 none) (h ∷ [], carried) (get_or h.known h.rank 0 + 1))
 stores {S} plan slots id h carried told shown s kept sized at small =
     let n = get_or h.known h.rank 0 + 1 in
@@ -186,7 +186,7 @@ stores {S} plan slots id h carried told shown s kept sized at small =
       tt,
       record {
         cut = reaches plan s.words h told kept.cut mine shown;
-        fits = fits_set (Each (Fits plan (set s.words h.rank n))) s.views id w
+        fits = fits_set (Each (HoldFits plan (set s.words h.rank n))) s.views id w
             (λ j u apart e. each_other plan s.words h.rank n up u (alone h.rank s.views id j (h ∷ []) u (kept.apart h.rank) at owns apart e) (kept.fits j u e))
             (fits_move plan s.words h n mine, tt);
         apart = λ r. let o = owners_set r s.views id (h ∷ []) w at in let c = count_map r h.rank n (h ∷ []) in let one = kept.apart r in omega arith;
@@ -200,14 +200,14 @@ count_cut : (r : ℕ) (v : List Hold) → count_of r (take 1 v) + count_of r (dr
 count_cut r [] = refl
 count_cut r (h ∷ hs) = omega arith
 
-pub splits : {S : Type 0} (plan : Scripts) (id : ℕ) (v : List Hold) → Splits (IsKept {S = S} plan) id v (drop 1 v) (take 1 v)
+pub splits : {S : Type 0} (plan : Scripts) (id : ℕ) (v : List Hold) → Splits (IsKeptBoard {S = S} plan) id v (drop 1 v) (take 1 v)
 splits plan id v s kept at =
     let mine = kept.fits id v at in
     record {
       cut = kept.cut;
       fits = λ j u e. ⊎_elim
-          (λ was. fits_set (Each (Fits plan s.words)) s.views id (drop 1 v) (λ i y _ f. kept.fits i y f) (each_drop (Fits plan s.words) v mine) j u was)
-          (λ (same : take 1 v ≡ u). subst (Each (Fits plan s.words)) same (each_take (Fits plan s.words) v mine))
+          (λ was. fits_set (Each (HoldFits plan s.words)) s.views id (drop 1 v) (λ i y _ f. kept.fits i y f) (each_drop (HoldFits plan s.words) v mine) j u was)
+          (λ (same : take 1 v ≡ u). subst (Each (HoldFits plan s.words)) same (each_take (HoldFits plan s.words) v mine))
           (at_snoc (set s.views id (drop 1 v)) (take 1 v) u j e);
       apart = λ r.
           let a = owners_append r (set s.views id (drop 1 v)) (take 1 v ∷ []) in
@@ -219,15 +219,15 @@ splits plan id v s kept at =
 
 -- K4, a join
 
-pub joins : {S : Type 0} (plan : Scripts) (id : ℕ) (v : List Hold) (other : ℕ) (w : List Hold) → Joins (IsKept {S = S} plan) id v other w (w ++ v) []
+pub joins : {S : Type 0} (plan : Scripts) (id : ℕ) (v : List Hold) (other : ℕ) (w : List Hold) → Joins (IsKeptBoard {S = S} plan) id v other w (w ++ v) []
 joins plan id v other w s kept at apart there =
     let both = w ++ v in
-    let Fine : List Hold → Type 0 = Each (Fits plan s.words) in
+    let Fine : List Hold → Type 0 = Each (HoldFits plan s.words) in
     let was : get_elem? s.views other ≡ some w = ⊎_elim (λ (t : (other ≡ id) × (both ≡ w)). absurd (apart t.0)) (λ (t : (other ≢ id) × (get_elem? s.views other ≡ some w)). t.1)
     (at_set s.views id other both w there) in
     let mine = kept.fits id v at in
     let theirs = kept.fits other w was in
-    let first = fits_set Fine s.views id both (λ j u _ e. kept.fits j u e) (each_append (Fits plan s.words) w v theirs mine) in
+    let first = fits_set Fine s.views id both (λ j u _ e. kept.fits j u e) (each_append (HoldFits plan s.words) w v theirs mine) in
     record {
       cut = kept.cut;
       fits = fits_set Fine (set s.views id both) other [] (λ j u _ e. first j u e) tt;
@@ -241,7 +241,7 @@ joins plan id v other w s kept at apart there =
 
 -- the table's making
 
-fits_zero : (plan : Scripts) (r : ℕ) → r < procs_of plan → Fits plan (replicate (procs_of plan) 0) (hold plan r (replicate (procs_of plan) 0))
+fits_zero : (plan : Scripts) (r : ℕ) → r < procs_of plan → HoldFits plan (replicate (procs_of plan) 0) (hold plan r (replicate (procs_of plan) 0))
 fits_zero plan r in_plan = record {
   same = refl;
   here = let l : length (replicate {A = ℕ} (procs_of plan) 0) ≡ procs_of plan = length-replicate (procs_of plan) 0 in omega arith;
@@ -250,7 +250,7 @@ fits_zero plan r in_plan = record {
   below = λ k. omega arith;
 }
 
-each_zero : (plan : Scripts) (r n : ℕ) → r + n ≤ procs_of plan → Each (Fits plan (replicate (procs_of plan) 0)) (holds_from plan r n)
+each_zero : (plan : Scripts) (r n : ℕ) → r + n ≤ procs_of plan → Each (HoldFits plan (replicate (procs_of plan) 0)) (holds_from plan r n)
 each_zero plan r zero in_plan = tt
 each_zero plan r (suc n) in_plan = (fits_zero plan r (omega arith), each_zero plan (suc r) n (omega arith))
 
@@ -258,13 +258,13 @@ one_each : (plan : Scripts) (k r n : ℕ) → (count_of k (holds_from plan r n) 
 one_each plan k r zero = (omega arith, λ _. refl)
 one_each plan k r (suc n) = let h = one_each plan k (suc r) n in grind (arith, nat_tests)
 
-pub opens : {S : Type 0} (plan : Scripts) (words : List ℕ) → words ≡ replicate (procs_of plan) 0 → IsKept {S = S} plan (opening words [] (opening_view plan))
-opens {S} plan words zeros = let P : List ℕ → Type 0 = λ ws. IsKept {S = S} plan (opening ws [] (opening_view plan)) in subst P (sym zeros) record {
+pub opens : {S : Type 0} (plan : Scripts) (words : List ℕ) → words ≡ replicate (procs_of plan) 0 → IsKeptBoard {S = S} plan (opening words [] (opening_view plan))
+opens {S} plan words zeros = let P : List ℕ → Type 0 = λ ws. IsKeptBoard {S = S} plan (opening ws [] (opening_view plan)) in subst P (sym zeros) record {
   cut = cut_start (plan_of plan) (procs_of plan);
   fits = one;
   apart = λ r. let h = (one_each plan r 0 (procs_of plan)).0 in omega arith;
 }
   where
-    one : (j : ℕ) (v : List Hold) → get_elem? (opening_view plan ∷ []) j ≡ some v → Each (Fits plan (replicate (procs_of plan) 0)) v
-    one zero v e = subst (Each (Fits plan (replicate (procs_of plan) 0))) (some-injective _ _ e) (each_zero plan 0 (procs_of plan) (omega arith))
+    one : (j : ℕ) (v : List Hold) → get_elem? (opening_view plan ∷ []) j ≡ some v → Each (HoldFits plan (replicate (procs_of plan) 0)) v
+    one zero v e = subst (Each (HoldFits plan (replicate (procs_of plan) 0))) (some-injective _ _ e) (each_zero plan 0 (procs_of plan) (omega arith))
     one (suc j) v e = absurd (some-ne-none v (sym e))

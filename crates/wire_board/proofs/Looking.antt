@@ -9,8 +9,8 @@ use Rattle.wire_runs.specs.Plan.{Plan, Event, event_of, event_count}
 use Rattle.wire_runs.specs.Fate.{HasFate, Waits}
 use Rattle.wire_runs.specs.Order.{Edge}
 use Rattle.wire_runs.proofs.Lists.{set_raises, not_in_empty}
-use Rattle.wire_content.specs.Scripts.{Scripts}
-use Rattle.wire_content.specs.Planned.{plan_of}
+use Rattle.wire_scripts.specs.Scripts.{Scripts}
+use Rattle.wire_scripts.specs.Planned.{plan_of}
 use Rattle.wire_plan.specs.Index.{AreSources}
 use Rattle.wire_fates.specs.declared.Fate.{Fate}
 use Rattle.wire_fates.specs.declared.Fate.TheVariants.{Waits as CodeWaits}

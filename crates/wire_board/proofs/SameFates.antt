@@ -2,7 +2,7 @@
 use Rattle.std.proofs.Common.{◌≡◌, ap, refl}
 use Rattle.std.specs.Bool.{Decides}
 use denote.Enum.Bare.{same_true, true_same}
-use Rattle.wire_content.proofs.SameCalls.{apart, alike, number, both, through}
+use Rattle.wire_scripts.proofs.SameCalls.{apart, alike, number, both, through}
 use Rattle.wire_types.specs.declared.CallAt.{CallAt}
 use Rattle.wire_types.specs.declared.Value.{Value}
 use Rattle.wire_types.specs.declared.Value.TheVariants.{Nothing, Put, Published, Number, NodeName}

@@ -9,8 +9,8 @@ use Rattle.std.proofs.lemmas.List.Folds.{list_all-map}
 use Rattle.wire_types.specs.declared.Event.{Event as CodeEvent}
 use Rattle.wire_runs.specs.Plan.{Plan, Event, event_of, event_count}
 use Rattle.wire_runs.specs.Fate.{Waits, HasFate}
-use Rattle.wire_content.specs.Scripts.{Scripts}
-use Rattle.wire_content.specs.Planned.{plan_of}
+use Rattle.wire_scripts.specs.Scripts.{Scripts}
+use Rattle.wire_scripts.specs.Planned.{plan_of}
 use Rattle.wire_plan.specs.Index.{AreSources}
 use Rattle.wire_board.specs.Cuts.{shows_event, skip_shown, ShowsSources}
 use Rattle.wire_board.specs.declared.hold.Hold.{Hold}

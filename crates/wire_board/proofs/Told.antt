@@ -10,7 +10,7 @@ use Rattle.std.proofs.lemmas.Option.{same_Some, slice_get_cases, slice_get_withi
 use Rattle.wire_runs.specs.Plan.{Plan, process_count}
 use Rattle.wire_runs.proofs.Lists.{not_in_empty, slice_get-append_kept, slice_get_push_last}
 use Rattle.wire_fates.specs.declared.Fate.{Fate}
-use Rattle.wire_board.specs.Lanes.{LaneIs, AreFates, IsLaneOf, AreLanesOf, IsTrail, IsTrailOf, Tell, AreUnlocked, IsToldBy, AreLaneTrails, AreTrails}
+use Rattle.wire_board.specs.Lanes.{LaneIs, AreFates, IsLaneOf, AreLanesOf, IsTrail, IsTrailOf, Tell, AreUnlocked, IsToldByLanes, AreLaneTrails, AreTrails}
 
 All-reverse : {X : Type 0} (P : X → Type 0) (xs : List X) → All P xs → All P (reverse xs)
 All-reverse P [] all = All-nil P
@@ -106,7 +106,7 @@ pub tells_none : (plan : Plan) (all : List LaneIs) → (AreLanesOf plan all → 
 tells_none plan all others = record { some = (λ ne. absurd (ne refl), λ are. absurd (others are)); trails = tt }
 
 -- what lanes tell is trails of the plan
-pub told_trails : (plan : Plan) (count : ℕ) (told : Option (Vec (Vec Fate Global) Global)) → IsToldBy plan count told → IfSome told (λ trails. AreTrails plan trails.items)
+pub told_trails : (plan : Plan) (count : ℕ) (told : Option (Vec (Vec Fate Global) Global)) → IsToldByLanes plan count told → IfSome told (λ trails. AreTrails plan trails.items)
 told_trails plan count None by = tt
 told_trails plan count (Some told) by =
     let lanes = by.lanes in
@@ -120,12 +120,12 @@ told_trails plan count (Some told) by =
       ];
     }
 
-pub told_count : (plan : Plan) (count : ℕ) (told : Option (Vec (Vec Fate Global) Global)) → IsToldBy plan count told → IfSome told (λ trails. length trails.items ≡ count)
+pub told_count : (plan : Plan) (count : ℕ) (told : Option (Vec (Vec Fate Global) Global)) → IsToldByLanes plan count told → IfSome told (λ trails. length trails.items ≡ count)
 told_count plan count None by = tt
 told_count plan count (Some told) by = by.tell.trails.count ∙ by.unlocked.as_many
 
 -- the r-th of them is the trail of a lane of rank r
-pub told_of_lanes : (plan : Plan) (count : ℕ) (told : Option (Vec (Vec Fate Global) Global)) → IsToldBy plan count told → IfSome told (λ trails. AreLaneTrails trails.items)
+pub told_of_lanes : (plan : Plan) (count : ℕ) (told : Option (Vec (Vec Fate Global) Global)) → IsToldByLanes plan count told → IfSome told (λ trails. AreLaneTrails trails.items)
 told_of_lanes plan count None by = tt
 told_of_lanes plan count (Some told) by =
     let lanes = by.lanes in

@@ -12,8 +12,8 @@ use Rattle.wire_fates.specs.declared.Fate.{Fate}
 use Rattle.wire_fates.specs.declared.Fate.TheVariants.{Waits}
 use Rattle.wire_fates.specs.Fates.{IsFateOf, fate_told}
 use Rattle.wire_fates.proofs.Fates.{there_if}
-use Rattle.wire_content.specs.Scripts.{Scripts}
-use Rattle.wire_content.specs.Planned.{plan_of}
+use Rattle.wire_scripts.specs.Scripts.{Scripts}
+use Rattle.wire_scripts.specs.Planned.{plan_of}
 use Rattle.wire_board.specs.Seats.{BoardIs, SeatIs, place_of, next_of}
 use Rattle.wire_board.specs.Lanes.{AreFates, Grows, LaneIs, IsLane, IsTrail}
 

@@ -6,8 +6,8 @@ use Rattle.wire_runs.specs.Step.{IsReachable}
 use Rattle.wire_runs.specs.Order.{Edge}
 use Rattle.wire_runs.specs.Fate.{IsSoundCut}
 use Rattle.wire_runs.specs.Races.{IsSettled}
-use Rattle.wire_content.specs.Scripts.{Scripts}
-use Rattle.wire_content.specs.Planned.{plan_of}
+use Rattle.wire_scripts.specs.Scripts.{Scripts}
+use Rattle.wire_scripts.specs.Planned.{plan_of}
 
 -- how many processes the scripts have
 abbrev pub procs_of : Scripts → ℕ

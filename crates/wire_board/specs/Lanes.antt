@@ -5,8 +5,8 @@ use Rattle.std.specs.List.{All}
 use Rattle.std.specs.declared.alloc.Global.{Global}
 use Rattle.wire_runs.specs.Plan.{Plan, Event, event_count, process_count}
 use Rattle.wire_runs.specs.Order.{Edge}
-use Rattle.wire_content.specs.Scripts.{Scripts}
-use Rattle.wire_content.specs.Planned.{plan_of}
+use Rattle.wire_scripts.specs.Scripts.{Scripts}
+use Rattle.wire_scripts.specs.Planned.{plan_of}
 use Rattle.wire_fates.specs.declared.Fate.{Fate}
 use Rattle.wire_fates.specs.declared.Fate.TheVariants.{Waits}
 use Rattle.wire_fates.specs.Fates.{IsFateOf}
@@ -109,7 +109,7 @@ pub record AreUnlocked (count : ℕ) (lanes : List LaneIs) : Type 0 where
   pub keep : All IsTrail lanes
 
 -- it is what the lanes tell that come from under so many locks
-pub record IsToldBy (plan : Plan) (count : ℕ) (told : Option (Vec (Vec Fate Global) Global)) : Type 0 where
+pub record IsToldByLanes (plan : Plan) (count : ℕ) (told : Option (Vec (Vec Fate Global) Global)) : Type 0 where
   pub lanes : List LaneIs
   pub unlocked : AreUnlocked count lanes
   pub tell : Tell plan lanes told

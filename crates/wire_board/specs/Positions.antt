@@ -6,8 +6,8 @@ use lib.ListN.{get_elem?}
 use Rattle.atomic_table.specs.Table.{State, Me, Step}
 use Rattle.wire_runs.specs.Plan.{Plan, Event, event_count}
 use Rattle.wire_runs.specs.Fate.{HasFate, Waits}
-use Rattle.wire_content.specs.Scripts.{Scripts, no_scripts}
-use Rattle.wire_content.specs.Planned.{plan_of}
+use Rattle.wire_scripts.specs.Scripts.{Scripts, no_scripts}
+use Rattle.wire_scripts.specs.Planned.{plan_of}
 use Rattle.wire_board.specs.declared.hold.Hold.{Hold}
 use Rattle.wire_board.specs.Cuts.{procs_of, IsReachedCut, ShowsSources, ImpliesSources}
 
@@ -15,7 +15,7 @@ abbrev pub hold : Scripts → ℕ → List ℕ → Hold
 hold plan rank known = record { plan = plan; rank = rank; known = known }
 
 -- the rank's word is its place, and what is known of a word isn't above it
-pub record Fits (plan : Scripts) (words : List ℕ) (h : Hold) : Type 0 where
+pub record HoldFits (plan : Scripts) (words : List ℕ) (h : Hold) : Type 0 where
   pub same : h.plan ≡ plan
   pub here : h.rank < length words
   pub size : length h.known ≡ length words
@@ -39,9 +39,9 @@ owners_of r (v ∷ vs) = count_of r v + owners_of r vs
 
 -- the words are the cut of a state that a run can come to, what each seat knows is true, and each rank has one owner at
 -- most. A seat that is spent owns no rank and knows nothing
-pub record IsKept {S : Type 0} (plan : Scripts) (s : State S (List Hold)) : Type 0 where
+pub record IsKeptBoard {S : Type 0} (plan : Scripts) (s : State S (List Hold)) : Type 0 where
   pub cut : IsReachedCut (plan_of plan) s.words
-  pub fits : (seat : ℕ) (v : List Hold) → get_elem? s.views seat ≡ some v → Each (Fits plan s.words) v
+  pub fits : (seat : ℕ) (v : List Hold) → get_elem? s.views seat ≡ some v → Each (HoldFits plan s.words) v
   pub apart : (r : ℕ) → owners_of r s.views ≤ 1
 
 -- n ranks from r on, of each of which no event is known to be done

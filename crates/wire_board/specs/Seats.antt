@@ -3,8 +3,8 @@ use Rattle.std.specs.Prelude.{◌≡◌, ℕ, zero, suc, ◌-◌, ◌<◌, ◌�
 use Rattle.atomic_table.specs.Table.{Me}
 use Rattle.atomic_table.specs.Seated.{TableId}
 use Rattle.wire_runs.specs.Plan.{Event}
-use Rattle.wire_content.specs.Scripts.{Scripts}
-use Rattle.wire_content.specs.Planned.{plan_of}
+use Rattle.wire_scripts.specs.Scripts.{Scripts}
+use Rattle.wire_scripts.specs.Planned.{plan_of}
 use Rattle.wire_board.specs.declared.hold.Hold.{Hold}
 use Rattle.wire_board.specs.Cuts.{procs_of}
 use Rattle.wire_board.specs.Positions.{hold, holds_from, next_in, ShowsNextIn, ImpliesNextIn}
@@ -47,8 +47,8 @@ pub record IsHeld (me : Me (Unit {0}) (List Hold)) (seat : SeatIs) : Type 0 wher
   pub size : length seat.known ≡ procs_of seat.board.plan
 
 -- a token of this board's table with these ranks
-abbrev pub Has : BoardIs → List Hold → TableId → Me (Unit {0}) (List Hold) → Type 0
-Has board holds id me = (id ≡ board.id) × (me ≡ (holds, []))
+abbrev pub HasToken : BoardIs → List Hold → TableId → Me (Unit {0}) (List Hold) → Type 0
+HasToken board holds id me = (id ≡ board.id) × (me ≡ (holds, []))
 
 -- the ranks from r on
 abbrev pub ranks_from : BoardIs → ℕ → List Hold

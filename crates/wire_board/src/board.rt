@@ -4,9 +4,9 @@ ghost use Rattle.std.specs.Prelude.{◌≡◌, ℕ, ◌+◌, ◌<◌, ◌≤◌,
 ghost use Rattle.std.specs.Prelude.{MatchOption, slice_index, slice_set};
 ghost use Rattle.std.specs.Mem.Slots.{slots_items, slots_len, IsFull};
 ghost use Rattle.wire_types.specs.declared.Fault.TheVariants.{Memory};
-ghost use Rattle.wire_content.specs.Planned.{plan_of};
+ghost use Rattle.wire_scripts.specs.Planned.{plan_of};
 ghost use Rattle.wire_board.specs.Cuts.{procs_of, IsReachedCut};
-ghost use Rattle.wire_board.specs.Seats.{place_of, hold_of, opening_seat, opening_seats, ranks_from, Has, ShowsNext};
+ghost use Rattle.wire_board.specs.Seats.{place_of, hold_of, opening_seat, opening_seats, ranks_from, HasToken, ShowsNext};
 ghost use Rattle.wire_board.specs.Seats.{ImpliesNext, IsTrueOf};
 
 use crate::hold::{Hold, Positions, Ranks, Reads, Stores, TableSeat};
@@ -15,9 +15,9 @@ use atomic_table::{Closed, Table};
 use std::alloc::{AllocError, Global};
 use std::collections::LinkedList;
 use std::marker::Model;
-use wire_content::Scripts;
 use wire_fates::Settled;
 use wire_plan::Plan;
+use wire_scripts::Scripts;
 use wire_types::{Fault, Proc};
 
 /// One atomic word for each process: the number of its events that are done. Between any two steps of any
@@ -64,7 +64,7 @@ impl Board {
     /// A board, and a first token, which owns each rank.
     fn make(alloc: Global, plan: &Plan) -> Result<(Board, TableSeat), AllocError>
         ensures plan { IfOk result (λ made. made.0.plan ≡ plan.now) }
-        ensures first { IfOk result (λ made. Has made.0 (ranks_from made.0 0) made.1.table_id made.1.me) }
+        ensures first { IfOk result (λ made. HasToken made.0 (ranks_from made.0 0) made.1.table_id made.1.me) }
     {
         let words = zeros(alloc, plan.process_count())?;
         let (table, first) = Table::of_words(alloc, &words, plan.scripts())?;
@@ -79,7 +79,7 @@ impl Board {
         mut first: TableSeat,
     ) -> Result<Vec<Seat>, AllocError>
         requires plan { self.now.plan ≡ plan.now }
-        requires first { Has self.now (ranks_from self.now 0) first.table_id first.me }
+        requires first { HasToken self.now (ranks_from self.now 0) first.table_id first.me }
         ensures { IfOk result (λ seats. seats.items ≡ opening_seats self.now) }
     {
         let count = plan.process_count();
@@ -100,8 +100,8 @@ impl Board {
     ) -> Result<Seat, AllocError>
         requires count { count ≡ procs_of self.now.plan }
         requires rank { rank < procs_of self.now.plan }
-        requires first { Has self.now (ranks_from self.now rank) first.old.table_id first.old.me }
-        ensures first { OnOk result (Has self.now (ranks_from self.now (rank + 1)) first.new.table_id first.new.me) }
+        requires first { HasToken self.now (ranks_from self.now rank) first.old.table_id first.old.me }
+        ensures first { OnOk result (HasToken self.now (ranks_from self.now (rank + 1)) first.new.table_id first.new.me) }
         ensures seat { IfOk result (λ seat. seat ≡ opening_seat self.now rank) }
     {
         let known = zeros(alloc, count)?;
@@ -170,7 +170,7 @@ impl Board {
     /// One token that has the ranks of all of these.
     fn gather(&self, mut seats: Vec<Seat>) -> Option<TableSeat>
         requires { All (λ seat. seat.board ≡ self.now) seats.items }
-        ensures { MatchOption result (seats.items ≡ []) (λ token. Has self.now (map hold_of seats.items) token.table_id token.me) }
+        ensures { MatchOption result (seats.items ≡ []) (λ token. HasToken self.now (map hold_of seats.items) token.table_id token.me) }
     {
         let Seat {
             mut token,

@@ -2,7 +2,7 @@
 
 use atomic_table::{Join, Play, Split, TableRule};
 use std::collections::LinkedList;
-use wire_content::Scripts;
+use wire_scripts::Scripts;
 
 /// What the owner of a rank knows: the scripts of the plan, its rank, and of each process a number of
 /// events that are done. Only contracts speak of it: no value of it is made.
@@ -20,9 +20,9 @@ pub(crate) type TableSeat = atomic_table::Seat<(), LinkedList<Hold>>;
 pub(crate) struct Positions;
 
 impl TableRule<(), LinkedList<Hold>, Scripts> for Positions {
-    ghost use Rattle.wire_board.specs.Positions.{IsKept, opening_view};
+    ghost use Rattle.wire_board.specs.Positions.{IsKeptBoard, opening_view};
 
-    ghost holds = { IsKept };
+    ghost holds = { IsKeptBoard };
 
     ghost first = { opening_view };
 }

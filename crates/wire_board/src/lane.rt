@@ -6,7 +6,7 @@ ghost use Rattle.wire_types.specs.declared.Fault.TheVariants.{Memory};
 ghost use Rattle.wire_runs.specs.Plan.{event_of, event_count};
 ghost use Rattle.wire_runs.specs.Fate.{HasFate, Waits};
 ghost use Rattle.wire_runs.specs.Order.{Edge};
-ghost use Rattle.wire_content.specs.Planned.{plan_of};
+ghost use Rattle.wire_scripts.specs.Planned.{plan_of};
 ghost use Rattle.wire_fates.specs.Fates.{IsFateOf};
 ghost use Rattle.wire_plan.specs.Index.{source_list};
 ghost use Rattle.wire_board.specs.Cuts.{shows_event, ShowsSources, ImpliesSources};
@@ -51,7 +51,7 @@ impl Drop for Lane<'_> {
 
 impl<'a> Model for Lane<'a> {
     ghost use Rattle.std.specs.Prelude.{vec_capacity, IfSome};
-    ghost use Rattle.wire_content.specs.Planned.{plan_of};
+    ghost use Rattle.wire_scripts.specs.Planned.{plan_of};
     ghost use Rattle.wire_plan.specs.Index.{source_list};
     ghost use Rattle.wire_board.specs.Lanes.{LaneIs, IsLane, AreLeft};
 

@@ -2,10 +2,10 @@
 
 ghost use Rattle.std.specs.Prelude.{◌≡◌, length, IfOk, IfSome, IsOkUnless, vec_len};
 ghost use Rattle.wire_types.specs.declared.Fault.TheVariants.{Memory};
-ghost use Rattle.wire_content.specs.Planned.{plan_of};
+ghost use Rattle.wire_scripts.specs.Planned.{plan_of};
 ghost use Rattle.wire_board.specs.Cuts.{procs_of};
 ghost use Rattle.wire_board.specs.Seats.{opening_seats};
-ghost use Rattle.wire_board.specs.Lanes.{AreLaneTrails, AreTrails, AreUnlocked, IsToldBy};
+ghost use Rattle.wire_board.specs.Lanes.{AreLaneTrails, AreTrails, AreUnlocked, IsToldByLanes};
 
 use crate::board::Board;
 use crate::lane::Lane;
@@ -109,7 +109,7 @@ impl<'a> Lanes<'a> {
     /// told: other threads may have served them, or not; nor of which board they are, as no clause can name what is
     /// under a lock. The one fault is `Fault::Memory`.
     pub fn trails(self, alloc: Global, settled: &Settled) -> Result<Option<Vec<Vec<Fate>>>, Fault>
-        ensures told { IfOk result (λ o. IsToldBy (plan_of settled.now) self.entry.count o) }
+        ensures told { IfOk result (λ o. IsToldByLanes (plan_of settled.now) self.entry.count o) }
         ensures lanes { IfOk result (λ o. IfSome o (λ trails. AreLaneTrails trails.items)) }
         ensures trails { IfOk result (λ o. IfSome o (λ trails. AreTrails (plan_of settled.now) trails.items)) }
         ensures count { IfOk result (λ o. IfSome o (λ trails. length trails.items ≡ self.entry.count)) }

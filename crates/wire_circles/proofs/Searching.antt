@@ -6,11 +6,11 @@ use Rattle.std.proofs.lemmas.List.{get_or-drop}
 use Rattle.std.proofs.lemmas.Bool.{cases_eq, cases_lt}
 use Rattle.std.specs.List.{Contains}
 use Rattle.wire_circles.specs.Circles.{IsCircle, waited_by}
-use Rattle.wire_circles.specs.Search.{Ends, ends, IsChain, IsSearch, IsLast, Lowers, MayGoOn}
+use Rattle.wire_circles.specs.Search.{ChainsEnd, ends, IsChain, IsSearch, EndsPath, Lowers, MayGoOn}
 use Rattle.wire_circles.proofs.Lists.{contains_at, place_in, index_before, index_last, longer}
 
 -- no circle leads through one of whom each chain ends
-pub not_around : (Waits : ℕ → ℕ → Type 0) (circle : List ℕ) → IsCircle Waits circle → (p i : ℕ) → Ends Waits p → i < length circle → slice_index circle i ≡ p → ⊥
+pub not_around : (Waits : ℕ → ℕ → Type 0) (circle : List ℕ) → IsCircle Waits circle → (p i : ℕ) → ChainsEnd Waits p → i < length circle → slice_index circle i ≡ p → ⊥
 not_around Waits circle around p i (ends each) low is = elim (cases_eq (suc i) (length circle)) [
   | inl last ↦ not_around Waits circle around (slice_index circle 0) 0
       (each (slice_index circle 0) (subst (λ x. Waits x (slice_index circle 0)) is (subst (λ k. Waits (slice_index circle k) (slice_index circle 0)) (omega (arith, last)) around.closed)))
@@ -33,7 +33,7 @@ most_lowered lists old new path p search lowers q = elim (cases_eq q p) [
 ]
 
 -- one more is looked at: it is done with
-pub passed : (lists : ℕ → List ℕ) (old new : ℕ → ℕ) (path : List ℕ) (p : ℕ) → IsSearch lists old path → Lowers old new p → IsLast path p → 2 ≤ old p →
+pub passed : (lists : ℕ → List ℕ) (old new : ℕ → ℕ) (path : List ℕ) (p : ℕ) → IsSearch lists old path → Lowers old new p → EndsPath path p → 2 ≤ old p →
     old (slice_index (lists p) (old p - 2)) ≡ 0 → IsSearch lists new path
 passed lists old new path p search lowers last more done =
     let on : Contains path p = contains_at path (length path - 1) p (omega (arith, last.0)) last.1 in
@@ -80,7 +80,7 @@ finished lists old new path p search lowers one =
         | inr ne ↦ zero_stays old new p (slice_index (lists q) i) lowers (search.looked q i (omega (arith, low, lowers.others q ne)) within)
       ];
       ended = λ q none. elim (cases_eq q p) [
-        | inl e ↦ subst (Ends (λ x y. Contains (lists x) y)) (sym e) (ends (λ r contains.
+        | inl e ↦ subst (ChainsEnd (λ x y. Contains (lists x) y)) (sym e) (ends (λ r contains.
             let at : (k : ℕ) × (k < length (lists p)) × (slice_index (lists p) k ≡ r) = place_in (lists p) r contains in
             search.ended r (subst (λ x. old x ≡ 0) at.2 (search.looked p at.0 (omega (arith, one)) at.1))))
         | inr ne ↦ search.ended q (sym (lowers.others q ne) ∙ none)
@@ -194,7 +194,7 @@ closes lists path place first chain within there closed =
     }
 
 -- where each chain ends there is no circle
-pub no_circle : (Waits : ℕ → ℕ → Type 0) → ((p : ℕ) → Ends Waits p) → (circle : List ℕ) → IsCircle Waits circle → ⊥
+pub no_circle : (Waits : ℕ → ℕ → Type 0) → ((p : ℕ) → ChainsEnd Waits p) → (circle : List ℕ) → IsCircle Waits circle → ⊥
 no_circle Waits ended circle around = not_around Waits circle around (slice_index circle 0) 0 (ended (slice_index circle 0)) around.some refl
 
 pub whole_of : (waits : List (Vec ℕ Global)) (p : ℕ) → p < length waits → slice_index (map (λ list. length list.items + 2) waits) p ≡ length (waited_by waits p) + 2

@@ -3,8 +3,8 @@ use Rattle.std.specs.Prelude.{◌≡◌, ◌≢◌, ◌<◌, ◌≤◌, ◌-◌,
 use Rattle.std.specs.List.{Contains, sum}
 
 -- each chain of waits that begins at p ends
-pub data Ends (Waits : ℕ → ℕ → Type 0) : ℕ → Type 0 where
-  ends : {p : ℕ} → ((q : ℕ) → Waits p q → Ends Waits q) → Ends Waits p
+pub data ChainsEnd (Waits : ℕ → ℕ → Type 0) : ℕ → Type 0 where
+  ends : {p : ℕ} → ((q : ℕ) → Waits p q → ChainsEnd Waits q) → ChainsEnd Waits p
 
 -- each of the path waits for the next, and each is on it once
 pub record IsChain (lists : ℕ → List ℕ) (path : List ℕ) : Type 0 where
@@ -16,7 +16,7 @@ pub record IsChain (lists : ℕ → List ℕ) (path : List ℕ) : Type 0 where
 pub record IsSearch (lists : ℕ → List ℕ) (left : ℕ → ℕ) (path : List ℕ) : Type 0 where
   pub most : (p : ℕ) → left p ≤ length (lists p) + 2
   pub looked : (p i : ℕ) → left p ≤ suc i → i < length (lists p) → left (slice_index (lists p) i) ≡ 0
-  pub ended : (p : ℕ) → left p ≡ 0 → Ends (λ x y. Contains (lists x) y) p
+  pub ended : (p : ℕ) → left p ≡ 0 → ChainsEnd (λ x y. Contains (lists x) y) p
   pub met : (p : ℕ) → 0 < left p → left p ≤ length (lists p) + 1 → Contains path p
   pub unfinished : (k : ℕ) → k < length path → (0 < left (slice_index path k)) × (left (slice_index path k) ≤ length (lists (slice_index path k)) + 1)
   pub chain : IsChain lists path
@@ -27,8 +27,8 @@ pub record Lowers (old new : ℕ → ℕ) (p : ℕ) : Type 0 where
   pub others : (q : ℕ) → q ≢ p → new q ≡ old q
 
 -- the path ends with p
-abbrev pub IsLast : List ℕ → ℕ → Type 0
-IsLast path p = (0 < length path) × (slice_index path (length path - 1) ≡ p)
+abbrev pub EndsPath : List ℕ → ℕ → Type 0
+EndsPath path p = (0 < length path) × (slice_index path (length path - 1) ≡ p)
 
 -- the path is empty, or its end waits for q
 abbrev pub MayGoOn : (ℕ → List ℕ) → List ℕ → ℕ → Type 0

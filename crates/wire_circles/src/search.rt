@@ -5,7 +5,7 @@ ghost use Rattle.std.specs.Prelude.{slice_index, IfOk, OnOk, MatchOption};
 ghost use Rattle.std.specs.List.{Contains};
 ghost use Rattle.wire_circles.specs.Circles as spec;
 ghost use Rattle.wire_circles.specs.Circles.{WaitsFor, IsCircle};
-ghost use Rattle.wire_circles.specs.Search.{IsChain, IsSearch, IsLast, MayGoOn, Lowers, Falls, StaysBelow};
+ghost use Rattle.wire_circles.specs.Search.{IsChain, IsSearch, EndsPath, MayGoOn, Lowers, Falls, StaysBelow};
 
 use std::alloc::{AllocError, Global};
 
@@ -100,7 +100,7 @@ fn enter(
 
 /// Takes the end off the path.
 fn drop_last(path: &mut Vec<u32>, last: u32)
-    requires { IsLast path.old.items last }
+    requires { EndsPath path.old.items last }
     ensures { path.old.items ≡ path.new.items ++ last ∷ [] }
 {
     let _ = path.pop();
@@ -109,7 +109,7 @@ fn drop_last(path: &mut Vec<u32>, last: u32)
 /// Leaves the end of the path, all for whom it waits being done with.
 fn leave(left: &mut Vec<usize>, path: &mut Vec<u32>, waits: &[Vec<u32>], last: u32)
     requires search { IsSearch (spec.waited_by waits.now) (slice_index left.old.items) path.old.items }
-    requires last { IsLast path.old.items last }
+    requires last { EndsPath path.old.items last }
     requires done { slice_index left.old.items last ≡ 1 }
     ensures search { IsSearch (spec.waited_by waits.now) (slice_index left.new.items) path.new.items }
     ensures falls { Falls left.old.items left.new.items }
@@ -121,7 +121,7 @@ fn leave(left: &mut Vec<usize>, path: &mut Vec<u32>, waits: &[Vec<u32>], last: u
 /// Passes one for whom the end of the path waits, and who is done with.
 fn pass(left: &mut Vec<usize>, path: &[u32], waits: &[Vec<u32>], last: u32)
     requires search { IsSearch (spec.waited_by waits.now) (slice_index left.old.items) path.now }
-    requires last { IsLast path.now last }
+    requires last { EndsPath path.now last }
     requires more { 2 ≤ slice_index left.old.items last }
     requires done { slice_index left.old.items (slice_index (spec.waited_by waits.now last) (slice_index left.old.items last - 2)) ≡ 0 }
     ensures search { IsSearch (spec.waited_by waits.now) (slice_index left.new.items) path.now }
@@ -147,7 +147,7 @@ fn step(
     last: u32,
 ) -> Result<Option<Vec<u32>>, AllocError>
     requires search { IsSearch (spec.waited_by waits.now) (slice_index left.old.items) path.old.items }
-    requires last { IsLast path.old.items last }
+    requires last { EndsPath path.old.items last }
     ensures goes { IfOk result (λ r. MatchOption r (IsSearch (spec.waited_by waits.now) (slice_index left.new.items) path.new.items)
         (λ circle. IsCircle (WaitsFor waits.now) circle.items)) }
     ensures falls { IfOk result (λ r. r ≡ None → Falls left.old.items left.new.items) }

@@ -5,7 +5,7 @@ use Rattle.std.proofs.Math.Nat.{div-div-eq-div-mul, pow-suc, pow-succ', one-le-p
 use Rattle.std.proofs.lemmas.Bool.{cases_eq, cond-true, cond-false, eq-eqb, ne_eqb, ltb-true, ltb-false}
 use Rattle.std.proofs.lemmas.Nat.{div-mul-add, mod-mul-add, mod_below, div_below, div-add-mod'}
 use lib.Arith.{mod-mul}
-use Rattle.wire_clocks.specs.Rows.{entry, tree_says, IsTree, Keeps}
+use Rattle.wire_clocks.specs.Rows.{entry, tree_says, IsTree, KeepsRows}
 use Rattle.wire_clocks.proofs.Growing.{says_kept, rest_low}
 
 -- the last digit of a process, and the others
@@ -54,7 +54,7 @@ unfolding IsTree
 lowest_tree rows n lt = (lt, λ i. tt)
 
 -- a tree with another lowest row
-pub block_row_says : (old now new : List (List ℕ)) (k root block lowest t : ℕ) (stands least raised : List ℕ) → Keeps old now → Keeps now new → IsTree old (suc k) root → lowest < length now →
+pub block_row_says : (old now new : List (List ℕ)) (k root block lowest t : ℕ) (stands least raised : List ℕ) → KeepsRows old now → KeepsRows now new → IsTree old (suc k) root → lowest < length now →
     ((i : ℕ) → slice_index stands i ≡ entry old (tree_says old k root block) i) → ((i : ℕ) → i < 16 → slice_index raised i ≡ max (slice_index stands i) (slice_index least i)) →
     ((i : ℕ) → entry now lowest i ≡ slice_index raised i) → ((b : ℕ) → b < 16 ^ k → tree_says new k t b ≡ (if b == block then lowest else tree_says now k root b)) → (q : ℕ) → q < 16 ^ suc k →
     tree_says new (suc k) t q ≡ (if q / 16 == block then max (tree_says old (suc k) root q) (slice_index least (q % 16)) else tree_says old (suc k) root q)

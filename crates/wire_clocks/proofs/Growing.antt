@@ -4,7 +4,7 @@ use Rattle.std.proofs.lemmas.List.{length-append}
 use Rattle.std.proofs.lemmas.Nat.{pow-add, div_below, mod_below}
 use Rattle.std.proofs.Math.Nat.{pow-suc, one-le-pow}
 use Rattle.std.specs.Prelude.{Result, Ok, Err, IfOk, slice_get, replicate}
-use Rattle.wire_clocks.specs.Rows.{entry, numbers_in, tree_says, IsTree, IsZero, Keeps}
+use Rattle.wire_clocks.specs.Rows.{entry, numbers_in, tree_says, IsTree, IsZero, KeepsRows}
 
 pub slice_get-append_left : {A : Type 0} (xs ys : List A) (i : ℕ) → i < length xs → slice_get (xs ++ ys) i ≡ slice_get xs i
 slice_get-append_left [] ys i lt = absurd (omega (arith, lt))
@@ -18,14 +18,14 @@ slice_get-append_last (x ∷ xs) v zero e = absurd (omega (arith, e))
 slice_get-append_last (x ∷ xs) v (suc i) e = slice_get-append_last xs v i (omega (arith, e))
 
 -- a tree says the same where rows are added
-pub says_kept : (old new : List (List ℕ)) → Keeps old new → (k tree : ℕ) → IsTree old k tree → (p : ℕ) → tree_says new k tree p ≡ tree_says old k tree p
+pub says_kept : (old new : List (List ℕ)) → KeepsRows old new → (k tree : ℕ) → IsTree old k tree → (p : ℕ) → tree_says new k tree p ≡ tree_says old k tree p
 unfolding tree_says IsTree
 says_kept old new keeps zero tree t p = refl
 says_kept old new keeps (suc k) tree t p =
     ap (λ n. tree_says new k n (p % 16 ^ k)) (keeps.same tree (p / 16 ^ k) t.0) ∙ says_kept old new keeps k (entry old tree (p / 16 ^ k)) (t.1 (p / 16 ^ k)) (p % 16 ^ k)
 
 -- and stays there
-pub tree_kept : (old new : List (List ℕ)) → Keeps old new → (k tree : ℕ) → IsTree old k tree → IsTree new k tree
+pub tree_kept : (old new : List (List ℕ)) → KeepsRows old new → (k tree : ℕ) → IsTree old k tree → IsTree new k tree
 unfolding IsTree
 tree_kept old new keeps zero tree t = tt
 tree_kept old new keeps (suc k) tree t =
@@ -33,20 +33,20 @@ tree_kept old new keeps (suc k) tree t =
     let here = t.0 in
     (omega arith, λ i. subst (IsTree new k) (sym (keeps.same tree i t.0)) (tree_kept old new keeps k (entry old tree i) (t.1 i)))
 
-pub zero_kept : (old new : List (List ℕ)) → Keeps old new → IsZero old → IsZero new
+pub zero_kept : (old new : List (List ℕ)) → KeepsRows old new → IsZero old → IsZero new
 zero_kept old new keeps z = record { there = omega (arith, keeps.longer, z.there); zeros = λ i. keeps.same 0 i z.there ∙ z.zeros i }
 
-pub keeps_itself : (rows : List (List ℕ)) → Keeps rows rows
+pub keeps_itself : (rows : List (List ℕ)) → KeepsRows rows rows
 keeps_itself rows = record { longer = omega arith; same = λ n i lt. refl }
 
-pub keeps_through : (a b c : List (List ℕ)) → Keeps a b → Keeps b c → Keeps a c
+pub keeps_through : (a b c : List (List ℕ)) → KeepsRows a b → KeepsRows b c → KeepsRows a c
 keeps_through a b c ab bc = record {
   longer = omega (arith, ab.longer, bc.longer);
   same = λ n i lt. bc.same n i (omega (arith, lt, ab.longer)) ∙ ab.same n i lt;
 }
 
 -- one row more
-pub keeps_pushed : (rows : List (List ℕ)) (row : List ℕ) → Keeps rows (rows ++ row ∷ [])
+pub keeps_pushed : (rows : List (List ℕ)) (row : List ℕ) → KeepsRows rows (rows ++ row ∷ [])
 keeps_pushed rows row = record {
   longer = omega (arith, length-append rows (row ∷ []));
   same = λ n i lt. ap (λ o. slice_index (numbers_in o) i) (slice_get-append_left rows (row ∷ []) n lt);
@@ -111,12 +111,12 @@ tree_low rows zero tree e = tt
 tree_low rows (suc k) tree e = absurd (omega (arith, e))
 
 -- a row whose numbers are trees that stood before it
-pub row_tree : (now new : List (List ℕ)) (level t : ℕ) (numbers : List ℕ) → Keeps now new → 0 < level → t < length new → ((i : ℕ) → entry new t i ≡ slice_index numbers i) →
+pub row_tree : (now new : List (List ℕ)) (level t : ℕ) (numbers : List ℕ) → KeepsRows now new → 0 < level → t < length new → ((i : ℕ) → entry new t i ≡ slice_index numbers i) →
     ((i : ℕ) → IsTree now (level - 1) (slice_index numbers i)) → IsTree new level t
 row_tree now new level t numbers keeps lt there each trees =
     tree_up new level t lt there (λ i. subst (IsTree new (level - 1)) (sym (each i)) (tree_kept now new keeps (level - 1) (slice_index numbers i) (trees i)))
 
-pub row_says : (now new : List (List ℕ)) (level t : ℕ) (numbers : List ℕ) → Keeps now new → 0 < level → ((i : ℕ) → entry new t i ≡ slice_index numbers i) →
+pub row_says : (now new : List (List ℕ)) (level t : ℕ) (numbers : List ℕ) → KeepsRows now new → 0 < level → ((i : ℕ) → entry new t i ≡ slice_index numbers i) →
     ((i : ℕ) → IsTree now (level - 1) (slice_index numbers i)) → (q : ℕ) → tree_says new level t q ≡ tree_says now (level - 1) (slice_index numbers (q / 16 ^ (level - 1))) (q % 16 ^ (level - 1))
 row_says now new level t numbers keeps lt each trees q =
     let d = q / 16 ^ (level - 1) in

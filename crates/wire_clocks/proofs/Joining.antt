@@ -3,18 +3,18 @@ use Rattle.std.proofs.Common.{◌≡◌, ◌∙◌, ℕ, ◌<◌, ◌/◌, ◌%�
 use Rattle.std.proofs.lemmas.Bool.{cases_eq}
 use Rattle.std.proofs.lemmas.List.{get_or-set_same, get_or-set_other, length-set}
 use Rattle.std.specs.Prelude.{slice_set}
-use Rattle.wire_clocks.specs.Rows.{entry, tree_says, IsTree, Keeps, IsZero}
+use Rattle.wire_clocks.specs.Rows.{entry, tree_says, IsTree, KeepsRows, IsZero}
 use Rattle.wire_clocks.proofs.Growing.{says_kept, tree_kept, says_down, says_zero, says_low, row_says, rest_low, place_low, keeps_through, keeps_itself, tree_down, tree_low}
 
 -- the first `count` subtrees are joined
 pub record Joins (old now : List (List ℕ)) (level : ℕ) (lefts rights joined : List ℕ) (count : ℕ) : Type 0 where
-  pub keeps : Keeps old now
+  pub keeps : KeepsRows old now
   pub width : length joined ≡ 16
   pub trees : (j : ℕ) → IsTree now level (slice_index joined j)
   pub says : (j q : ℕ) → j < count → q < 16 ^ level → tree_says now level (slice_index joined j) q ≡ max (tree_says old level (slice_index lefts j) q) (tree_says old level (slice_index rights j) q)
 
 pub joins_step : (old now next : List (List ℕ)) (level i t : ℕ) (lefts rights joined : List ℕ) → Joins old now level lefts rights joined i → i < 16 →
-    ((j : ℕ) → IsTree old level (slice_index lefts j)) → ((j : ℕ) → IsTree old level (slice_index rights j)) → Keeps now next → IsTree next level t →
+    ((j : ℕ) → IsTree old level (slice_index lefts j)) → ((j : ℕ) → IsTree old level (slice_index rights j)) → KeepsRows now next → IsTree next level t →
     ((q : ℕ) → q < 16 ^ level → tree_says next level t q ≡ max (tree_says now level (slice_index lefts i) q) (tree_says now level (slice_index rights i) q)) →
     Joins old next level lefts rights (slice_set joined i t) (i + 1)
 joins_step old now next level i t lefts rights joined joins low left right keeps tree says =
@@ -38,7 +38,7 @@ joins_step old now next level i t lefts rights joined joins low left right keeps
     }
 
 pub joins_says : (old now new : List (List ℕ)) (level left right t : ℕ) (lefts rights joined : List ℕ) → 0 < level → Joins old now (level - 1) lefts rights joined 16 →
-    ((i : ℕ) → slice_index lefts i ≡ entry old left i) → ((i : ℕ) → slice_index rights i ≡ entry old right i) → Keeps now new → ((i : ℕ) → entry new t i ≡ slice_index joined i) → (q : ℕ) →
+    ((i : ℕ) → slice_index lefts i ≡ entry old left i) → ((i : ℕ) → slice_index rights i ≡ entry old right i) → KeepsRows now new → ((i : ℕ) → entry new t i ≡ slice_index joined i) → (q : ℕ) →
     q < 16 ^ level → tree_says new level t q ≡ max (tree_says old level left q) (tree_says old level right q)
 joins_says old now new level left right t lefts rights joined lt joins left_is right_is keeps each q inside =
     let k = level - 1 in

@@ -8,8 +8,8 @@ use Rattle.std.proofs.lemmas.List.Elements.{All-get_or, All-from_get_or}
 use Rattle.std.proofs.lemmas.List.Sums.{AllPass-from_list_all, list_all-from_AllPass}
 use Rattle.std.proofs.lemmas.Option.{slice_get_past}
 use Rattle.wire_clocks.specs.declared.notes.Note.{Note}
-use Rattle.wire_clocks.specs.Rows.{entry, numbers_in, tree_says, is_tree, IsTree, IsZero, Keeps}
-use Rattle.wire_clocks.specs.Notes.{note_at, next_note, raised_at, number_by_note, stands_by_note, clock_number, clock_stands, is_top, KeepsNotes, IsNoted}
+use Rattle.wire_clocks.specs.Rows.{entry, numbers_in, tree_says, is_tree, IsTree, IsZero, KeepsRows}
+use Rattle.wire_clocks.specs.Notes.{note_at, next_note, raised_at, number_by_note, stands_by_note, clock_number, clock_stands, is_top, KeepsNotes, IsNotedClock}
 use Rattle.wire_clocks.proofs.Growing.{says_kept, tree_kept, tree_of_zeros, keeps_itself}
 
 -- the test finds trees
@@ -68,11 +68,11 @@ top_tree rows z height root top = tree_found rows z height (root / 2) (and_parts
 pub tree_top : (rows : List (List ℕ)) (height root : ℕ) → root % 2 ≡ 0 → IsTree rows height (root / 2) → is_top rows height root ≡ true
 tree_top rows height root even tree = and_from (root % 2 == 0) (is_tree rows height (root / 2)) (eq-eqb (root % 2) 0 even) (tree_passes rows height (root / 2) tree)
 
-top_kept : (old new : List (List ℕ)) → Keeps old new → IsZero old → (height root : ℕ) → is_top old height root ≡ true → is_top new height root ≡ true
+top_kept : (old new : List (List ℕ)) → KeepsRows old new → IsZero old → (height root : ℕ) → is_top old height root ≡ true → is_top new height root ≡ true
 top_kept old new keeps z height root top = tree_top new height root (top_even old height root top) (tree_kept old new keeps height (root / 2) (top_tree old z height root top))
 
 -- a clock stays
-pub stands_kept : (old new : List (List ℕ)) (ns ns' : List Note) → Keeps old new → KeepsNotes ns ns' → IsZero old → (height k root : ℕ) → clock_stands old ns height k root ≡ true →
+pub stands_kept : (old new : List (List ℕ)) (ns ns' : List Note) → KeepsRows old new → KeepsNotes ns ns' → IsZero old → (height k root : ℕ) → clock_stands old ns height k root ≡ true →
     clock_stands new ns' height k root ≡ true
 unfolding clock_stands
 stands_kept old new ns ns' keeps keeps' z height zero root e = top_kept old new keeps z height root e
@@ -89,7 +89,7 @@ stands_kept old new ns ns' keeps keeps' z height (suc k) root e = go (note_at ns
         (and_from (nat_lt note.process (16 ^ height)) (clock_stands new ns' height k note.below) both.0 (ih note.below both.1))
 
 -- and says what it said
-pub number_kept : (old new : List (List ℕ)) (ns ns' : List Note) → Keeps old new → KeepsNotes ns ns' → IsZero old → (height q k root : ℕ) → clock_stands old ns height k root ≡ true →
+pub number_kept : (old new : List (List ℕ)) (ns ns' : List Note) → KeepsRows old new → KeepsNotes ns ns' → IsZero old → (height q k root : ℕ) → clock_stands old ns height k root ≡ true →
     clock_number new ns' height k root q ≡ clock_number old ns height k root q
 unfolding clock_stands clock_number
 number_kept old new ns ns' keeps keeps' z height q zero root e = says_kept old new keeps height (root / 2) (top_tree old z height root e) q
@@ -218,17 +218,17 @@ low_number rows notes height q (suc k) root e = go (note_at notes root) e (low_n
     go (Some note) e ih = ap (raised_at note.process note.number q) (ih note.below (and_parts (nat_lt note.process (16 ^ height)) (clock_stands rows notes height k note.below) e).1)
 
 -- the clock of a note that was added
-noted_at : (old new : List Note) (note : Note) (root : ℕ) → IsNoted old new note root → note_at new root ≡ Some note
+noted_at : (old new : List Note) (note : Note) (root : ℕ) → IsNotedClock old new note root → note_at new root ≡ Some note
 noted_at old new note root noted = odd_at new root (λ e. omega (arith, e, noted.odd)) ∙ noted.there
 
-pub noted_stands : (rows : List (List ℕ)) (ns ns' : List Note) (height root : ℕ) (note : Note) → IsZero rows → KeepsNotes ns ns' → IsNoted ns ns' note root → note.process < 16 ^ height →
+pub noted_stands : (rows : List (List ℕ)) (ns ns' : List Note) (height root : ℕ) (note : Note) → IsZero rows → KeepsNotes ns ns' → IsNotedClock ns ns' note root → note.process < 16 ^ height →
     clock_stands rows ns height 15 note.below ≡ true → clock_stands rows ns' height 16 root ≡ true
 noted_stands rows ns ns' height root note z keeps noted low stands =
     note_stands rows ns' height 15 root note (noted_at ns ns' note root noted)
     ∙ and_from (nat_lt note.process (16 ^ height)) (clock_stands rows ns' height 15 note.below) (lt-ltb note.process (16 ^ height) low)
     (stands_kept rows rows ns ns' (keeps_itself rows) keeps z height 15 note.below stands)
 
-pub noted_number : (rows : List (List ℕ)) (ns ns' : List Note) (height root q : ℕ) (note : Note) → IsZero rows → KeepsNotes ns ns' → IsNoted ns ns' note root →
+pub noted_number : (rows : List (List ℕ)) (ns ns' : List Note) (height root q : ℕ) (note : Note) → IsZero rows → KeepsNotes ns ns' → IsNotedClock ns ns' note root →
     clock_stands rows ns height 15 note.below ≡ true → clock_number rows ns' height 16 root q ≡ raised_at note.process note.number q (clock_number rows ns height 15 note.below q)
 noted_number rows ns ns' height root q note z keeps noted stands =
     note_number rows ns' height 15 root q note (noted_at ns ns' note root noted)

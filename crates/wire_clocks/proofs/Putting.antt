@@ -3,7 +3,7 @@ use Rattle.std.proofs.Common.{◌≡◌, ◌∙◌, ◌==◌, ℕ, zero, suc, �
 use Rattle.std.proofs.lemmas.Bool.{cases_eq, cond_both, cond-true, cond-false, eq-eqb, ne_eqb}
 use Rattle.std.proofs.lemmas.Nat.{div-add-mod'}
 use Rattle.std.specs.Prelude.{if◌then◌else◌}
-use Rattle.wire_clocks.specs.Rows.{entry, tree_says, IsTree, Keeps}
+use Rattle.wire_clocks.specs.Rows.{entry, tree_says, IsTree, KeepsRows}
 use Rattle.wire_clocks.proofs.Growing.{says_kept, tree_kept, says_down, tree_down, row_says, rest_low}
 
 -- two processes of one subtree are one where their places in it are
@@ -14,7 +14,7 @@ same_place q p s e = elim (cases_eq q p) [ inl eq ↦ eq-eqb (q % s) (p % s) (ap
     whole r = sym (div-add-mod' q s) ∙ ap (λ n. n * s + q % s) e ∙ ap (λ n. p / s * s + n) r ∙ div-add-mod' p s
 
 -- the numbers of the new row are trees
-pub put_trees : (old now : List (List ℕ)) (level tree at below : ℕ) (numbers : List ℕ) → Keeps old now → 0 < level → IsTree old level tree → IsTree now (level - 1) below →
+pub put_trees : (old now : List (List ℕ)) (level tree at below : ℕ) (numbers : List ℕ) → KeepsRows old now → 0 < level → IsTree old level tree → IsTree now (level - 1) below →
     ((i : ℕ) → slice_index numbers i ≡ (if i == at then below else entry now tree i)) → (i : ℕ) → IsTree now (level - 1) (slice_index numbers i)
 put_trees old now level tree at below numbers keeps lt t tb each i =
     subst (IsTree now (level - 1)) (sym (each i)) (cond_both (i == at) below (entry now tree i) (IsTree now (level - 1)) (λ _. tb)
@@ -34,7 +34,7 @@ put_inside old now level k tree process number below q numbers down lt lower eac
     ap (λ n. tree_says now k n (q % s)) here ∙ lower (q % s) (rest_low k q) ∙ ap (λ b. if b then number else other) (same_place q process s eq) ∙ ap (λ x. if q == process then number else x) same
 
 -- and where it is in another
-put_outside : (old now : List (List ℕ)) (level k tree process number below q : ℕ) (numbers : List ℕ) → k ≡ level - 1 → Keeps old now → 0 < level → IsTree old level tree →
+put_outside : (old now : List (List ℕ)) (level k tree process number below q : ℕ) (numbers : List ℕ) → k ≡ level - 1 → KeepsRows old now → 0 < level → IsTree old level tree →
     ((i : ℕ) → slice_index numbers i ≡ (if i == process / 16 ^ k then below else entry now tree i)) → (q / 16 ^ k ≡ process / 16 ^ k → ⊥) →
     tree_says now k (slice_index numbers (q / 16 ^ k)) (q % 16 ^ k) ≡ (if q == process then number else tree_says old level tree q)
 put_outside old now level k tree process number below q numbers down keeps lt is_tree each ne =
@@ -45,7 +45,7 @@ put_outside old now level k tree process number below q numbers down keeps lt is
     ap (λ n. tree_says now k n (q % s)) here ∙ up ∙ says_kept old now keeps level tree is_tree q
     ∙ sym (cond-false (q == process) number (tree_says old level tree q) (ne_eqb q process (λ e. ne (ap (λ n. n / s) e))))
 
-pub put_says : (old now new : List (List ℕ)) (level tree process number below t : ℕ) (numbers : List ℕ) → Keeps old now → Keeps now new → 0 < level → IsTree old level tree →
+pub put_says : (old now new : List (List ℕ)) (level tree process number below t : ℕ) (numbers : List ℕ) → KeepsRows old now → KeepsRows now new → 0 < level → IsTree old level tree →
     IsTree now (level - 1) below → ((r : ℕ) → r < 16 ^ (level - 1) → tree_says now (level - 1) below
     r ≡ (if r == process % 16 ^ (level - 1) then number else tree_says old (level - 1) (entry old tree (process / 16 ^ (level - 1))) r)) →
     ((i : ℕ) → slice_index numbers i ≡ (if i == process / 16 ^ (level - 1) then below else entry now tree i)) → ((i : ℕ) → entry new t i ≡ slice_index numbers i) → (q : ℕ) →

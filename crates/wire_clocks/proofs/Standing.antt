@@ -109,10 +109,10 @@ pub first_held : (rows : List (List ℕ)) (notes : List Note) (height : ℕ) →
 first_held rows notes height = one-le-pow height 16 (omega arith)
 
 -- where rows and notes are added
-pub trees_kept : (old new : List (List ℕ)) (height : ℕ) → AreTrees old height → rows.Keeps old new → AreTrees new height
+pub trees_kept : (old new : List (List ℕ)) (height : ℕ) → AreTrees old height → rows.KeepsRows old new → AreTrees new height
 trees_kept old new height are keeps = record { zero = zero_kept old new keeps are.zero; shallow = are.shallow; high = are.high }
 
-clocks_keep : (old new : List (List ℕ)) (ns ns' : List Note) (height : ℕ) → AreTrees old height → rows.Keeps old new → KeepsNotes ns ns' →
+clocks_keep : (old new : List (List ℕ)) (ns ns' : List Note) (height : ℕ) → AreTrees old height → rows.KeepsRows old new → KeepsNotes ns ns' →
     Keeps (clocks_of old ns height) (clocks_of new ns' height)
 clocks_keep old new ns ns' height are keeps keeps' =
     let are' = trees_kept old new height are keeps in
@@ -132,17 +132,17 @@ tree_given rows notes height n clocks are view root even = tree_of_root rows not
 pub clock_given : (rows : List (List ℕ)) (notes : List Note) (height n : ℕ) (clocks : Clocks) → clocks_of rows notes height ≡ clocks → IsRoot clocks n → clock_stands rows notes height 16 n ≡ true
 clock_given rows notes height n clocks view root = clock_of_root rows notes height n (subst (λ these. IsRoot these n) (sym view) root)
 
-pub given_keep : (old new : List (List ℕ)) (ns ns' : List Note) (height : ℕ) (clocks : Clocks) → AreTrees old height → clocks_of old ns height ≡ clocks → rows.Keeps old new →
+pub given_keep : (old new : List (List ℕ)) (ns ns' : List Note) (height : ℕ) (clocks : Clocks) → AreTrees old height → clocks_of old ns height ≡ clocks → rows.KeepsRows old new →
     KeepsNotes ns ns' → Keeps clocks (clocks_of new ns' height)
 given_keep old new ns ns' height clocks are view keeps keeps' = subst (λ these. Keeps these (clocks_of new ns' height)) view (clocks_keep old new ns ns' height are keeps keeps')
 
 -- where rows alone are added
-pub given_stay : (old new : List (List ℕ)) (notes : List Note) (height : ℕ) (clocks : Clocks) → AreTrees old height → clocks_of old notes height ≡ clocks → rows.Keeps old new →
+pub given_stay : (old new : List (List ℕ)) (notes : List Note) (height : ℕ) (clocks : Clocks) → AreTrees old height → clocks_of old notes height ≡ clocks → rows.KeepsRows old new →
     Keeps clocks (clocks_of new notes height)
 given_stay old new notes height clocks are view keeps = given_keep old new notes notes height clocks are view keeps (notes_stay notes)
 
 -- a tree that was made has a root
-pub root_made : (old new : List (List ℕ)) (notes : List Note) (height tree : ℕ) (r : Result ℕ AllocError) → AreTrees old height → rows.Keeps old new → IsTree new height tree →
+pub root_made : (old new : List (List ℕ)) (notes : List Note) (height tree : ℕ) (r : Result ℕ AllocError) → AreTrees old height → rows.KeepsRows old new → IsTree new height tree →
     IfOk r (IsTopOf tree) → IfOk r (λ n. IsRoot (clocks_of new notes height) n)
 root_made old new notes height tree r are keeps is made = IfOk-weaker r (IsTopOf tree) (λ n. IsRoot (clocks_of new notes height) n)
     (λ n top. root_of_tree new notes height tree n (trees_kept old new height are keeps) top is) made

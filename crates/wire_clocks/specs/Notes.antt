@@ -67,7 +67,7 @@ pub record KeepsNotes (old new : List Note) : Type 0 where
   pub same : (n : ℕ) → n < length old → slice_get new n ≡ slice_get old n
 
 -- the clock with this root is the note
-pub record IsNoted (old new : List Note) (note : Note) (root : ℕ) : Type 0 where
+pub record IsNotedClock (old new : List Note) (note : Note) (root : ℕ) : Type 0 where
   pub odd : root % 2 ≡ 1
   pub there : slice_get new (root / 2) ≡ Some note
 

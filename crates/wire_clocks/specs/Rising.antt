@@ -10,7 +10,7 @@ pub record Raise : Type 0 where
   pub least : List ℕ
 
 -- what it begins with is a clock, and the block is one of those that the clocks have numbers for
-pub record IsRising (clocks : Clocks) (rising : Raise) : Type 0 where
+pub record IsRaise (clocks : Clocks) (rising : Raise) : Type 0 where
   pub base : IsRoot clocks rising.base
   pub block : Holds clocks (16 * rising.block)
   pub width : length rising.least ≡ 16

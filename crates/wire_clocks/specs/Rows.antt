@@ -34,6 +34,6 @@ pub record IsZero (rows : List (List ℕ)) : Type 0 where
   pub zeros : (i : ℕ) → entry rows 0 i ≡ 0
 
 -- each row stays as it is
-pub record Keeps (old new : List (List ℕ)) : Type 0 where
+pub record KeepsRows (old new : List (List ℕ)) : Type 0 where
   pub longer : length old ≤ length new
   pub same : (n i : ℕ) → n < length old → entry new n i ≡ entry old n i

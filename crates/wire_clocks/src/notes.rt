@@ -5,10 +5,10 @@
 ghost use Rattle.std.specs.Prelude.{◌≡◌, ◌<◌, ◌≤◌, ◌+◌, ◌-◌, ◌*◌, ◌/◌, ◌%◌, ◌^◌, ◌==◌, ◌&&◌};
 ghost use Rattle.std.specs.Prelude.{◌++◌, ◌∷◌, [], ℕ, suc, true};
 ghost use Rattle.std.specs.Prelude.{List, IsTrue, IfOk, length, slice_index, max, if◌then◌else◌};
-ghost use Rattle.wire_clocks.specs.Rows.{tree_says, IsTree, IsZero, Keeps};
+ghost use Rattle.wire_clocks.specs.Rows.{tree_says, IsTree, IsZero, KeepsRows};
 ghost use Rattle.wire_clocks.specs.Notes.{most_notes, most_below, note_at, next_note, is_near, raised_at};
 ghost use Rattle.wire_clocks.specs.Notes.{clock_number, clock_stands, IsTopOf};
-ghost use Rattle.wire_clocks.specs.Notes.{IsNoted, KeepsNotes, IsRisingTree, rising_tree_says};
+ghost use Rattle.wire_clocks.specs.Notes.{IsNotedClock, KeepsNotes, IsRisingTree, rising_tree_says};
 
 use crate::rows::{BLOCK, number, raise_block};
 use std::alloc::AllocError;
@@ -148,7 +148,7 @@ fn turn_to(
     requires zero { IsZero rows.old.items }
     requires rising { IsRisingTree rows.old.items levels rising }
     requires block { block < 16 ^ (levels - 1) }
-    ensures keeps { Keeps rows.old.items rows.new.items }
+    ensures keeps { KeepsRows rows.old.items rows.new.items }
     ensures rising { IfOk result (IsRisingTree rows.new.items levels) }
     ensures block { IfOk result (λ r. r.block ≡ block) }
     ensures same { IfOk result (λ r. (q : ℕ) → q < 16 ^ levels → rising_tree_says rows.new.items levels r q
@@ -178,7 +178,7 @@ fn raise_at(
     requires zero { IsZero rows.old.items }
     requires rising { IsRisingTree rows.old.items levels rising }
     requires process { process < 16 ^ levels }
-    ensures keeps { Keeps rows.old.items rows.new.items }
+    ensures keeps { KeepsRows rows.old.items rows.new.items }
     ensures rising { IfOk result (IsRisingTree rows.new.items levels) }
     ensures says { IfOk result (λ r. (q : ℕ) → q < 16 ^ levels → rising_tree_says rows.new.items levels r q ≡
         raised_at process number q (rising_tree_says rows.old.items levels rising q)) }
@@ -201,7 +201,7 @@ fn gather_notes(
     requires high { 0 < levels }
     requires zero { IsZero rows.old.items }
     requires root { clock_stands rows.old.items notes.now levels left root ≡ true }
-    ensures keeps { Keeps rows.old.items rows.new.items }
+    ensures keeps { KeepsRows rows.old.items rows.new.items }
     ensures rising { IfOk result (IsRisingTree rows.new.items levels) }
     ensures says { IfOk result (λ r. (q : ℕ) → q < 16 ^ levels → rising_tree_says rows.new.items levels r q ≡
         clock_number rows.old.items notes.now levels left root q) }
@@ -224,7 +224,7 @@ pub(crate) fn flatten(
     requires high { 0 < levels }
     requires zero { IsZero rows.old.items }
     requires root { clock_stands rows.old.items notes.now levels most_notes root ≡ true }
-    ensures keeps { Keeps rows.old.items rows.new.items }
+    ensures keeps { KeepsRows rows.old.items rows.new.items }
     ensures tree { IfOk result (λ t. IsTree rows.new.items levels t) }
     ensures says { IfOk result (λ t. (q : ℕ) → q < 16 ^ levels → tree_says rows.new.items levels t q ≡
         clock_number rows.old.items notes.now levels most_notes root q) }
@@ -248,7 +248,7 @@ pub(crate) fn shorten(
     requires high { 0 < levels }
     requires zero { IsZero rows.old.items }
     requires root { clock_stands rows.old.items notes.now levels most_notes root ≡ true }
-    ensures keeps { Keeps rows.old.items rows.new.items }
+    ensures keeps { KeepsRows rows.old.items rows.new.items }
     ensures stands { IfOk result (λ r. clock_stands rows.new.items notes.now levels most_below r ≡ true) }
     ensures says { IfOk result (λ r. (q : ℕ) → q < 16 ^ levels → clock_number rows.new.items notes.now levels most_below r q ≡
         clock_number rows.old.items notes.now levels most_notes root q) }
@@ -263,7 +263,7 @@ pub(crate) fn shorten(
 /// Adds a note. Its root.
 pub(crate) fn add_note(notes: &mut Vec<Note>, note: Note) -> Result<u32, AllocError>
     ensures keeps { KeepsNotes notes.old.items notes.new.items }
-    ensures noted { IfOk result (IsNoted notes.old.items notes.new.items note) }
+    ensures noted { IfOk result (IsNotedClock notes.old.items notes.new.items note) }
 {
     if notes.len() > LAST_PLACE as usize {
         return Err(AllocError);

@@ -2,7 +2,7 @@
 
 ghost use Rattle.std.specs.Prelude.{◌≡◌, ◌<◌, ◌≤◌, ◌*◌, ◌/◌, ◌%◌, ◌==◌, ℕ, IfOk, OnOk, max, if◌then◌else◌};
 ghost use Rattle.wire_clocks.specs.ClockTrees.{says, IsRoot, Holds, Keeps};
-ghost use Rattle.wire_clocks.specs.Rising.{rising_says, IsRising};
+ghost use Rattle.wire_clocks.specs.Rising.{rising_says, IsRaise};
 
 use crate::rows::BLOCK;
 use crate::trees::ClockTrees;
@@ -31,7 +31,7 @@ impl Model for Rising {
 impl Rising {
     /// The clock of zeros, to be raised.
     pub fn new(trees: &ClockTrees) -> Rising
-        ensures rising { IsRising trees.now result }
+        ensures rising { IsRaise trees.now result }
         ensures zeros { (q : ℕ) → rising_says trees.now result q ≡ 0 }
     {
         Rising {
@@ -43,10 +43,10 @@ impl Rising {
 
     /// Raises it to another clock.
     pub fn join(&mut self, trees: &mut ClockTrees, root: u32) -> Result<(), AllocError>
-        requires rising { IsRising trees.old self.old }
+        requires rising { IsRaise trees.old self.old }
         requires root { IsRoot trees.old root }
         ensures keeps { Keeps trees.old trees.new }
-        ensures rising { OnOk result (IsRising trees.new self.new) }
+        ensures rising { OnOk result (IsRaise trees.new self.new) }
         ensures joined { OnOk result ((q : ℕ) → rising_says trees.new self.new q ≡ max (rising_says trees.old self.old q) (says trees.old root q)) }
     {
         self.root = trees.join(self.root, root)?;
@@ -55,10 +55,10 @@ impl Rising {
 
     /// Goes on to another block.
     fn turn_to(&mut self, trees: &mut ClockTrees, block: u32) -> Result<(), AllocError>
-        requires rising { IsRising trees.old self.old }
+        requires rising { IsRaise trees.old self.old }
         requires block { Holds trees.old (16 * block) }
         ensures keeps { Keeps trees.old trees.new }
-        ensures rising { OnOk result (IsRising trees.new self.new) }
+        ensures rising { OnOk result (IsRaise trees.new self.new) }
         ensures block { OnOk result (self.new.block ≡ block) }
         ensures same { OnOk result ((q : ℕ) → rising_says trees.new self.new q ≡ rising_says trees.old self.old q) }
     {
@@ -81,10 +81,10 @@ impl Rising {
         process: u32,
         number: u32,
     ) -> Result<(), AllocError>
-        requires rising { IsRising trees.old self.old }
+        requires rising { IsRaise trees.old self.old }
         requires process { Holds trees.old process }
         ensures keeps { Keeps trees.old trees.new }
-        ensures rising { OnOk result (IsRising trees.new self.new) }
+        ensures rising { OnOk result (IsRaise trees.new self.new) }
         ensures raised { OnOk result ((q : ℕ) → rising_says trees.new self.new q ≡
             (if q == process then max (rising_says trees.old self.old q) number else rising_says trees.old self.old q)) }
     {
@@ -96,7 +96,7 @@ impl Rising {
 
     /// Puts it into its tree. The root of the clock.
     pub fn finish(self, trees: &mut ClockTrees) -> Result<u32, AllocError>
-        requires { IsRising trees.old self }
+        requires { IsRaise trees.old self }
         ensures keeps { Keeps trees.old trees.new }
         ensures root { IfOk result (λ r. IsRoot trees.new r) }
         ensures says { IfOk result (λ r. (q : ℕ) → says trees.new r q ≡ rising_says trees.old self q) }

@@ -4,7 +4,7 @@
 ghost use Rattle.std.specs.Prelude.{◌≡◌, ◌<◌, ◌≤◌, ◌+◌, ◌-◌, ◌*◌, ◌/◌};
 ghost use Rattle.std.specs.Prelude.{◌%◌, ◌^◌, ◌↔◌, ◌==◌, ℕ, IsTrue, IfOk, length};
 ghost use Rattle.std.specs.Prelude.{slice_index, max, if◌then◌else◌};
-ghost use Rattle.wire_clocks.specs.Rows.{entry, tree_says, IsTree, IsZero, Keeps};
+ghost use Rattle.wire_clocks.specs.Rows.{entry, tree_says, IsTree, IsZero, KeepsRows};
 
 use std::alloc::AllocError;
 
@@ -59,7 +59,7 @@ pub(crate) fn number(rows: &[[u32; 16]], levels: u32, root: u32, process: u32) -
 
 /// Adds a row. Its number.
 fn add(rows: &mut Vec<[u32; 16]>, row: [u32; 16]) -> Result<u32, AllocError>
-    ensures keeps { Keeps rows.old.items rows.new.items }
+    ensures keeps { KeepsRows rows.old.items rows.new.items }
     ensures there { IfOk result (λ n. n < length rows.new.items) }
     ensures row { IfOk result (λ n. (i : ℕ) → entry rows.new.items n i ≡ slice_index row i) }
 {
@@ -100,7 +100,7 @@ fn row_of(
 ) -> Result<u32, AllocError>
     requires left { left < length rows.old.items }
     requires right { right < length rows.old.items }
-    ensures keeps { Keeps rows.old.items rows.new.items }
+    ensures keeps { KeepsRows rows.old.items rows.new.items }
     ensures there { IfOk result (λ n. n < length rows.new.items) }
     ensures row { IfOk result (λ n. (i : ℕ) → entry rows.new.items n i ≡ slice_index row i) }
 {
@@ -125,7 +125,7 @@ pub(crate) fn put(
     requires zero { IsZero rows.old.items }
     requires tree { IsTree rows.old.items level tree }
     requires process { process < 16 ^ level }
-    ensures keeps { Keeps rows.old.items rows.new.items }
+    ensures keeps { KeepsRows rows.old.items rows.new.items }
     ensures tree { IfOk result (λ t. IsTree rows.new.items level t) }
     ensures above { IfOk result (λ t. (k : ℕ) → IsTree rows.old.items (level + k) tree → IsTree rows.old.items k number →
         IsTree rows.new.items (level + k) t) }
@@ -166,7 +166,7 @@ pub(crate) fn join(
     requires zero { IsZero rows.old.items }
     requires left { IsTree rows.old.items level left }
     requires right { IsTree rows.old.items level right }
-    ensures keeps { Keeps rows.old.items rows.new.items }
+    ensures keeps { KeepsRows rows.old.items rows.new.items }
     ensures tree { IfOk result (λ t. IsTree rows.new.items level t) }
     ensures says { IfOk result (λ t. (q : ℕ) → q < 16 ^ level → tree_says rows.new.items level t q ≡
         max (tree_says rows.old.items level left q) (tree_says rows.old.items level right q)) }
@@ -206,7 +206,7 @@ pub(crate) fn raise_block(
     requires zero { IsZero rows.old.items }
     requires root { IsTree rows.old.items levels root }
     requires block { block < 16 ^ (levels - 1) }
-    ensures keeps { Keeps rows.old.items rows.new.items }
+    ensures keeps { KeepsRows rows.old.items rows.new.items }
     ensures tree { IfOk result (λ t. IsTree rows.new.items levels t) }
     ensures says { IfOk result (λ t. (q : ℕ) → q < 16 ^ levels → tree_says rows.new.items levels t q ≡
         (if q / 16 == block then max (tree_says rows.old.items levels root q) (slice_index least.now (q % 16))

@@ -163,11 +163,11 @@ pub record AsksFor (words : List Text) (asked : Asked) : Type 0 where
   pub says : SaidBy command rows asked
 
 -- they are those of a command with all that it needs
-abbrev pub is_whole : Option (Text × List Row) → Bool
-is_whole met = option_map_or (λ m. has_needed m.0 m.1) met false
+abbrev pub has_all_needed : Option (Text × List Row) → Bool
+has_all_needed met = option_map_or (λ m. has_needed m.0 m.1) met false
 
 -- why the words of a command line are refused: for a fault that `clap` finds, for want of memory, or for want of a word
 abbrev pub RefusedFor : List Text → Error → Type 0
 RefusedFor words e =
     HasKind (fault_of program_line words) e
-    ⊎ ((fault_of program_line words ≡ []) × (kind_of e ≡ MissingRequiredArgument) × (is_whole (subcommand_of program_line words) ≡ false))
+    ⊎ ((fault_of program_line words ≡ []) × (kind_of e ≡ MissingRequiredArgument) × (has_all_needed (subcommand_of program_line words) ≡ false))

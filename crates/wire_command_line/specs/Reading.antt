@@ -4,7 +4,7 @@ use Rattle.clap.specs.Words.{Row, Text}
 use Rattle.wire_command_line.specs.CommandLine.{workers_word}
 use Rattle.wire_command_line.specs.Requests.{IsBeside, IsCommand, IsMisfit, IsRequest, IsRequestBy, LacksAnywhere, LacksFit}
 use Rattle.wire_command_line.specs.Requests.{LacksPattern, LacksPortable, LacksSpread, LacksWorkers, SameIsAlone}
-use Rattle.wire_command_line.specs.Requests.{is_command, is_fitting, is_full}
+use Rattle.wire_command_line.specs.Requests.{is_command, is_fitting, has_all_words}
 use Rattle.wire_command_line.specs.Spreads.{spread_said}
 use Rattle.wire_command_line.specs.Workers.{workers_said}
 use Rattle.wire_command_line.specs.declared.reading.Lack.{Lack}
@@ -15,7 +15,7 @@ use Rattle.wire_command_line.specs.declared.request.Request.{Request}
 -- of the command of this name with these words: which it is, or what it lacks
 abbrev pub IsReadAs : Text → List Row → Result Command Lack → Type 0
 IsReadAs name rows (Ok command) = IsCommand name rows command
-IsReadAs name rows (Err Word) = is_full name rows ≡ false
+IsReadAs name rows (Err Word) = has_all_words name rows ≡ false
 IsReadAs name rows (Err Workers) = (name ≡ codes "replay") × (workers_said (workers_word rows) ≡ None)
 IsReadAs name rows (Err Anywhere) = (name ≡ codes "check") × SameIsAlone rows
 IsReadAs name rows (Err Pattern) = (name ≡ codes "check") × IsMisfit rows

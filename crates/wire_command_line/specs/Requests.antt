@@ -5,12 +5,12 @@ use Rattle.std.specs.Option.{option_map_or}
 use Rattle.std.specs.List.{list_any}
 use Rattle.std.specs.Str.{bytes_eq}
 use Rattle.clap.specs.Words.{Row, Text, HasKind, kind_of, fault_of, first_of, subcommand_of}
-use Rattle.wire_types.specs.declared.Form.{Form}
-use Rattle.wire_types.specs.declared.Form.TheVariants.{Lines, Places, Json, PlacedJson}
+use Rattle.wire_types.specs.declared.OutputFormat.{OutputFormat}
+use Rattle.wire_types.specs.declared.OutputFormat.TheVariants.{Lines, Places, Json, PlacedJson}
 use Rattle.wire_types.specs.declared.Orders.{Orders}
 use Rattle.wire_types.specs.declared.Orders.TheVariants.{Both, OfFirst, OfSecond}
-use Rattle.wire_script.specs.declared.Size.{Size}
-use Rattle.wire_script.specs.declared.Size.TheVariants.{Large, OfVersion}
+use Rattle.wire_reader.specs.declared.Size.{Size}
+use Rattle.wire_reader.specs.declared.Size.TheVariants.{Large, OfVersion}
 use Rattle.clap.specs.declared.error.kind.ErrorKind.TheVariants.{MissingRequiredArgument}
 use Rattle.wire_command_line.specs.CommandLine.{program_line, has_needed, is_set, most_word, text_of, workers_word}
 use Rattle.wire_command_line.specs.Spreads.{spread_by, spread_said}
@@ -20,8 +20,8 @@ use Rattle.wire_command_line.specs.declared.request.CallWords.{CallWords}
 use Rattle.wire_command_line.specs.declared.request.Command.{Command}
 use Rattle.wire_command_line.specs.declared.request.Command.TheVariants.{Check, Replay, Follow, Why, Migrate, Place, Expand}
 use Rattle.wire_command_line.specs.declared.request.Command.TheVariants.{Witness, Witnesses}
-use Rattle.wire_command_line.specs.declared.request.Judged.{Judged}
-use Rattle.wire_command_line.specs.declared.request.Judged.TheVariants.{Written, Anywhere, Same, Portable, PortableAnywhere, Pattern}
+use Rattle.wire_command_line.specs.declared.request.CheckScope.{CheckScope}
+use Rattle.wire_command_line.specs.declared.request.CheckScope.TheVariants.{Written, Anywhere, Same, Portable, PortableAnywhere, Pattern}
 use Rattle.wire_command_line.specs.declared.request.PatternOptions.{PatternOptions}
 use Rattle.wire_command_line.specs.declared.request.Request.{Request}
 use Rattle.wire_command_line.specs.declared.request.Refusal.{Refusal}
@@ -40,17 +40,17 @@ abbrev pub has_both : Text → Text → List Row → Bool
 has_both one other rows = is_some (first_of one rows) && is_some (first_of other rows)
 
 -- the form that two flags ask for, with lines of the file and as JSON
-abbrev pub form_of : (lines json : Bool) → Form
+abbrev pub form_of : (lines json : Bool) → OutputFormat
 form_of false false = Lines
 form_of true false = Places
 form_of false true = Json
 form_of true true = PlacedJson
 
-abbrev pub form_said : List Row → Form
+abbrev pub form_said : List Row → OutputFormat
 form_said rows = form_of (is_set (codes "lines") rows) (is_set (codes "json") rows)
 
 -- the placements that two flags ask for, nothing where the second is given alone
-abbrev pub judged_of : (anywhere same : Bool) → Option Judged
+abbrev pub judged_of : (anywhere same : Bool) → Option CheckScope
 judged_of false false = Some Written
 judged_of true false = Some Anywhere
 judged_of true true = Some Same
@@ -81,20 +81,20 @@ abbrev pub has_beside : List Row → Bool
 has_beside rows = is_set (codes "same") rows || is_set (codes "pattern") rows || needs_pattern rows
 
 -- the placements on which libraries are judged, by whether all are asked for
-abbrev pub portable_of : (anywhere : Bool) → Judged
+abbrev pub portable_of : (anywhere : Bool) → CheckScope
 portable_of false = Portable
 portable_of true = PortableAnywhere
 
 -- what `check` is to judge without `--portable`: a pattern, or a plan on the placements that two flags ask for; nothing
 -- where flags don't go together
-abbrev pub judged_alone : List Row → Option Judged
+abbrev pub judged_alone : List Row → Option CheckScope
 judged_alone rows =
     if not (fits_pattern rows) then None
     else (if is_set (codes "pattern") rows then Some (Pattern (told_said rows))
     else judged_of (is_set (codes "anywhere") rows) (is_set (codes "same") rows))
 
 -- what `check` is to judge; nothing where flags don't go together
-abbrev pub judged_said : List Row → Option Judged
+abbrev pub judged_said : List Row → Option CheckScope
 judged_said rows =
     if not (is_set (codes "portable") rows) then judged_alone rows
     else (if has_beside rows then None else Some (portable_of (is_set (codes "anywhere") rows)))
@@ -161,8 +161,8 @@ pub record IsRequestBy (command : Option (Text × List Row)) (request : Request)
   pub says : IsRequest name rows request
 
 -- the name is that of one of the program's commands, and the words that it needs are given
-abbrev pub is_full : Text → List Row → Bool
-is_full name rows =
+abbrev pub has_all_words : Text → List Row → Bool
+has_all_words name rows =
     list_any (bytes_eq name)
     (codes "check" ∷ codes "replay" ∷ codes "follow" ∷ codes "why" ∷ codes "migrate" ∷ codes "place" ∷ codes "witness" ∷ codes "expand" ∷ [])
     && has_needed name rows
@@ -182,7 +182,7 @@ is_fitting rows = if is_some (first_of (codes "N") rows) then is_of_pair rows el
 
 -- the words name a command with all that it needs
 abbrev pub is_command : Option (Text × List Row) → Bool
-is_command command = option_map_or (λ c. is_full c.0 c.1) command false
+is_command command = option_map_or (λ c. has_all_words c.0 c.1) command false
 
 -- it is `replay`, and the word of `--workers` is no number
 pub record LacksWorkers (command : Option (Text × List Row)) : Type 0 where

@@ -15,7 +15,7 @@ pub use matching::asked;
 pub use number::workers_of;
 pub use reading::read_request;
 pub use request::{
-    CallPair, CallWords, Command, ExpandOptions, Judged, PairOptions, PatternOptions, Refusal,
+    CallPair, CallWords, CheckScope, Command, ExpandOptions, PairOptions, PatternOptions, Refusal,
     ReplayOptions, Request, Spread,
 };
 pub use wanted::Asked;

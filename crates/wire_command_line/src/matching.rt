@@ -156,7 +156,7 @@ fn parse_command<'a>(
 fn find_command<'m, 'a>(matches: &'m ArgMatches<'a>) -> Option<(&'a str, &'m ArgMatches<'a>)>
     ensures met { IfSome result (λ m. subcommand_rows_of matches.now ≡ Some (m.0.now, rows_of (found_of m.1.now))) }
     ensures needed { IfSome result (λ m. spec.has_needed m.0.now (rows_of (found_of m.1.now)) ≡ true) }
-    ensures none { IfNone result (spec.is_whole (subcommand_rows_of matches.now) ≡ false) }
+    ensures none { IfNone result (spec.has_all_needed (subcommand_rows_of matches.now) ≡ false) }
 {
     let (command, found) = matches.subcommand()?;
     if has_needed(command, found) {
@@ -190,7 +190,7 @@ fn parse_matches<'a>(alloc: Global, matches: &ArgMatches<'a>) -> Result<Asked<'a
     ensures ok { IfOk result (λ asked. (m : Text × List Row) × (subcommand_rows_of matches.now ≡ Some m) × (spec.has_needed m.0 m.1 ≡ true)
         × SaidBy m.0 m.1 asked) }
     ensures err { IfErr result (λ e. (kind_of e ≡ ErrorKind.OutOfMemory)
-        ⊎ ((kind_of e ≡ ErrorKind.MissingRequiredArgument) × (spec.is_whole (subcommand_rows_of matches.now) ≡ false))) }
+        ⊎ ((kind_of e ≡ ErrorKind.MissingRequiredArgument) × (spec.has_all_needed (subcommand_rows_of matches.now) ≡ false))) }
 {
     match find_command(matches) {
         Some((command, found)) => Ok(parse_command(alloc, command, found)?),

@@ -13,14 +13,14 @@ use crate::matching::{
 };
 use crate::number::{most_of, workers_of};
 use crate::request::{
-    CallPair, CallWords, Command, ExpandOptions, Judged, PairOptions, PatternOptions, Refusal,
+    CallPair, CallWords, CheckScope, Command, ExpandOptions, PairOptions, PatternOptions, Refusal,
     ReplayOptions, Request,
 };
 use crate::spreading::read_spread;
 use clap::ArgMatches;
 use std::alloc::Global;
-use wire_script::Size;
-use wire_types::{Form, Orders};
+use wire_reader::Size;
+use wire_types::{Orders, OutputFormat};
 
 /// What a command lacks.
 #[derive(Clone, Copy)]
@@ -70,19 +70,19 @@ fn read_calls<'a>(found: &ArgMatches<'a>) -> Option<CallPair<'a>>
 }
 
 /// The form of the answer: two flags ask for it.
-fn form_of(lines: bool, json: bool) -> Form
+fn form_of(lines: bool, json: bool) -> OutputFormat
     ensures { result ≡ spec.form_of lines json }
 {
     match (lines, json) {
-        (false, false) => Form::Lines,
-        (true, false) => Form::Places,
-        (false, true) => Form::Json,
-        (true, true) => Form::PlacedJson,
+        (false, false) => OutputFormat::Lines,
+        (true, false) => OutputFormat::Places,
+        (false, true) => OutputFormat::Json,
+        (true, true) => OutputFormat::PlacedJson,
     }
 }
 
 /// The form in which the answer is to be written.
-fn read_form(found: &ArgMatches<'_>) -> Form
+fn read_form(found: &ArgMatches<'_>) -> OutputFormat
     ensures { result ≡ spec.form_said (rows_of (found_of found.now)) }
 {
     form_of(is_set(found, "lines"), is_set(found, "json"))
@@ -96,13 +96,13 @@ fn size_of(large: bool) -> Size
 }
 
 /// Which placements two flags ask for: nothing where the second is given alone.
-fn judged_of(anywhere: bool, same: bool) -> Option<Judged>
+fn judged_of(anywhere: bool, same: bool) -> Option<CheckScope>
     ensures { result ≡ spec.judged_of anywhere same }
 {
     match (anywhere, same) {
-        (false, false) => Some(Judged::Written),
-        (true, false) => Some(Judged::Anywhere),
-        (true, true) => Some(Judged::Same),
+        (false, false) => Some(CheckScope::Written),
+        (true, false) => Some(CheckScope::Anywhere),
+        (true, true) => Some(CheckScope::Same),
         (false, true) => None,
     }
 }
@@ -152,13 +152,13 @@ fn has_beside(found: &ArgMatches<'_>) -> bool
 }
 
 /// On which placements libraries are judged.
-fn portable_of(anywhere: bool) -> Judged
+fn portable_of(anywhere: bool) -> CheckScope
     ensures { result ≡ spec.portable_of anywhere }
 {
     if anywhere {
-        Judged::PortableAnywhere
+        CheckScope::PortableAnywhere
     } else {
-        Judged::Portable
+        CheckScope::Portable
     }
 }
 
@@ -193,7 +193,7 @@ fn read_alone<'a>(found: &ArgMatches<'a>) -> Result<Command<'a>, Lack>
         return Err(Lack::Pattern);
     }
     if is_set(found, "pattern") {
-        return Ok(Command::Check(Judged::Pattern(read_told(found))));
+        return Ok(Command::Check(CheckScope::Pattern(read_told(found))));
     }
     match judged_of(is_set(found, "anywhere"), is_set(found, "same")) {
         Some(judged) => Ok(Command::Check(judged)),

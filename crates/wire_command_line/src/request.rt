@@ -3,8 +3,8 @@
 use clap::Error;
 use std::alloc::AllocError;
 use std::num::NonZeroU32;
-use wire_script::Size;
-use wire_types::{Form, Orders};
+use wire_reader::Size;
+use wire_types::{Orders, OutputFormat};
 
 /// The two words that name a call.
 #[derive(Clone, Copy)]
@@ -43,7 +43,7 @@ pub struct PatternOptions {
 
 /// What `check` is to judge: a plan, on which placements, or a pattern.
 #[derive(Clone, Copy, Debug, PartialEq, Eq)]
-pub enum Judged {
+pub enum CheckScope {
     /// The one that the plan has.
     Written,
     /// Every one.
@@ -89,7 +89,7 @@ pub struct ExpandOptions<'a> {
 #[derive(Clone, Copy)]
 pub enum Command<'a> {
     /// To find the races of a plan, on these placements, or of a pattern.
-    Check(Judged),
+    Check(CheckScope),
     /// To run a plan.
     Replay(ReplayOptions),
     /// To run a plan in the order of this file.
@@ -114,7 +114,7 @@ pub enum Command<'a> {
 pub struct Request<'a> {
     /// Without a name, the plan comes from standard input.
     pub plan: Option<&'a str>,
-    pub form: Form,
+    pub form: OutputFormat,
     pub size: Size,
     /// A fault is explained.
     pub explain: bool,

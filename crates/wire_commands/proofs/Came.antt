@@ -2,12 +2,12 @@
 use Rattle.std.proofs.Common.{◌+◌, ◌≡◌, ◌∙◌, subst, refl, ℕ, List, take, Option, Some, None, Result, Ok, Err, IfSome, IfOk, IfErr, ◌⊎◌, inl, inr}
 use Rattle.wire_types.specs.declared.Fault.{Fault}
 use Rattle.wire_types.specs.declared.Fault.TheVariants.{Memory, Read}
-use Rattle.wire_content.specs.Scripts.{Scripts}
-use Rattle.wire_script.specs.declared.Size.{Size}
-use Rattle.wire_script.specs.Limits.{file_bytes}
-use Rattle.wire_script.specs.Reads.{Reads}
+use Rattle.wire_scripts.specs.Scripts.{Scripts}
+use Rattle.wire_reader.specs.declared.Size.{Size}
+use Rattle.wire_reader.specs.Limits.{file_bytes}
+use Rattle.wire_reader.specs.Reads.{Reads}
 use Rattle.wire_commands.specs.Plain.{ReadAs, Refuses}
-use Rattle.wire_script.proofs.Limited.{reads_limited}
+use Rattle.wire_reader.proofs.Limited.{reads_limited}
 use Rattle.wire_commands.proofs.FileFaults.{not_read}
 
 -- what they read as, all that was to come reads as

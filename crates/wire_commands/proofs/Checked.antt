@@ -3,22 +3,22 @@ use Rattle.std.proofs.Common.{◌≡◌, ◌≢◌, ◌∙◌, ◌↔◌, ◌⊎
 use Rattle.std.specs.Io.KnownBytes.{Appends}
 use Rattle.wire_types.specs.declared.Fault.{Fault}
 use Rattle.wire_types.specs.declared.Fault.TheVariants.{Memory, Read, Write}
-use Rattle.wire_types.specs.declared.Form.{Form}
+use Rattle.wire_types.specs.declared.OutputFormat.{OutputFormat}
 use Rattle.wire_types.specs.Forms.{has_places, is_json}
 use Rattle.wire_types.specs.Front.{WritesFront}
-use Rattle.wire_content.specs.Scripts.{Scripts}
-use Rattle.wire_content.specs.Planned.{plan_of}
+use Rattle.wire_scripts.specs.Scripts.{Scripts}
+use Rattle.wire_scripts.specs.Planned.{plan_of}
 use Rattle.wire_runs.specs.Races.{IsSettled}
 use Rattle.wire_runs.proofs.PlainRun.{plain_runs}
 use Rattle.wire_runs.proofs.Findings.{races_are_unordered}
 use Rattle.wire_findings.specs.declared.finding.Finding.{Finding}
 use Rattle.wire_findings.specs.Findings.{AreFindings}
 use Rattle.wire_report.specs.Findings.{findings_form}
-use Rattle.wire_script.specs.declared.Size.{Size}
+use Rattle.wire_reader.specs.declared.Size.{Size}
 use Rattle.wire_commands.specs.declared.ended.Ended.{Ended}
 use Rattle.wire_commands.specs.declared.ended.Ended.TheVariants.{Clean, Found}
 use Rattle.wire_commands.specs.Answer.{ReadIn, Writes, BreaksOff}
-use Rattle.wire_commands.specs.Check.{IsJudged, IsGroupedText, TellsEach, TellsFindings, WritesFindings, BreaksOffFindings, IsVerdict, WritesVerdict, BreaksOffVerdict}
+use Rattle.wire_commands.specs.Check.{IsVerdictOf, IsGroupedText, TellsEach, TellsFindings, WritesFindings, BreaksOffFindings, IsVerdict, WritesVerdict, BreaksOffVerdict}
 use Rattle.wire_commands.specs.Check.{EndsInOneState, StopsBeforeFindings}
 use Rattle.wire_commands.specs.Ending.{ended_with}
 
@@ -38,7 +38,7 @@ settled_too s found ended ends law = (
 
 -- what the findings that there are tell
 pub judged_so : (s : Scripts) (found counted : List Finding) (ended : Ended) → ((found ≡ []) ↔ IsSettled (plan_of s)) → AreFindings s found → counted ≡ found → ended ≡ ended_with counted →
-    IsJudged s found ended
+    IsVerdictOf s found ended
 judged_so s found counted ended law those count ends =
     let ended_so : ended ≡ ended_with found = ends ∙ ap ended_with count in
     let settled : (ended ≡ Clean) ↔ IsSettled (plan_of s) = settled_too s found ended ended_so law in
@@ -51,7 +51,7 @@ judged_so s found counted ended law those count ends =
     }
 
 -- and what is told of them
-pub judged_told : (form : Form) (name : List ℕ) (rows : List (List ℕ)) (s shown : Scripts) (found : List Finding) (ended : Ended) (text : List ℕ) →
+pub judged_told : (form : OutputFormat) (name : List ℕ) (rows : List (List ℕ)) (s shown : Scripts) (found : List Finding) (ended : Ended) (text : List ℕ) →
     ((found ≡ []) ↔ IsSettled (plan_of s)) → AreFindings s found → shown ≡ s → ended ≡ ended_with found →
     TellsFindings form name rows shown found text → IsVerdict form name s rows text ended
 judged_told form name rows s shown found ended text law those same ends tells = record {
@@ -61,22 +61,22 @@ judged_told form name rows s shown found ended text law those same ends tells = 
 }
 
 -- all of it went out
-pub told : (form : Form) (name : List ℕ) (rows : List (List ℕ)) (s shown : Scripts) (found : List Finding) (ended : Ended) (old new : Option (List ℕ)) →
+pub told : (form : OutputFormat) (name : List ℕ) (rows : List (List ℕ)) (s shown : Scripts) (found : List Finding) (ended : Ended) (old new : Option (List ℕ)) →
     ((found ≡ []) ↔ IsSettled (plan_of s)) → AreFindings s found → shown ≡ s → ended ≡ ended_with found →
     WritesFindings form name rows shown found old new → WritesVerdict form name s rows ended old new
 told form name rows s shown found ended old new law those same ends out =
     record { text = out.text; verdict = judged_told form name rows s shown found ended out.text law those same ends out.tells; wrote = out.wrote }
 
 -- how a verdict is written, or isn't
-abbrev pub Stops : Form → List ℕ → List (List ℕ) → Scripts → Option (List ℕ) → Option (List ℕ) → Type 0 → Type 0 → Fault → Type 0
+abbrev pub Stops : OutputFormat → List ℕ → List (List ℕ) → Scripts → Option (List ℕ) → Option (List ℕ) → Type 0 → Type 0 → Fault → Type 0
 Stops form name rows s old new A B e = ((e ≡ Memory) × A) ⊎ (BreaksOffVerdict form name s rows old new e × B)
 
 -- and so of the findings
-abbrev pub StopsFindings : Form → List ℕ → List (List ℕ) → Scripts → List Finding → Option (List ℕ) → Option (List ℕ) → Type 0 → Type 0 → Fault → Type 0
+abbrev pub StopsFindings : OutputFormat → List ℕ → List (List ℕ) → Scripts → List Finding → Option (List ℕ) → Option (List ℕ) → Type 0 → Type 0 → Fault → Type 0
 StopsFindings form name rows s found old new A B e = ((e ≡ Memory) × A) ⊎ (BreaksOffFindings form name rows s found old new e × B)
 
 -- the front of it went out, or memory ran out
-pub told_broken : (form : Form) (name : List ℕ) (rows : List (List ℕ)) (s shown : Scripts) (found : List Finding) (ended : Ended) (old new : Option (List ℕ))
+pub told_broken : (form : OutputFormat) (name : List ℕ) (rows : List (List ℕ)) (s shown : Scripts) (found : List Finding) (ended : Ended) (old new : Option (List ℕ))
     (A B : Type 0) (e : Fault) → ((found ≡ []) ↔ IsSettled (plan_of s)) → AreFindings s found → shown ≡ s → ended ≡ ended_with found →
     StopsFindings form name rows shown found old new A B e → Stops form name rows s old new A B e
 told_broken form name rows s shown found ended old new A B e law those same ends (inl memory) = inl memory
@@ -91,20 +91,20 @@ front_or_none e old new text A B C (inl memory) none failed front = inl (memory,
 front_or_none e old new text A B C (inr wrote) none failed front = inr (front wrote, failed (λ is. let bad : Memory ≡ Write wrote.0 = sym is ∙ wrote.1 in cc))
 
 -- without places the findings are told one by one
-told_each : (form : Form) (name : List ℕ) (rows : List (List ℕ)) (s : Scripts) (found : List Finding) (places json : Bool) → places ≡ has_places form → json ≡ is_json form → places ≡ false →
+told_each : (form : OutputFormat) (name : List ℕ) (rows : List (List ℕ)) (s : Scripts) (found : List Finding) (places json : Bool) → places ≡ has_places form → json ≡ is_json form → places ≡ false →
     TellsFindings form name rows s found (findings_form json s found)
 told_each form name rows s found places json is_places is_form none =
     let without : false ≡ has_places form = sym none ∙ is_places in
     subst (λ b. TellsEach b (is_json form) name rows s found (findings_form json s found)) without (ap (λ j. findings_form j s found) is_form)
 
-pub each_out : (form : Form) (name : List ℕ) (rows : List (List ℕ)) (s : Scripts) (found : List Finding) (old new : Option (List ℕ)) (places json : Bool) (r : Result (Unit {0}) Fault) →
+pub each_out : (form : OutputFormat) (name : List ℕ) (rows : List (List ℕ)) (s : Scripts) (found : List Finding) (old new : Option (List ℕ)) (places json : Bool) (r : Result (Unit {0}) Fault) →
     places ≡ has_places form → json ≡ is_json form → places ≡ false → OnOk r (Appends old new (findings_form json s found)) →
     OnOk r (WritesFindings form name rows s found old new)
 each_out form name rows s found old new places json (Ok u) is_places is_form none wrote =
     record { text = findings_form json s found; tells = told_each form name rows s found places json is_places is_form none; wrote = wrote }
 each_out form name rows s found old new places json (Err e) is_places is_form none wrote = tt
 
-pub each_broken : (form : Form) (name : List ℕ) (rows : List (List ℕ)) (s : Scripts) (found : List Finding) (old new : Option (List ℕ)) (places json : Bool) (A B : Type 0)
+pub each_broken : (form : OutputFormat) (name : List ℕ) (rows : List (List ℕ)) (s : Scripts) (found : List Finding) (old new : Option (List ℕ)) (places json : Bool) (A B : Type 0)
     (r : Result (Unit {0}) Fault) → places ≡ has_places form → json ≡ is_json form → places ≡ false →
     IfErr r (λ e. (e ≡ Memory) ⊎ WritesFront old new (findings_form json s found) e) → (r ≡ Err Memory → A) → IfErr r (λ e. e ≢ Memory → B) →
     IfErr r (StopsFindings form name rows s found old new A B)
@@ -114,19 +114,19 @@ each_broken form name rows s found old new places json A B (Err e) is_places is_
     (λ wrote. record { text = findings_form json s found; tells = told_each form name rows s found places json is_places is_form none; wrote = wrote })
 
 -- with places they are told in groups
-told_in_groups : (form : Form) (name : List ℕ) (rows : List (List ℕ)) (s : Scripts) (found : List Finding) (places : Bool) (text : List ℕ) → places ≡ has_places form → places ≡ true →
+told_in_groups : (form : OutputFormat) (name : List ℕ) (rows : List (List ℕ)) (s : Scripts) (found : List Finding) (places : Bool) (text : List ℕ) → places ≡ has_places form → places ≡ true →
     IsGroupedText (is_json form) name rows s found text → TellsFindings form name rows s found text
 told_in_groups form name rows s found places text is_places with tells =
     let placed : true ≡ has_places form = sym with ∙ is_places in subst (λ b. TellsEach b (is_json form) name rows s found text) placed tells
 
-pub groups_out : (form : Form) (name : List ℕ) (rows : List (List ℕ)) (s : Scripts) (found : List Finding) (old new : Option (List ℕ)) (places : Bool) (text shown : List ℕ)
+pub groups_out : (form : OutputFormat) (name : List ℕ) (rows : List (List ℕ)) (s : Scripts) (found : List Finding) (old new : Option (List ℕ)) (places : Bool) (text shown : List ℕ)
     (r : Result (Unit {0}) Fault) → places ≡ has_places form → places ≡ true → IsGroupedText (is_json form) name rows s found text → shown ≡ text →
     OnOk r (Appends old new shown) → OnOk r (WritesFindings form name rows s found old new)
 groups_out form name rows s found old new places text shown (Ok u) is_places with tells is wrote =
     record { text = text; tells = told_in_groups form name rows s found places text is_places with tells; wrote = subst (λ t. Appends old new t) is wrote }
 groups_out form name rows s found old new places text shown (Err e) is_places with tells is wrote = tt
 
-pub groups_broken : (form : Form) (name : List ℕ) (rows : List (List ℕ)) (s : Scripts) (found : List Finding) (old new : Option (List ℕ)) (places : Bool) (text shown : List ℕ) (A B : Type 0)
+pub groups_broken : (form : OutputFormat) (name : List ℕ) (rows : List (List ℕ)) (s : Scripts) (found : List Finding) (old new : Option (List ℕ)) (places : Bool) (text shown : List ℕ) (A B : Type 0)
     (r : Result (Unit {0}) Fault) → places ≡ has_places form → places ≡ true → IsGroupedText (is_json form) name rows s found text → shown ≡ text →
     IfErr r (WritesFront old new shown) → IfErr r (λ _. B) → IfErr r (StopsFindings form name rows s found old new A B)
 groups_broken form name rows s found old new places text shown A B (Ok u) is_places with tells is front failed = tt
@@ -135,14 +135,14 @@ groups_broken form name rows s found old new places text shown A B (Err e) is_pl
     inr (record { text = text; tells = tells_so; wrote = subst (λ t. WritesFront old new t e) is front }, failed)
 
 -- what went out of the verdict on scripts that were read
-pub writes_verdict : {size : Size} (form : Form) (name : List ℕ) (coming old new : Option (List ℕ)) (s : Scripts) (rows : List (List ℕ)) (r : Result Ended Fault) →
+pub writes_verdict : {size : Size} (form : OutputFormat) (name : List ℕ) (coming old new : Option (List ℕ)) (s : Scripts) (rows : List (List ℕ)) (r : Result Ended Fault) →
     ReadIn size form coming s rows → IfOk r (λ ended. WritesVerdict form name s rows ended old new) →
     IfOk r (λ ended. Writes size form coming (IsVerdict form name) ended old new)
 writes_verdict form name coming old new s rows (Ok ended) read wrote =
     record { scripts = s; rows = rows; read = read; text = wrote.text; tells = wrote.verdict; wrote = wrote.wrote }
 writes_verdict form name coming old new s rows (Err e) read wrote = tt
 
-pub breaks_off : {size : Size} (form : Form) (name : List ℕ) (coming old new : Option (List ℕ)) (s : Scripts) (rows : List (List ℕ)) (A B : Type 0) (r : Result Ended Fault) →
+pub breaks_off : {size : Size} (form : OutputFormat) (name : List ℕ) (coming old new : Option (List ℕ)) (s : Scripts) (rows : List (List ℕ)) (A B : Type 0) (r : Result Ended Fault) →
     ReadIn size form coming s rows → IfErr r (Stops form name rows s old new A B) →
     IfErr r (λ e. (StopsBeforeFindings size coming e × A) ⊎ (BreaksOff size form coming (IsVerdict form name) old new e × B))
 breaks_off form name coming old new s rows A B (Ok ended) read stops = tt
@@ -151,7 +151,7 @@ breaks_off form name coming old new s rows A B (Err e) read (inr (front, failed)
     inr (record { scripts = s; rows = rows; read = read; text = front.text; ended = front.ended; tells = front.verdict; wrote = front.wrote }, failed)
 
 -- the writing is no failed read
-pub no_failed_read : (form : Form) (name : List ℕ) (rows : List (List ℕ)) (old new : Option (List ℕ)) (s : Scripts) (A B : Type 0) (r : Result Ended Fault) →
+pub no_failed_read : (form : OutputFormat) (name : List ℕ) (rows : List (List ℕ)) (old new : Option (List ℕ)) (s : Scripts) (A B : Type 0) (r : Result Ended Fault) →
     IfErr r (Stops form name rows s old new A B) → r ≡ Err Read → ⊥
 no_failed_read form name rows old new s A B (Ok ended) stops is = let bad : Ok ended ≡ Err Read = is in cc
 no_failed_read form name rows old new s A B (Err e) (inl (memory, none)) is = let bad : Memory ≡ Read = cc in cc
@@ -165,7 +165,7 @@ ended_of (Ok ended) = ended
 ended_of (Err fault) = Clean
 
 -- a check that is clean tells that every run that can't go on has one end
-pub clean_one_end : {size : Size} (form : Form) (name : List ℕ) (coming old new : Option (List ℕ)) (s : Scripts) (rows : List (List ℕ)) (r : Result Ended Fault) →
+pub clean_one_end : {size : Size} (form : OutputFormat) (name : List ℕ) (coming old new : Option (List ℕ)) (s : Scripts) (rows : List (List ℕ)) (r : Result Ended Fault) →
     ReadIn size form coming s rows → IfOk r (λ ended. WritesVerdict form name s rows ended old new) → r ≡ Ok Clean → EndsInOneState size coming
 clean_one_end form name coming old new s rows (Ok ended) read wrote clean =
     let is : ended ≡ Clean = cc in

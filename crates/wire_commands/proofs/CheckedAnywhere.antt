@@ -3,12 +3,12 @@ use Rattle.std.proofs.Common.{◌≡◌, ◌≢◌, ◌∙◌, ◌==◌, ◌↔�
 use Rattle.std.specs.Prelude.{option_to_list}
 use Rattle.std.proofs.lemmas.Bool.{cases_eq, eqb-true}
 use Rattle.wire_types.specs.declared.Fault.{Fault}
-use Rattle.wire_types.specs.declared.Form.{Form}
-use Rattle.wire_content.specs.Scripts.{Scripts}
-use Rattle.wire_content.specs.Planned.{plan_of}
+use Rattle.wire_types.specs.declared.OutputFormat.{OutputFormat}
+use Rattle.wire_scripts.specs.Scripts.{Scripts}
+use Rattle.wire_scripts.specs.Planned.{plan_of}
 use Rattle.wire_runs.specs.Plan.{Plan, Event, process_count}
 use Rattle.wire_runs.specs.Laws.{plain_end}
-use Rattle.wire_runs.specs.FindingsAnywhere.{Placed, OnAll, OnPair, HasPlaced}
+use Rattle.wire_runs.specs.FindingsAnywhere.{PlacementFinding, OnAll, OnPair, HasPlacementFinding}
 use Rattle.wire_runs.specs.PlacingLaws.{AnywhereTells}
 use Rattle.wire_runs.specs.Placings.{IsPlacing, IsSettledAnywhere}
 use Rattle.wire_runs.proofs.FindingsAnywhere.{placed_is_found, findings_anywhere}
@@ -19,14 +19,14 @@ use Rattle.wire_anywhere.specs.Anywhere.{AreFoundAnywhere, all_placed}
 use Rattle.wire_anywhere_report.specs.Differing.{differing_form}
 use Rattle.wire_anywhere_report.specs.Forms.{TellsPlaced}
 use Rattle.wire_differing.specs.declared.Differing.{Differing}
-use Rattle.wire_differing.specs.Differing.{IsUntold, IsToldBy, AreToldTo, AreToldBelow, AreDiffering}
-use Rattle.wire_script.specs.declared.Size.{Size}
+use Rattle.wire_differing.specs.Differing.{IsUntold, IsDifferingTold, AreToldTo, AreToldBelow, AreDiffering}
+use Rattle.wire_reader.specs.declared.Size.{Size}
 use Rattle.wire_commands.specs.declared.answer.Answer.{Answer}
 use Rattle.wire_commands.specs.declared.ended.Ended.{Ended}
 use Rattle.wire_commands.specs.declared.ended.Ended.TheVariants.{Clean, Found}
 use Rattle.wire_commands.specs.Answer.{ReadIn}
 use Rattle.wire_commands.specs.CheckAnywhere.{IsSettledEverywhere, EachHasOneEnd, IsFoundThere, AreFoundThere, HasAllFound, IsJudgedAnywhere, IsVerdictAnywhere, EndsInOneStateAnywhere}
-use Rattle.wire_commands.specs.CheckSame.{TellsDiffering, TellsFindings, IsSameVerdict, NoneDiffers, IsSameEverywhere}
+use Rattle.wire_commands.specs.CheckSame.{TellsDiffering, TellsFindingsAnywhere, IsSameVerdict, NoneDiffers, IsSameEverywhere}
 use Rattle.wire_commands.specs.Ending.{ended_of}
 
 -- something is counted where something stands
@@ -56,7 +56,7 @@ all_found : (s : Scripts) (found : List PlacedFinding) → AreFoundAnywhere s fo
 all_found s found those f other is there = ((findings_anywhere (plan_of s) (lower_name s.names)).findings (all_placed (plan_of s) found) those f).1 (other, is, there)
 
 -- what the findings tell
-pub verdict_so : (form : Form) (name : List ℕ) (rows : List (List ℕ)) (s shown : Scripts) (found : List PlacedFinding) (ended : Ended) (text : List ℕ) → AreFoundAnywhere s found →
+pub verdict_so : (form : OutputFormat) (name : List ℕ) (rows : List (List ℕ)) (s shown : Scripts) (found : List PlacedFinding) (ended : Ended) (text : List ℕ) → AreFoundAnywhere s found →
     ((found ≡ []) ↔ IsSettledEverywhere (plan_of s)) → ended ≡ ended_of (length found) → shown ≡ s → TellsPlaced form name rows shown found text → IsVerdictAnywhere form name s rows text ended
 verdict_so form name rows s shown found ended text those law ends same tells =
     let to : ended ≡ Clean → IsSettledEverywhere (plan_of s) = λ clean. law.0 ((clean_exactly found).0 (sym ends ∙ clean)) in
@@ -75,7 +75,7 @@ verdict_so form name rows s shown found ended text those law ends same tells =
     }
 
 -- what is found is told
-pub some_found : (form : Form) (name : List ℕ) (rows : List (List ℕ)) (s : Scripts) (count : ℕ) (ended : Ended) (text : List ℕ) → (count == 0) ≡ false → ended ≡ ended_of count →
+pub some_found : (form : OutputFormat) (name : List ℕ) (rows : List (List ℕ)) (s : Scripts) (count : ℕ) (ended : Ended) (text : List ℕ) → (count == 0) ≡ false → ended ≡ ended_of count →
     IsVerdictAnywhere form name s rows text ended → IsSameVerdict form name s rows text ended
 some_found form name rows s count ended text some ends verdict =
     let is : ended ≡ Found count = ends ∙ rw some refl in
@@ -87,7 +87,7 @@ pub none_found : (s : Scripts) (found : List PlacedFinding) (none : Bool) → no
 none_found s [] none is there law tells = tells.everywhere.1 (law.0 refl)
 none_found s (f ∷ found) none is there law tells = let count : length (f ∷ found) ≡ 0 = eqb-true (length (f ∷ found)) 0 (sym is ∙ there) in absurd (omega (arith, count))
 
-pub differing_so : (form : Form) (name : List ℕ) (rows : List (List ℕ)) (s shown : Scripts) (differing : List Differing) (ended : Ended) (text : List ℕ) → IsSettledAnywhere (plan_of s) →
+pub differing_so : (form : OutputFormat) (name : List ℕ) (rows : List (List ℕ)) (s shown : Scripts) (differing : List Differing) (ended : Ended) (text : List ℕ) → IsSettledAnywhere (plan_of s) →
     AnywhereTells (plan_of s) → AreDiffering (plan_of s) differing → ended ≡ ended_of (length differing) → shown ≡ s → text ≡ differing_form form name rows shown differing →
     TellsDiffering form name s rows text ended
 differing_so form name rows s shown differing ended text settled law those ends same tells =
@@ -102,7 +102,7 @@ differing_so form name rows s shown differing ended text settled law those ends 
     }
 
 -- a check that is clean tells that each placing has one end
-pub clean_each : {size : Size} (form : Form) (name : List ℕ) (coming : Option (List ℕ)) (s : Scripts) (rows : List (List ℕ)) (text : List ℕ) (ended : Ended) (Wrote : Type 0)
+pub clean_each : {size : Size} (form : OutputFormat) (name : List ℕ) (coming : Option (List ℕ)) (s : Scripts) (rows : List (List ℕ)) (text : List ℕ) (ended : Ended) (Wrote : Type 0)
     (r : Result Ended Fault) → ReadIn size form coming s rows → IsVerdictAnywhere form name s rows text ended → IfOk r (λ e. (e ≡ ended) × Wrote) → r ≡ Ok Clean →
     EndsInOneStateAnywhere size coming
 clean_each form name coming s rows text ended Wrote (Ok e) read verdict wrote clean =
@@ -115,7 +115,7 @@ both_none : (xs ys : List Differing) → xs ++ ys ≡ [] → (xs ≡ []) × (ys 
 both_none [] ys h = (refl, h)
 both_none (x ∷ xs) ys h = absurd (cc)
 
-nothing_told : (plan : Plan) (x : Event) (told : Option Differing) → option_to_list told ≡ [] → IsToldBy plan x told → IsUntold plan x
+nothing_told : (plan : Plan) (x : Event) (told : Option Differing) → option_to_list told ≡ [] → IsDifferingTold plan x told → IsUntold plan x
 nothing_told plan x None none t = t
 nothing_told plan x (Some d) none t = absurd (cc)
 
@@ -143,7 +143,7 @@ none_differs : (plan : Plan) (found : List Differing) → found ≡ [] → AreDi
 none_differs plan found none told x proc at = none_below plan (process_count plan) found none told x.proc proc x.at at
 
 -- and with `--same`, that besides no reply differs
-same_too : {size : Size} (form : Form) (name : List ℕ) (coming : Option (List ℕ)) (s : Scripts) (rows : List (List ℕ)) (text : List ℕ) (ended : Ended) → ReadIn size form coming s rows →
+same_too : {size : Size} (form : OutputFormat) (name : List ℕ) (coming : Option (List ℕ)) (s : Scripts) (rows : List (List ℕ)) (text : List ℕ) (ended : Ended) → ReadIn size form coming s rows →
     IsSameVerdict form name s rows text ended → ended ≡ Clean → IsSameEverywhere size coming
 same_too form name coming s rows text ended read (inl found) clean = absurd (found.not_clean clean)
 same_too form name coming s rows text ended read (inr told) clean =
@@ -155,21 +155,21 @@ same_too form name coming s rows text ended read (inr told) clean =
       same = none_differs (plan_of s) told.differing none told.those;
     }
 
-pub clean_same : {size : Size} (form : Form) (name : List ℕ) (coming : Option (List ℕ)) (s : Scripts) (rows : List (List ℕ)) (text : List ℕ) (ended : Ended) (Wrote : Type 0)
+pub clean_same : {size : Size} (form : OutputFormat) (name : List ℕ) (coming : Option (List ℕ)) (s : Scripts) (rows : List (List ℕ)) (text : List ℕ) (ended : Ended) (Wrote : Type 0)
     (r : Result Ended Fault) → ReadIn size form coming s rows → IsSameVerdict form name s rows text ended → IfOk r (λ e. (e ≡ ended) × Wrote) → r ≡ Ok Clean → IsSameEverywhere size coming
 clean_same form name coming s rows text ended Wrote (Ok e) read verdict wrote clean =
     let is : e ≡ Clean = cc in same_too form name coming s rows text ended read verdict (sym wrote.0 ∙ is)
 clean_same form name coming s rows text ended Wrote (Err e) read verdict wrote clean = let bad : Err e ≡ Ok Clean = clean in absurd (cc)
 
 -- the answer of a plan is that of the scripts that it has
-pub found_too : (form : Form) (name : List ℕ) (rows : List (List ℕ)) (s shown : Scripts) (found : List PlacedFinding) (none : Bool) (r : Result Answer Fault) → shown ≡ s →
+pub found_too : (form : OutputFormat) (name : List ℕ) (rows : List (List ℕ)) (s shown : Scripts) (found : List PlacedFinding) (none : Bool) (r : Result Answer Fault) → shown ≡ s →
     none ≡ (length found == 0) → none ≡ false → IfOk r (λ a. IsVerdictAnywhere form name shown rows a.text.items a.ended) → IfOk r (λ a. a.ended ≡ ended_of (length found)) →
     IfOk r (λ a. IsSameVerdict form name s rows a.text.items a.ended)
 found_too form name rows s shown found none (Ok a) same is some verdict ends =
     some_found form name rows s (length found) a.ended a.text.items (sym is ∙ some) ends (subst (λ t. IsVerdictAnywhere form name t rows a.text.items a.ended) same verdict)
 found_too form name rows s shown found none (Err e) same is some verdict ends = tt
 
-pub told_too : (form : Form) (name : List ℕ) (rows : List (List ℕ)) (s shown : Scripts) (r : Result Answer Fault) → shown ≡ s →
+pub told_too : (form : OutputFormat) (name : List ℕ) (rows : List (List ℕ)) (s shown : Scripts) (r : Result Answer Fault) → shown ≡ s →
     IfOk r (λ a. TellsDiffering form name shown rows a.text.items a.ended) → IfOk r (λ a. IsSameVerdict form name s rows a.text.items a.ended)
 told_too form name rows s shown (Ok a) same told = inr (subst (λ t. TellsDiffering form name t rows a.text.items a.ended) same told)
 told_too form name rows s shown (Err e) same told = tt

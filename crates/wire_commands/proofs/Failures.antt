@@ -4,7 +4,7 @@ use Rattle.std.proofs.lemmas.Bool.{cases_lt}
 use Rattle.std.proofs.lemmas.List.Sums.{sum_by-cons}
 use Rattle.wire_types.specs.Outcome.{Ends}
 use Rattle.wire_types.specs.declared.CallAt.{CallAt}
-use Rattle.wire_content.specs.Scripts.{Scripts, Process, call_count, calls_in}
+use Rattle.wire_scripts.specs.Scripts.{Scripts, Process, call_count, calls_in}
 use Rattle.wire_commands.specs.Complete.{succeeds, end_of, end_at, IsCall, EverySucceeds, StandsBefore, IsFirstFailure}
 
 -- no process has more calls than all have

@@ -4,11 +4,11 @@ use Rattle.wire_types.specs.declared.Fault.{Fault}
 use Rattle.wire_types.specs.declared.Fault.TheVariants.{Memory, Read, Write, TooLong, BadHeader, BadLine, UnknownName, Twice, NotMember, TooMany}
 use Rattle.wire_lines.specs.Said as said
 use Rattle.wire_lines.specs.Text.{lines_of}
-use Rattle.wire_content.specs.Scripts.{Scripts}
-use Rattle.wire_script.specs.declared.Size.{Size}
-use Rattle.wire_script.specs.Statements.{Statement, statements}
-use Rattle.wire_script.specs.FirstPass.{Started, Declared, is_in_place, is_short, is_known, is_again, has_room, after, judged, Judges, JudgesAll, FirstPass, nothing}
-use Rattle.wire_script.specs.Reads.{Reads, ReadsShort, is_declared_call, is_with_caller, call_fault, fault_in, first_fault, first_of, unless_fault}
+use Rattle.wire_scripts.specs.Scripts.{Scripts}
+use Rattle.wire_reader.specs.declared.Size.{Size}
+use Rattle.wire_reader.specs.Statements.{Statement, statements}
+use Rattle.wire_reader.specs.FirstPass.{Started, Declared, is_in_place, is_short, is_known, is_again, has_room, after, judged, Judges, JudgesAll, FirstPass, nothing}
+use Rattle.wire_reader.specs.Reads.{Reads, ReadsShort, is_declared_call, is_with_caller, call_fault, fault_in, first_fault, first_of, unless_fault}
 
 -- a fault of a line, or of the length of the file
 abbrev is_of_file : Fault → Bool

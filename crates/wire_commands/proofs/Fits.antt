@@ -1,12 +1,12 @@
 -- The lines of the calls of a file: a row for each process, with a line for each of its calls.
 use Rattle.std.proofs.Common.{◌≡◌, ◌∙◌, ap, ap₂, sym, refl, ℕ, List, [], ◌∷◌, length, map, inl, inr, Ok}
 use Rattle.std.proofs.lemmas.List.{length-map}
-use Rattle.wire_content.specs.Scripts.{Scripts, Process}
-use Rattle.wire_script.specs.declared.Size.{Size}
-use Rattle.wire_script.specs.FirstPass.{Started, Declared}
-use Rattle.wire_script.specs.Reads.{Reads, Seen, seen_in, numbered, process_of, scripts_of, first_fault, second_pass}
-use Rattle.wire_script.specs.Located.{AreCallLines, lines_of_calls}
-use Rattle.wire_script.proofs.Once.{reads_once, second_ok}
+use Rattle.wire_scripts.specs.Scripts.{Scripts, Process}
+use Rattle.wire_reader.specs.declared.Size.{Size}
+use Rattle.wire_reader.specs.FirstPass.{Started, Declared}
+use Rattle.wire_reader.specs.Reads.{Reads, Seen, seen_in, numbered, process_of, scripts_of, first_fault, second_pass}
+use Rattle.wire_reader.specs.Located.{AreCallLines, lines_of_calls}
+use Rattle.wire_reader.proofs.Once.{reads_once, second_ok}
 
 each_fits : (d : Declared) (n : Seen) (ps : List Started) → map length (map lines_of_calls ps) ≡ map (λ (p : Process). length p.calls) (map (process_of d n) ps)
 each_fits d n [] = refl

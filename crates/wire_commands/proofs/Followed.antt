@@ -7,19 +7,19 @@ use Rattle.wire_types.specs.declared.Fault.{Fault}
 use Rattle.wire_types.specs.declared.Fault.TheVariants.{Memory, Read, NotReady, BadOrder}
 use Rattle.wire_types.specs.Front.{WritesFront}
 use Rattle.wire_types.specs.declared.Proc.{Proc}
-use Rattle.wire_content.specs.Scripts.{Scripts, numbers_of}
-use Rattle.wire_script.specs.declared.Size.{Size}
-use Rattle.wire_script.specs.Limits.{order_bytes}
-use Rattle.wire_script.specs.Statements.{Statement, statements}
-use Rattle.wire_script.specs.Order.{order_read, order_within, order_of, step_of, with_step}
-use Rattle.wire_script.proofs.OrderLimited.{order_limited}
+use Rattle.wire_scripts.specs.Scripts.{Scripts, numbers_of}
+use Rattle.wire_reader.specs.declared.Size.{Size}
+use Rattle.wire_reader.specs.Limits.{order_bytes}
+use Rattle.wire_reader.specs.Statements.{Statement, statements}
+use Rattle.wire_reader.specs.Order.{order_read, order_within, order_of, step_of, with_step}
+use Rattle.wire_reader.proofs.OrderLimited.{order_limited}
 use Rattle.wire_runs.specs.State.{start}
 use Rattle.wire_runs.specs.Step.{IsInterleaving, is_enabled, run}
 use Rattle.wire_runs.specs.Ends.{outcome}
 use Rattle.wire_types.specs.Outcome.{Ends}
-use Rattle.wire_content.specs.Planned.{plan_of}
+use Rattle.wire_scripts.specs.Planned.{plan_of}
 use Rattle.wire_core.specs.Course.{Course, plan_in, state_of}
-use Rattle.wire_core.specs.Following.{Follows, StopsAt}
+use Rattle.wire_core.specs.Following.{Follows, NotEnabledAt}
 use Rattle.wire_commands.specs.Plain.{ReadAs, Refuses}
 use Rattle.wire_commands.proofs.Texts.{LeadsTo}
 use Rattle.wire_commands.specs.Follow.{OrdersAs, RefusesSteps, StopsAfter, StopsBefore, OrderedAs, WritesFollowed, BreaksOffFollowed}
@@ -159,7 +159,7 @@ err_always (Ok x) P f = tt
 err_always (Err e) P f = f e
 
 -- a run from the start that stops in an order stops after the steps before
-pub stopped_first : (s : Scripts) (new : Course) (steps : List ℕ) (e : Fault) → StopsAt (record { scripts = s; history = [] }) steps new e → StopsAfter s steps e
+pub stopped_first : (s : Scripts) (new : Course) (steps : List ℕ) (e : Fault) → NotEnabledAt (record { scripts = s; history = [] }) steps new e → StopsAfter s steps e
 stopped_first s new steps e stops = record {
   n = stops.n;
   is = stops.is;
@@ -169,8 +169,8 @@ stopped_first s new steps e stops = record {
   not_enabled = subst (λ c. is_enabled (plan_in c) (state_of c) stops.p ≡ false) stops.before.taken stops.not_enabled;
 }
 
-pub stopped : (s : Scripts) (old new : Course) (steps : List ℕ) (e : Fault) → old ≡ record { scripts = s; history = [] } → StopsAt old steps new e → StopsAfter s steps e
-stopped s old new steps e is stops = stopped_first s new steps e (subst (λ o. StopsAt o steps new e) is stops)
+pub stopped : (s : Scripts) (old new : Course) (steps : List ℕ) (e : Fault) → old ≡ record { scripts = s; history = [] } → NotEnabledAt old steps new e → StopsAfter s steps e
+stopped s old new steps e is stops = stopped_first s new steps e (subst (λ o. NotEnabledAt o steps new e) is stops)
 
 -- what became of every call after these steps, in a run from the start
 module _ (s : Scripts) (new : Course) (steps : List ℕ) (ends : Ends) where

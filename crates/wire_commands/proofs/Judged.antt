@@ -1,14 +1,14 @@
 -- What a replay tells of its calls.
 use Rattle.std.proofs.Common.{◌≡◌, ◌≢◌, ◌∙◌, ap, sym, subst, refl, ℕ, List, [], ◌∷◌, Option, None}
 use Rattle.wire_types.specs.Outcome.{Ends}
-use Rattle.wire_content.specs.Scripts.{Scripts}
-use Rattle.wire_content.specs.Planned.{plan_of}
+use Rattle.wire_scripts.specs.Scripts.{Scripts}
+use Rattle.wire_scripts.specs.Planned.{plan_of}
 use Rattle.wire_runs.specs.Races.{IsSettled}
 use Rattle.wire_runs.specs.Ends.{outcome}
 use Rattle.wire_runs.proofs.PlainRun.{plain_runs}
 use Rattle.wire_findings.specs.declared.finding.Finding.{Finding}
 use Rattle.wire_core.specs.EndsAfter.{plain_ends}
-use Rattle.wire_collect.specs.Collect.{IsCompleteRun}
+use Rattle.wire_parallel_run.specs.Collect.{IsCompleteRun}
 use Rattle.wire_commands.specs.declared.ended.Ended.{Ended}
 use Rattle.wire_commands.specs.Ending.{ended_with}
 use Rattle.wire_commands.specs.Complete.{TellsFailure, AlwaysFailsSo, TellsCalls}

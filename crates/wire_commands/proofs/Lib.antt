@@ -1,4 +1,4 @@
-mod Fits
+pub mod Fits
 mod Grouped
 mod Listed
 mod Ordered

@@ -5,14 +5,14 @@ use Rattle.wire_types.specs.declared.Fault.{Fault}
 use Rattle.wire_types.specs.declared.Fault.TheVariants.{Memory, Read, BadOrder}
 use Rattle.wire_types.specs.Front.{WritesFront}
 use Rattle.wire_types.specs.declared.Proc.{Proc}
-use Rattle.wire_content.specs.Scripts.{Scripts, numbers_of}
-use Rattle.wire_content.specs.Canonical.{canonical}
-use Rattle.wire_content.specs.Placed.{node_beside, placed, with_second}
-use Rattle.wire_content.proofs.Moved.{as_placing, placed_alone}
-use Rattle.wire_script.specs.declared.Size.{Size}
-use Rattle.wire_script.specs.Order.{order_of}
-use Rattle.wire_script.specs.Statements.{Statement}
-use Rattle.wire_script.specs.Ranks.{ranks_read}
+use Rattle.wire_scripts.specs.Scripts.{Scripts, numbers_of}
+use Rattle.wire_scripts.specs.Canonical.{canonical}
+use Rattle.wire_scripts.specs.Placed.{node_beside, placed, with_second}
+use Rattle.wire_scripts.proofs.Moved.{as_placing, placed_alone}
+use Rattle.wire_reader.specs.declared.Size.{Size}
+use Rattle.wire_reader.specs.Order.{order_of}
+use Rattle.wire_reader.specs.Statements.{Statement}
+use Rattle.wire_reader.specs.Ranks.{ranks_read}
 use Rattle.wire_commands.specs.Plain.{ReadAs, Refuses}
 use Rattle.wire_commands.specs.Place.{IsPlacedText, WritesPlaced, BreaksOffPlaced, StopsBeforePlaced}
 use Rattle.wire_commands.proofs.Followed.{IsBad, all_bad}

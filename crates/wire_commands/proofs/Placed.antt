@@ -2,12 +2,12 @@
 use Rattle.std.proofs.Common.{◌≡◌, ◌∙◌, sym, subst, refl, Bool, true, false, [], ℕ, ◌+◌, List, take, inl, inr, arith, Option, Some, None, Result, Ok, Err, IfSome, IfOk}
 use Rattle.std.proofs.lemmas.List.{length-take, take_all}
 use Rattle.wire_types.specs.declared.Fault.{Fault}
-use Rattle.wire_content.specs.Scripts.{Scripts}
-use Rattle.wire_script.specs.declared.Size.{Size}
-use Rattle.wire_script.specs.Limits.{file_bytes}
-use Rattle.wire_script.specs.Reads.{Reads}
-use Rattle.wire_script.specs.Located.{AreCallLines}
-use Rattle.wire_types.specs.declared.Form.{Form}
+use Rattle.wire_scripts.specs.Scripts.{Scripts}
+use Rattle.wire_reader.specs.declared.Size.{Size}
+use Rattle.wire_reader.specs.Limits.{file_bytes}
+use Rattle.wire_reader.specs.Reads.{Reads}
+use Rattle.wire_reader.specs.Located.{AreCallLines}
+use Rattle.wire_types.specs.declared.OutputFormat.{OutputFormat}
 use Rattle.wire_types.specs.Forms.{has_places}
 use Rattle.wire_commands.specs.Answer.{ArePlaces, AreRows, ReadIn, ReadPlaced}
 use Rattle.wire_commands.specs.Plain.{ReadAs}
@@ -39,17 +39,17 @@ placed_ok size coming bytes shown rows (Ok x) same front reads lines = read_plac
 placed_ok size coming bytes shown rows (Err e) same front reads lines = tt
 
 -- what is read in a form with places
-pub placed_in : {size : Size} (form : Form) (coming : Option (List ℕ)) (s : Scripts) (rows : List (List ℕ)) → true ≡ has_places form → ReadPlaced size coming s rows → ReadIn size form coming s rows
+pub placed_in : {size : Size} (form : OutputFormat) (coming : Option (List ℕ)) (s : Scripts) (rows : List (List ℕ)) → true ≡ has_places form → ReadPlaced size coming s rows → ReadIn size form coming s rows
 placed_in {size} form coming s rows with read =
     record { bytes = read.bytes; came = read.came; reads = read.reads; rows_are = subst (λ b. AreRows b size read.bytes s rows) with read.places }
 
-pub reads_placed : {A : Type 0} (size : Size) (form : Form) (coming : Option (List ℕ)) (rows : A → List (List ℕ)) (places : Bool) (r : Result (Scripts × A) Fault) →
+pub reads_placed : {A : Type 0} (size : Size) (form : OutputFormat) (coming : Option (List ℕ)) (rows : A → List (List ℕ)) (places : Bool) (r : Result (Scripts × A) Fault) →
     places ≡ has_places form → places ≡ true → IfOk r (λ x. ReadPlaced size coming x.0 (rows x.1)) → IfOk r (λ x. ReadIn size form coming x.0 (rows x.1))
 reads_placed size form coming rows places (Ok x) is_places with read = placed_in form coming x.0 (rows x.1) (sym with ∙ is_places) read
 reads_placed size form coming rows places (Err e) is_places with read = tt
 
 -- and in one without
-pub reads_alone : (size : Size) (form : Form) (coming : Option (List ℕ)) (s : Scripts) (rows : List (List ℕ)) (places : Bool) → places ≡ has_places form → places ≡ false →
+pub reads_alone : (size : Size) (form : OutputFormat) (coming : Option (List ℕ)) (s : Scripts) (rows : List (List ℕ)) (places : Bool) → places ≡ has_places form → places ≡ false →
     rows ≡ [] → ReadAs size coming s → ReadIn size form coming s rows
 reads_alone size form coming s rows places is_places none empty read =
     let without : false ≡ has_places form = sym none ∙ is_places in

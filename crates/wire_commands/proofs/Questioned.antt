@@ -5,14 +5,14 @@ use Rattle.wire_types.specs.declared.CallAt.{CallAt}
 use Rattle.wire_types.specs.declared.Fault.{Fault}
 use Rattle.wire_types.specs.declared.Fault.TheVariants.{Memory, Read, BadOrder}
 use Rattle.wire_types.specs.Front.{WritesFront}
-use Rattle.wire_content.specs.Scripts.{Scripts}
-use Rattle.wire_content.specs.Planned.{plan_of}
-use Rattle.wire_script.specs.declared.Size.{Size}
-use Rattle.wire_script.specs.Question.{QuestionReads, Asks as AsksBoth, First, Second, Third, Fourth, IsCallNamed}
+use Rattle.wire_scripts.specs.Scripts.{Scripts}
+use Rattle.wire_scripts.specs.Planned.{plan_of}
+use Rattle.wire_reader.specs.declared.Size.{Size}
+use Rattle.wire_reader.specs.Question.{QuestionReads, QuestionNames as AsksBoth, First, Second, Third, Fourth, IsCallNamed}
 use Rattle.wire_runs.specs.Ends.{calls_of}
-use Rattle.wire_content.proofs.PlannedCalls.{as_many_planned}
+use Rattle.wire_scripts.proofs.PlannedCalls.{as_many_planned}
 use Rattle.wire_commands.specs.Plain.{ReadAs, Refuses}
-use Rattle.wire_commands.specs.Why.{Asks, StopsBeforeAnswer}
+use Rattle.wire_commands.specs.Why.{QuestionNames, StopsBeforeAnswer}
 
 named_there : (s : Scripts) (proc number : List ℕ) (x : CallAt) → IsCallNamed s proc number x → x.call < length (calls_of (plan_of s) x.proc.number)
 named_there s proc number x named = subst (λ n. x.call < n) (as_many_planned s x.proc.number) named.numbered.there
@@ -36,21 +36,21 @@ word_no_read s p n q m e (Second wrong is) at = let bad : Err Read ≡ Err (BadO
 word_no_read s p n q m e (Third x first wrong is) at = let bad : Err Read ≡ Err (BadOrder 3) = sym (ap Err at) ∙ is in cc
 word_no_read s p n q m e (Fourth x first wrong is) at = let bad : Err Read ≡ Err (BadOrder 4) = sym (ap Err at) ∙ is in cc
 
-pub all_there : (s : Scripts) (words : List (List ℕ)) (r : Result (CallAt × CallAt) Fault) → IfOk r (λ calls. Asks s words (Ok calls))
+pub all_there : (s : Scripts) (words : List (List ℕ)) (r : Result (CallAt × CallAt) Fault) → IfOk r (λ calls. QuestionNames s words (Ok calls))
     → IfOk r (λ calls. (calls.0.call < length (calls_of (plan_of s) calls.0.proc.number)) × (calls.1.call < length (calls_of (plan_of s) calls.1.proc.number)))
 all_there s words (Ok calls) asks = both_there s _ _ _ _ calls asks
 all_there s words (Err e) asks = tt
 
 -- the plan of scripts is asked what they are asked, and answers the same
-pub asked_too : (shown s : Scripts) (words : List (List ℕ)) (calls : CallAt × CallAt) → shown ≡ s → Asks shown words (Ok calls) → Asks s words (Ok calls)
-asked_too shown s words calls is asks = subst (λ t. Asks t words (Ok calls)) is asks
+pub asked_too : (shown s : Scripts) (words : List (List ℕ)) (calls : CallAt × CallAt) → shown ≡ s → QuestionNames shown words (Ok calls) → QuestionNames s words (Ok calls)
+asked_too shown s words calls is asks = subst (λ t. QuestionNames t words (Ok calls)) is asks
 
-pub refused_too : (shown s : Scripts) (words : List (List ℕ)) (e : Fault) → shown ≡ s → (e ≡ Memory) ⊎ Asks shown words (Err e) → (e ≡ Memory) ⊎ Asks s words (Err e)
-refused_too shown s words e is refuses = subst (λ t. (e ≡ Memory) ⊎ Asks t words (Err e)) is refuses
+pub refused_too : (shown s : Scripts) (words : List (List ℕ)) (e : Fault) → shown ≡ s → (e ≡ Memory) ⊎ QuestionNames shown words (Err e) → (e ≡ Memory) ⊎ QuestionNames s words (Err e)
+refused_too shown s words e is refuses = subst (λ t. (e ≡ Memory) ⊎ QuestionNames t words (Err e)) is refuses
 
-pub refuses_too : (s plan : Scripts) (words : List (List ℕ)) (r : Result (Vec ℕ Global) Fault) → plan ≡ s → IfErr r (λ e. (e ≡ Memory) ⊎ Asks plan words (Err e)) →
-    IfErr r (λ e. (e ≡ Memory) ⊎ Asks s words (Err e))
-refuses_too s plan words r is refuses = subst (λ t. IfErr r (λ e. (e ≡ Memory) ⊎ Asks t words (Err e))) is refuses
+pub refuses_too : (s plan : Scripts) (words : List (List ℕ)) (r : Result (Vec ℕ Global) Fault) → plan ≡ s → IfErr r (λ e. (e ≡ Memory) ⊎ QuestionNames plan words (Err e)) →
+    IfErr r (λ e. (e ≡ Memory) ⊎ QuestionNames s words (Err e))
+refuses_too s plan words r is refuses = subst (λ t. IfErr r (λ e. (e ≡ Memory) ⊎ QuestionNames t words (Err e))) is refuses
 
 -- a fault of the file comes before the writing
 pub file_stops : {size : Size} (coming : Option (List ℕ)) (words : List (List ℕ)) (e : Fault) → (e ≡ Memory) ⊎ ((e ≡ Read) ⊎ Refuses size coming e) → StopsBeforeAnswer size coming words e
@@ -60,11 +60,11 @@ file_stops coming words e (inr (inr refuses)) = inr (inr (inl refuses))
 
 -- and so does a wrong word
 pub word_stops : {size : Size} (coming : Option (List ℕ)) (words : List (List ℕ)) (s : Scripts) (e : Fault) → ReadAs size coming s →
-    (e ≡ Memory) ⊎ Asks s words (Err e) → StopsBeforeAnswer size coming words e
+    (e ≡ Memory) ⊎ QuestionNames s words (Err e) → StopsBeforeAnswer size coming words e
 word_stops coming words s e read (inl memory) = inl memory
 word_stops coming words s e read (inr refuses) = inr (inr (inr (record { scripts = s; read = read; refuses = refuses })))
 
 -- which is no failed read
-pub no_read_of_words : (s : Scripts) (words : List (List ℕ)) (e : Fault) → (e ≡ Memory) ⊎ Asks s words (Err e) → e ≢ Read
+pub no_read_of_words : (s : Scripts) (words : List (List ℕ)) (e : Fault) → (e ≡ Memory) ⊎ QuestionNames s words (Err e) → e ≢ Read
 no_read_of_words s words e (inl memory) is = let bad : Memory ≡ Read = sym memory ∙ is in cc
 no_read_of_words s words e (inr refuses) is = word_no_read s _ _ _ _ e refuses is

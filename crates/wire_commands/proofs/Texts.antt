@@ -4,8 +4,8 @@ use Rattle.wire_types.specs.declared.CallAt.{CallAt}
 use Rattle.wire_types.specs.declared.Fault.{Fault}
 use Rattle.wire_types.specs.declared.Fault.TheVariants.{Memory}
 use Rattle.wire_types.specs.Outcome.{Ends}
-use Rattle.wire_content.specs.Scripts.{Scripts}
-use Rattle.wire_content.specs.Planned.{plan_of}
+use Rattle.wire_scripts.specs.Scripts.{Scripts}
+use Rattle.wire_scripts.specs.Planned.{plan_of}
 use Rattle.wire_runs.specs.State.{start}
 use Rattle.wire_runs.specs.Step.{run, IsInterleaving}
 use Rattle.wire_runs.specs.Ends.{outcome, calls_of}

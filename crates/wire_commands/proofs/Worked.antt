@@ -5,13 +5,13 @@ use Rattle.std.specs.declared.alloc.Global.{Global}
 use Rattle.wire_types.specs.declared.Fault.{Fault}
 use Rattle.std.proofs.lemmas.Bool.{eqb-true, true≢false}
 use Rattle.wire_types.specs.Outcome.{Ends}
-use Rattle.wire_content.specs.Scripts.{Scripts}
-use Rattle.wire_content.specs.Planned.{plan_of}
+use Rattle.wire_scripts.specs.Scripts.{Scripts}
+use Rattle.wire_scripts.specs.Planned.{plan_of}
 use Rattle.wire_runs.specs.Races.{IsSettled}
 use Rattle.wire_findings.specs.declared.finding.Finding.{Finding}
 use Rattle.wire_findings.specs.Findings.{AreFindings}
 use Rattle.wire_core.specs.EndsAfter.{plain_ends}
-use Rattle.wire_script.specs.declared.Size.{Size}
+use Rattle.wire_reader.specs.declared.Size.{Size}
 use Rattle.wire_commands.specs.declared.ended.Ended.{Ended}
 use Rattle.wire_commands.specs.declared.ended.Ended.TheVariants.{Clean, Found}
 use Rattle.wire_commands.specs.declared.replay.Mode.{Mode}
@@ -19,7 +19,7 @@ use Rattle.wire_commands.specs.Plain.{ReadAs}
 use Rattle.wire_commands.specs.Ending.{ended_with}
 use Rattle.wire_report.specs.Report.{report_form}
 use Rattle.wire_standstill.specs.Told.{ReportsStandstill}
-use Rattle.wire_commands.specs.Replay.{Tells, TellsEnd, TellsFound, IsReplay, WritesReplayOf, WritesOneEnd}
+use Rattle.wire_commands.specs.Replay.{TellsReplay, TellsEnd, TellsFound, IsReplay, WritesReplayOf, WritesOneEnd}
 use Rattle.wire_commands.proofs.Checked.{judged_so}
 
 -- of a settled plan
@@ -44,7 +44,7 @@ standstill_told true false s ends text asked at told = absurd (true≢false (sym
 standstill_told false explain s ends text asked at told = absurd (true≢false (sym asked))
 
 -- of one in which something is found
-found_tells : (mode : Mode) (s : Scripts) (found : List Finding) (text : List ℕ) → found ≢ [] → TellsFound mode.json mode.anyway s found text → Tells mode s found text
+found_tells : (mode : Mode) (s : Scripts) (found : List Finding) (text : List ℕ) → found ≢ [] → TellsFound mode.json mode.anyway s found text → TellsReplay mode s found text
 found_tells mode s [] text some tells = absurd (some refl)
 found_tells mode s (f ∷ fs) text some tells = tells
 
@@ -60,7 +60,7 @@ standstill_tells json explain s ends (Ok text) asked at told = standstill_told j
 standstill_tells json explain s ends (Err e) asked at told = tt
 
 -- where it is clean, nothing is found
-clean_tells : (mode : Mode) (s : Scripts) (found : List Finding) (ended : Ended) (text : List ℕ) → ended ≡ ended_with found → Tells mode s found text → ended ≡ Clean →
+clean_tells : (mode : Mode) (s : Scripts) (found : List Finding) (ended : Ended) (text : List ℕ) → ended ≡ ended_with found → TellsReplay mode s found text → ended ≡ Clean →
     TellsEnd mode.json mode.explain s text
 clean_tells mode s [] ended text ends tells clean = tells
 clean_tells mode s (f ∷ fs) ended text ends tells clean = let bad : Found (length (f ∷ fs)) ≡ Clean = sym ends ∙ clean in absurd (cc)

@@ -4,10 +4,10 @@ use Rattle.std.specs.Io.KnownBytes.{Appends}
 use Rattle.wire_types.specs.declared.Fault.{Fault}
 use Rattle.wire_types.specs.declared.Fault.TheVariants.{Memory, Read}
 use Rattle.wire_types.specs.Front.{WritesFront}
-use Rattle.wire_content.specs.Scripts.{Scripts, under_version_2}
-use Rattle.wire_content.proofs.Migrated.{same_plan}
-use Rattle.wire_script.specs.declared.Size.{Size}
-use Rattle.wire_script.proofs.Migrated.{migrated_reads_back}
+use Rattle.wire_scripts.specs.Scripts.{Scripts, under_version_2}
+use Rattle.wire_scripts.proofs.Migrated.{same_plan}
+use Rattle.wire_reader.specs.declared.Size.{Size}
+use Rattle.wire_reader.proofs.Migrated.{migrated_reads_back}
 use Rattle.wire_commands.specs.Plain.{ReadAs, Refuses}
 use Rattle.wire_commands.specs.Migrate.{migrated_text, IsMigrated, WritesMigrated, BreaksOffMigrated, StopsBeforeMigrated}
 

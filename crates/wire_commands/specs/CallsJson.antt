@@ -1,7 +1,7 @@
 -- The JSON forms, as bytes, in which each call has the number of its line in the file.
 use Rattle.std.specs.Prelude.{ℕ, Bool, List, ◌++◌, Option, Some, None, codes, decimal, map}
 use Rattle.wire_types.specs.declared.CallAt.{CallAt}
-use Rattle.wire_content.specs.Scripts.{Scripts, numbers_of}
+use Rattle.wire_scripts.specs.Scripts.{Scripts, numbers_of}
 use Rattle.wire_findings.specs.declared.finding.Finding.{Finding}
 use Rattle.wire_report.specs.declared.tally.Group.{Group}
 use Rattle.wire_json.specs.declared.chains.ChainStep.{ChainStep}

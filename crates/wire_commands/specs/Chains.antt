@@ -4,8 +4,8 @@ use Rattle.std.specs.List.{flat_map}
 use Rattle.wire_types.specs.declared.CallAt.{CallAt}
 use Rattle.wire_runs.specs.Plan.{Event}
 use Rattle.wire_runs.specs.Ends.{call_of}
-use Rattle.wire_content.specs.Scripts.{Scripts}
-use Rattle.wire_content.specs.Planned.{plan_of}
+use Rattle.wire_scripts.specs.Scripts.{Scripts}
+use Rattle.wire_scripts.specs.Planned.{plan_of}
 use Rattle.wire_report.specs.Chain.{event_line, dead_line, order_line, step_of, IsCallBefore, IsCallChain, AreDead}
 use Rattle.wire_report.specs.Place.{place_text}
 use Rattle.wire_commands.specs.CallsJson.{json_chain, json_unordered}

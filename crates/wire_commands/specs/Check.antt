@@ -4,10 +4,10 @@ use Rattle.std.specs.Io.KnownBytes.{Appends}
 use Rattle.wire_types.specs.Front.{WritesFront}
 use Rattle.wire_types.specs.declared.Fault.{Fault}
 use Rattle.wire_types.specs.declared.Fault.TheVariants.{Memory, Read}
-use Rattle.wire_types.specs.declared.Form.{Form}
+use Rattle.wire_types.specs.declared.OutputFormat.{OutputFormat}
 use Rattle.wire_types.specs.Forms.{has_places, is_json}
-use Rattle.wire_content.specs.Scripts.{Scripts}
-use Rattle.wire_content.specs.Planned.{plan_of}
+use Rattle.wire_scripts.specs.Scripts.{Scripts}
+use Rattle.wire_scripts.specs.Planned.{plan_of}
 use Rattle.wire_runs.specs.Races.{IsSettled}
 use Rattle.wire_runs.specs.Findings as runs
 use Rattle.wire_runs.specs.Plan.{Plan}
@@ -18,7 +18,7 @@ use Rattle.wire_report.specs.declared.tally.Group.{Group}
 use Rattle.wire_report.specs.Findings.{findings_form}
 use Rattle.wire_report.specs.Grouped.{AreGroupsOf}
 use Rattle.wire_report.specs.GroupedText.{IsLocatedText}
-use Rattle.wire_script.specs.declared.Size.{Size}
+use Rattle.wire_reader.specs.declared.Size.{Size}
 use Rattle.wire_commands.specs.declared.ended.Ended.{Ended}
 use Rattle.wire_commands.specs.declared.ended.Ended.TheVariants.{Clean}
 use Rattle.wire_commands.specs.CallsJson.{json_groups}
@@ -31,7 +31,7 @@ NoneIsOrdered plan found = (f : runs.Finding) → runs.Has (all_shown plan found
 
 -- these are the findings of the scripts, and it ends so: clean exactly where there is nothing to find, and then every
 -- interleaving that can't go on ends in one state. The calls of each race are live, and no chain orders them
-pub record IsJudged (scripts : Scripts) (found : List Finding) (ended : Ended) : Type 0 where
+pub record IsVerdictOf (scripts : Scripts) (found : List Finding) (ended : Ended) : Type 0 where
   pub those : AreFindings scripts found
   pub ends : ended ≡ ended_with found
   pub settled : (ended ≡ Clean) ↔ IsSettled (plan_of scripts)
@@ -55,38 +55,38 @@ TellsEach false json name rows scripts found text = text ≡ findings_form json 
 TellsEach true json name rows scripts found text = IsGroupedText json name rows scripts found text
 
 -- the text tells these findings in this form
-abbrev pub TellsFindings : (form : Form) (name : List ℕ) (rows : List (List ℕ)) → Scripts → List Finding → List ℕ → Type 0
+abbrev pub TellsFindings : (form : OutputFormat) (name : List ℕ) (rows : List (List ℕ)) → Scripts → List Finding → List ℕ → Type 0
 TellsFindings form name rows scripts found text = TellsEach (has_places form) (is_json form) name rows scripts found text
 
 -- all of a text went out that tells these findings
-pub record WritesFindings (form : Form) (name : List ℕ) (rows : List (List ℕ)) (scripts : Scripts) (found : List Finding)
+pub record WritesFindings (form : OutputFormat) (name : List ℕ) (rows : List (List ℕ)) (scripts : Scripts) (found : List Finding)
     (old new : Option (List ℕ)) : Type 0 where
   pub text : List ℕ
   pub tells : TellsFindings form name rows scripts found text
   pub wrote : Appends old new text
 
 -- exactly as many bytes of such a text went out as the fault says, which aren't all of it
-pub record BreaksOffFindings (form : Form) (name : List ℕ) (rows : List (List ℕ)) (scripts : Scripts) (found : List Finding)
+pub record BreaksOffFindings (form : OutputFormat) (name : List ℕ) (rows : List (List ℕ)) (scripts : Scripts) (found : List Finding)
     (old new : Option (List ℕ)) (fault : Fault) : Type 0 where
   pub text : List ℕ
   pub tells : TellsFindings form name rows scripts found text
   pub wrote : WritesFront old new text fault
 
 -- the text of all findings of the scripts, and how a check of them ends
-pub record IsVerdict (form : Form) (name : List ℕ) (scripts : Scripts) (rows : List (List ℕ)) (text : List ℕ) (ended : Ended) : Type 0 where
+pub record IsVerdict (form : OutputFormat) (name : List ℕ) (scripts : Scripts) (rows : List (List ℕ)) (text : List ℕ) (ended : Ended) : Type 0 where
   pub found : List Finding
-  pub judged : IsJudged scripts found ended
+  pub judged : IsVerdictOf scripts found ended
   pub tells : TellsFindings form name rows scripts found text
 
 -- all of the verdict on the scripts went out
-pub record WritesVerdict (form : Form) (name : List ℕ) (scripts : Scripts) (rows : List (List ℕ)) (ended : Ended)
+pub record WritesVerdict (form : OutputFormat) (name : List ℕ) (scripts : Scripts) (rows : List (List ℕ)) (ended : Ended)
     (old new : Option (List ℕ)) : Type 0 where
   pub text : List ℕ
   pub verdict : IsVerdict form name scripts rows text ended
   pub wrote : Appends old new text
 
 -- exactly as many bytes of the verdict went out as the fault says, which aren't all of it
-pub record BreaksOffVerdict (form : Form) (name : List ℕ) (scripts : Scripts) (rows : List (List ℕ))
+pub record BreaksOffVerdict (form : OutputFormat) (name : List ℕ) (scripts : Scripts) (rows : List (List ℕ))
     (old new : Option (List ℕ)) (fault : Fault) : Type 0 where
   pub ended : Ended
   pub text : List ℕ

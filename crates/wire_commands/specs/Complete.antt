@@ -8,11 +8,11 @@ use Rattle.wire_types.specs.declared.CallEnd.{CallEnd}
 use Rattle.wire_types.specs.declared.CallEnd.TheVariants.{Replied, Unreached}
 use Rattle.wire_types.specs.declared.Status.{Status}
 use Rattle.wire_types.specs.declared.Status.TheVariants.{Success}
-use Rattle.wire_content.specs.Scripts.{Scripts, call_at, calls_in}
+use Rattle.wire_scripts.specs.Scripts.{Scripts, call_at, calls_in}
 use Rattle.wire_words.specs.Words.{call_text, end_text, verb_text_in}
 use Rattle.wire_core.specs.EndsAfter.{plain_ends}
-use Rattle.wire_collect.specs.Collect.{IsCompleteRun}
-use Rattle.wire_script.specs.declared.Size.{Size}
+use Rattle.wire_parallel_run.specs.Collect.{IsCompleteRun}
+use Rattle.wire_reader.specs.declared.Size.{Size}
 use Rattle.wire_commands.specs.declared.ended.Ended.{Ended}
 use Rattle.wire_commands.specs.declared.ended.Ended.TheVariants.{Clean, Found}
 use Rattle.wire_commands.specs.Ending.{status_of}

@@ -4,12 +4,12 @@ use Rattle.std.specs.Io.KnownBytes.{Appends}
 use Rattle.wire_types.specs.Front.{WritesFront}
 use Rattle.wire_types.specs.declared.Fault.{Fault}
 use Rattle.wire_types.specs.declared.Fault.TheVariants.{Memory, Read}
-use Rattle.wire_content.specs.Scripts.{Scripts, under_version_2}
-use Rattle.wire_content.specs.Canonical.{canonical}
-use Rattle.wire_content.specs.Planned.{plan_of}
-use Rattle.wire_script.specs.declared.Size.{Size}
-use Rattle.wire_script.specs.Limits.{file_bytes}
-use Rattle.wire_script.specs.Reads.{Reads}
+use Rattle.wire_scripts.specs.Scripts.{Scripts, under_version_2}
+use Rattle.wire_scripts.specs.Canonical.{canonical}
+use Rattle.wire_scripts.specs.Planned.{plan_of}
+use Rattle.wire_reader.specs.declared.Size.{Size}
+use Rattle.wire_reader.specs.Limits.{file_bytes}
+use Rattle.wire_reader.specs.Reads.{Reads}
 use Rattle.wire_commands.specs.Plain.{ReadAs, Refuses}
 
 -- the text of scripts under version 2

@@ -5,12 +5,12 @@ use Rattle.wire_types.specs.Front.{WritesFront}
 use Rattle.wire_types.specs.declared.Fault.{Fault}
 use Rattle.wire_types.specs.declared.Fault.TheVariants.{Memory, Read}
 use Rattle.wire_runs.specs.Placings.{IsPlacing}
-use Rattle.wire_content.specs.Scripts.{Scripts}
-use Rattle.wire_content.specs.Canonical.{canonical}
-use Rattle.wire_content.specs.Placed.{AreAloneTogether, placed}
-use Rattle.wire_content.specs.Planned.{plan_of}
-use Rattle.wire_script.specs.declared.Size.{Size}
-use Rattle.wire_script.specs.Ranks.{ranks_read}
+use Rattle.wire_scripts.specs.Scripts.{Scripts}
+use Rattle.wire_scripts.specs.Canonical.{canonical}
+use Rattle.wire_scripts.specs.Placed.{AreAloneTogether, placed}
+use Rattle.wire_scripts.specs.Planned.{plan_of}
+use Rattle.wire_reader.specs.declared.Size.{Size}
+use Rattle.wire_reader.specs.Ranks.{ranks_read}
 use Rattle.wire_commands.specs.Plain.{ReadAs, Refuses}
 
 -- the text is that of the scripts with the ranks that the word lists on one node and all others on another, and nothing else changed: their

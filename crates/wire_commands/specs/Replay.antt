@@ -6,27 +6,27 @@ use Rattle.wire_types.specs.Front.{WritesFront}
 use Rattle.wire_types.specs.declared.Fault.{Fault}
 use Rattle.wire_types.specs.declared.Fault.TheVariants.{Workers}
 use Rattle.wire_types.specs.Outcome.{Ends}
-use Rattle.wire_content.specs.Scripts.{Scripts}
-use Rattle.wire_content.specs.Planned.{plan_of}
+use Rattle.wire_scripts.specs.Scripts.{Scripts}
+use Rattle.wire_scripts.specs.Planned.{plan_of}
 use Rattle.wire_runs.specs.Laws.{HasOneEnd}
 use Rattle.wire_findings.specs.declared.finding.Finding.{Finding}
 use Rattle.wire_findings.specs.Findings.{AreFindings}
 use Rattle.wire_core.specs.EndsAfter.{plain_ends}
-use Rattle.wire_collect.specs.Collect.{MayWork, IsCompleteRun}
+use Rattle.wire_parallel_run.specs.Collect.{MayWork, IsCompleteRun}
 use Rattle.wire_report.specs.Report.{report_form}
 use Rattle.wire_report.specs.Findings.{findings_form}
 use Rattle.wire_report.specs.Unsettled.{unsettled_form}
 use Rattle.wire_standstill.specs.Told.{ReportsStandstill}
-use Rattle.wire_script.specs.declared.Size.{Size}
-use Rattle.wire_commands.specs.declared.replay.Judged.{Judged}
-use Rattle.wire_commands.specs.declared.replay.Judged.TheVariants.{Clean as NothingFound, Found as SomeFound}
+use Rattle.wire_reader.specs.declared.Size.{Size}
+use Rattle.wire_commands.specs.declared.replay.Verdict.{Verdict}
+use Rattle.wire_commands.specs.declared.replay.Verdict.TheVariants.{Clean as NothingFound, Found as SomeFound}
 use Rattle.wire_commands.specs.declared.replay.Mode.{Mode}
 use Rattle.wire_commands.specs.declared.ended.Ended.{Ended}
-use Rattle.wire_commands.specs.Check.{IsJudged, StopsBeforeFindings}
+use Rattle.wire_commands.specs.Check.{IsVerdictOf, StopsBeforeFindings}
 use Rattle.wire_commands.specs.Plain.{ReadAs}
 
 -- what was judged is the plan of the scripts: settled, or with all that is found in it, which is something
-abbrev pub JudgesPlan : Scripts → Judged → Type 0
+abbrev pub JudgesPlan : Scripts → Verdict → Type 0
 JudgesPlan scripts (NothingFound plan) = (plan ≡ scripts) × AreFindings plan []
 JudgesPlan scripts (SomeFound it) = (it.plan ≡ scripts) × AreFindings it.plan it.findings × (it.findings ≢ [])
 
@@ -49,15 +49,15 @@ TellsEnd true true scripts text = ReportsStandstill scripts (plain_ends scripts)
 TellsEnd json _ scripts text = text ≡ report_form json scripts (plain_ends scripts)
 
 -- what is written where these are found
-abbrev pub Tells : Mode → Scripts → List Finding → List ℕ → Type 0
-Tells mode scripts [] text = TellsEnd mode.json mode.explain scripts text
-Tells mode scripts (f ∷ fs) text = TellsFound mode.json mode.anyway scripts (f ∷ fs) text
+abbrev pub TellsReplay : Mode → Scripts → List Finding → List ℕ → Type 0
+TellsReplay mode scripts [] text = TellsEnd mode.json mode.explain scripts text
+TellsReplay mode scripts (f ∷ fs) text = TellsFound mode.json mode.anyway scripts (f ∷ fs) text
 
 -- how a replay of the scripts ends, and its text
 pub record IsReplay (mode : Mode) (scripts : Scripts) (ended : Ended) (text : List ℕ) : Type 0 where
   pub found : List Finding
-  pub judged : IsJudged scripts found ended
-  pub tells : Tells mode scripts found text
+  pub judged : IsVerdictOf scripts found ended
+  pub tells : TellsReplay mode scripts found text
 
 -- all that is written where these are found went out
 pub record WritesFound (mode : Mode) (scripts : Scripts) (found : List Finding) (old new : Option (List ℕ)) : Type 0 where

@@ -2,16 +2,16 @@
 use Rattle.std.specs.Prelude.{◌≡◌, ℕ, true, false, List, ◌++◌, Ok}
 use Rattle.std.specs.List.{flat_map}
 use Rattle.wire_types.specs.declared.CallAt.{CallAt}
-use Rattle.wire_types.specs.declared.Form.{Form}
-use Rattle.wire_types.specs.declared.Form.TheVariants.{Lines, Places, Json, PlacedJson}
+use Rattle.wire_types.specs.declared.OutputFormat.{OutputFormat}
+use Rattle.wire_types.specs.declared.OutputFormat.TheVariants.{Lines, Places, Json, PlacedJson}
 use Rattle.wire_types.specs.declared.Orders.{Orders}
 use Rattle.wire_types.specs.declared.Orders.TheVariants.{Both, OfFirst, OfSecond}
 use Rattle.wire_types.specs.Forms.{is_json}
-use Rattle.wire_content.specs.Scripts.{Scripts, numbers_of}
+use Rattle.wire_scripts.specs.Scripts.{Scripts, numbers_of}
 use Rattle.wire_json.specs.Witnesses as witnesses
 use Rattle.wire_report.specs.GroupedText.{note_line}
 use Rattle.wire_report.specs.Place.{place_text}
-use Rattle.wire_report.specs.Shown.{shown_line, both_ends, both_orders, unshown_form}
+use Rattle.wire_report.specs.Views.{shown_line, both_ends, both_orders, unshown_form}
 use Rattle.wire_report.specs.Unsettled.{step_line}
 use Rattle.wire_witness.specs.declared.pair.PairSearch.{PairSearch}
 use Rattle.wire_witness.specs.declared.pair.PairSearch.TheVariants.{NoRace, NotShown, Shown}
@@ -20,7 +20,7 @@ use Rattle.wire_witness.specs.Searches.{IsPairSearch, shown_by_pair}
 use Rattle.wire_commands.specs.declared.ended.Ended.{Ended}
 use Rattle.wire_commands.specs.CallsJson.{json_witness}
 use Rattle.wire_commands.specs.Ending.{ended_of}
-use Rattle.wire_commands.specs.Why.{Asks}
+use Rattle.wire_commands.specs.Why.{QuestionNames}
 
 -- in lines: the call that ends differently, how it ends in each run, and the orders of both
 abbrev pub lines_text : Scripts → Witness → List ℕ
@@ -49,31 +49,31 @@ abbrev pub steps_text : Scripts → List ℕ → List ℕ
 steps_text scripts steps = flat_map (step_line scripts) steps
 
 -- all of a witness in this form
-abbrev pub whole_text : Form → List ℕ → List (List ℕ) → Scripts → Witness → List ℕ
+abbrev pub whole_text : OutputFormat → List ℕ → List (List ℕ) → Scripts → Witness → List ℕ
 whole_text Lines name rows scripts witness = lines_text scripts witness
 whole_text Places name rows scripts witness = placed_lines name rows scripts witness
 whole_text Json name rows scripts witness = whole_json scripts witness
 whole_text PlacedJson name rows scripts witness = json_witness rows scripts witness
 
 -- what is written of a witness: all of it, or one of its orders
-abbrev pub witness_text : Form → List ℕ → List (List ℕ) → Orders → Scripts → Witness → List ℕ
+abbrev pub witness_text : OutputFormat → List ℕ → List (List ℕ) → Orders → Scripts → Witness → List ℕ
 witness_text form name rows Both scripts witness = whole_text form name rows scripts witness
 witness_text form name rows OfFirst scripts witness = steps_text scripts (numbers_of witness.first.items)
 witness_text form name rows OfSecond scripts witness = steps_text scripts (numbers_of witness.second.items)
 
 -- what is written of a search: the witness that was found, or that there is no race, or that none was found
-abbrev pub pair_text : Form → List ℕ → List (List ℕ) → Orders → Scripts → PairSearch → List ℕ
+abbrev pub pair_text : OutputFormat → List ℕ → List (List ℕ) → Orders → Scripts → PairSearch → List ℕ
 pair_text form name rows orders scripts NoRace = unshown_form (is_json form) false
 pair_text form name rows orders scripts NotShown = unshown_form (is_json form) true
 pair_text form name rows orders scripts (Shown witness) = witness_text form name rows orders scripts witness
 
 -- the words name two calls of the scripts, and the text tells what a search for a witness of them found. It ends with
 -- one finding exactly where that is a witness
-pub record ShowsPair (form : Form) (name : List ℕ) (words : List (List ℕ)) (orders : Orders) (scripts : Scripts)
+pub record ShowsPair (form : OutputFormat) (name : List ℕ) (words : List (List ℕ)) (orders : Orders) (scripts : Scripts)
     (rows : List (List ℕ)) (text : List ℕ) (ended : Ended) : Type 0 where
   pub x : CallAt
   pub y : CallAt
-  pub asks : Asks scripts words (Ok (x, y))
+  pub asks : QuestionNames scripts words (Ok (x, y))
   pub search : PairSearch
   pub searched : IsPairSearch scripts x y search
   pub tells : text ≡ pair_text form name rows orders scripts search

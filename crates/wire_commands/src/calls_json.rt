@@ -7,10 +7,10 @@ ghost use Rattle.wire_commands.specs.CallsJson as spec;
 
 use crate::json_builder::JsonBuilder;
 use std::alloc::{AllocError, Global};
-use wire_content::Scripts;
 use wire_findings::Finding;
 use wire_json::{ChainStep, Half, lined_place_json, lined_step_json};
 use wire_report::{line_of, pair_of, push_finding};
+use wire_scripts::Scripts;
 use wire_types::CallAt;
 
 /// A call, or a half of a fence, with its line.

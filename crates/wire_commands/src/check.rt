@@ -18,20 +18,20 @@ use crate::answer::Answer;
 use crate::calls_json::begin_finding;
 use crate::ended::Ended;
 use crate::json_builder::JsonBuilder;
-use crate::manner::{Manner, Telling};
+use crate::manner::{AnswerStyle, CommandOptions};
 use crate::shared_reading::read_in;
 use std::alloc::{AllocError, Global};
 use std::thread::Threads;
-use wire_content::Scripts;
 use wire_findings::{Finding, FindingList};
-use wire_marks::Marks;
+use wire_happens_before::HappensBefore;
 use wire_plan::Plan;
 use wire_races::finding_list;
 use wire_races::laws::settled_exactly;
 use wire_report::{
-    Group, Places, findings_text, group_findings, grouped_lines, write_findings, write_text,
+    Group, SourceLines, findings_text, group_findings, grouped_lines, write_findings, write_text,
 };
-use wire_types::{Fault, Form, Sink, Source};
+use wire_scripts::Scripts;
+use wire_types::{Fault, OutputFormat, Sink, Source};
 
 /// Checks a plan: reads it to its end, and writes every finding: each put of a key that its process has put before, and
 /// each pair of calls that race, on a key or on a name.
@@ -51,7 +51,7 @@ use wire_types::{Fault, Form, Sink, Source};
 pub fn check_plan<R: Source, W: Sink>(
     rt: &(impl Threads + Sync),
     alloc: Global,
-    manner: Manner<'_>,
+    manner: CommandOptions<'_>,
     reader: &mut R,
     writer: &mut W,
 ) -> Result<Ended, Fault>
@@ -72,12 +72,12 @@ pub fn check_plan<R: Source, W: Sink>(
     ensures unfailed { IfErr result (λ e. e ≢ Memory → e ≢ Read → R.failures reader.new ≡ R.failures reader.old) }
 {
     let (scripts, rows) = read_in(rt, alloc, manner.size, manner.form, reader)?;
-    let places = Places {
+    let places = SourceLines {
         name: manner.name,
         rows: rows.as_slice(),
     };
     let form = manner.form;
-    check_scripts(rt, alloc, scripts, Telling { places, form }, writer)
+    check_scripts(rt, alloc, scripts, AnswerStyle { places, form }, writer)
 }
 
 /// Writes all findings of scripts, and says how their check ends.
@@ -85,7 +85,7 @@ fn check_scripts<W: Sink>(
     rt: &(impl Threads + Sync),
     alloc: Global,
     scripts: Scripts,
-    telling: Telling<'_>,
+    telling: AnswerStyle<'_>,
     writer: &mut W,
 ) -> Result<Ended, Fault>
     ensures ok { IfOk result (λ ended. WritesVerdict telling.entry.form telling.entry.places.name.now scripts (rows_in telling.entry.places) ended
@@ -106,7 +106,7 @@ fn check_built<W: Sink>(
     rt: &(impl Threads + Sync),
     alloc: Global,
     plan: &Plan,
-    telling: Telling<'_>,
+    telling: AnswerStyle<'_>,
     writer: &mut W,
 ) -> Result<Ended, Fault>
     ensures ok { IfOk result (λ ended. WritesVerdict telling.entry.form telling.entry.places.name.now plan.now (rows_in telling.entry.places) ended
@@ -127,7 +127,7 @@ fn check_built<W: Sink>(
 pub fn answer_findings(
     alloc: Global,
     scripts: &Scripts,
-    telling: Telling<'_>,
+    telling: AnswerStyle<'_>,
     found: &FindingList,
 ) -> Result<Answer, Fault>
     requires { AreFindings scripts.now found.now }
@@ -147,7 +147,7 @@ pub fn answer_findings(
 fn found_text(
     alloc: Global,
     scripts: &Scripts,
-    telling: Telling<'_>,
+    telling: AnswerStyle<'_>,
     found: &FindingList,
 ) -> Result<Vec<u8>, Fault>
     ensures ok { IfOk result (λ text. TellsFindings telling.entry.form telling.entry.places.name.now (rows_in telling.entry.places)
@@ -164,7 +164,7 @@ fn found_text(
 fn each_text(
     alloc: Global,
     scripts: &Scripts,
-    form: Form,
+    form: OutputFormat,
     found: &FindingList,
 ) -> Result<Vec<u8>, Fault>
     ensures ok { IfOk result (λ text. text.items ≡ findings_form (is_json form) scripts.now found.now) }
@@ -179,7 +179,7 @@ fn find_all(rt: &(impl Threads + Sync), alloc: Global, plan: &Plan) -> Result<Fi
     ensures ok { IfOk result (AreFindings plan.now) }
     ensures err { IfErr result (λ e. e ≡ Memory) }
 {
-    let marks = Marks::of(alloc, plan)?;
+    let marks = HappensBefore::of(alloc, plan)?;
     finding_list(rt, alloc, &marks.with(plan))
 }
 
@@ -188,7 +188,7 @@ fn write_found<W: Sink>(
     alloc: Global,
     scripts: &Scripts,
     found: &FindingList,
-    telling: Telling<'_>,
+    telling: AnswerStyle<'_>,
     writer: &mut W,
 ) -> Result<(), Fault>
     ensures ok { OnOk result (WritesFindings telling.entry.form telling.entry.places.name.now (rows_in telling.entry.places) scripts.now found.now
@@ -209,7 +209,7 @@ fn write_found<W: Sink>(
 fn grouped_text(
     alloc: Global,
     scripts: &Scripts,
-    telling: Telling<'_>,
+    telling: AnswerStyle<'_>,
     found: &FindingList,
 ) -> Result<Vec<u8>, Fault>
     ensures ok { IfOk result (λ text. IsGroupedText (is_json telling.entry.form) telling.entry.places.name.now (rows_in telling.entry.places)
@@ -226,7 +226,7 @@ fn grouped_text(
 fn grouped_json(
     alloc: Global,
     scripts: &Scripts,
-    places: Places<'_>,
+    places: SourceLines<'_>,
     found: &FindingList,
 ) -> Result<Vec<u8>, Fault>
     ensures ok { IfOk result (λ text. IsGroupedText true places.entry.name.now (rows_in places.entry) scripts.now found.now text.items) }

@@ -12,17 +12,17 @@ ghost use Rattle.wire_commands.specs.Ending.{ended_of};
 
 use crate::answer::{Answer, write_answer};
 use crate::ended::Ended;
-use crate::manner::{Manner, Telling};
+use crate::manner::{AnswerStyle, CommandOptions};
 use crate::shared_reading::read_in;
 use std::alloc::Global;
 use std::thread::Threads;
 use wire_anywhere::laws::settled_exactly;
 use wire_anywhere::{PlacedList, find_anywhere};
-use wire_anywhere_report::placed_text;
-use wire_content::Scripts;
-use wire_marks::{MarkedPlan, Marks};
+use wire_anywhere_report::on_placement_text;
+use wire_happens_before::{HappensBefore, MarkedPlan};
 use wire_plan::Plan;
-use wire_report::Places;
+use wire_report::SourceLines;
+use wire_scripts::Scripts;
 use wire_types::{Fault, Sink, Source};
 
 /// Checks a plan on every placement of its ranks: reads it to its end, and writes every finding that some placement
@@ -35,7 +35,7 @@ use wire_types::{Fault, Sink, Source};
 pub fn check_placements<R: Source, W: Sink>(
     rt: &(impl Threads + Sync),
     alloc: Global,
-    manner: Manner<'_>,
+    manner: CommandOptions<'_>,
     reader: &mut R,
     writer: &mut W,
 ) -> Result<Ended, Fault>
@@ -56,12 +56,12 @@ pub fn check_placements<R: Source, W: Sink>(
     ensures unfailed { IfErr result (λ e. e ≢ Memory → e ≢ Read → R.failures reader.new ≡ R.failures reader.old) }
 {
     let (scripts, rows) = read_in(rt, alloc, manner.size, manner.form, reader)?;
-    let places = Places {
+    let places = SourceLines {
         name: manner.name,
         rows: rows.as_slice(),
     };
     let form = manner.form;
-    let answer = answer_scripts(rt, alloc, scripts, Telling { places, form })?;
+    let answer = answer_scripts(rt, alloc, scripts, AnswerStyle { places, form })?;
     write_answer(writer, &answer)
 }
 
@@ -70,7 +70,7 @@ fn answer_scripts(
     rt: &(impl Threads + Sync),
     alloc: Global,
     scripts: Scripts,
-    telling: Telling<'_>,
+    telling: AnswerStyle<'_>,
 ) -> Result<Answer, Fault>
     ensures ok { IfOk result (λ answer. IsVerdictAnywhere telling.entry.form telling.entry.places.name.now scripts
         (rows_in telling.entry.places) answer.text.items answer.ended) }
@@ -87,13 +87,13 @@ fn answer_plan(
     rt: &(impl Threads + Sync),
     alloc: Global,
     plan: &Plan,
-    telling: Telling<'_>,
+    telling: AnswerStyle<'_>,
 ) -> Result<Answer, Fault>
     ensures ok { IfOk result (λ answer. IsVerdictAnywhere telling.entry.form telling.entry.places.name.now plan.now
         (rows_in telling.entry.places) answer.text.items answer.ended) }
     ensures err { IfErr result (λ e. e ≡ Memory) }
 {
-    let marks = Marks::of(alloc, plan)?;
+    let marks = HappensBefore::of(alloc, plan)?;
     let marked = marks.with(plan);
     let found = find_anywhere(rt, alloc, &marked)?;
     answer_found(alloc, &marked, telling, &found)
@@ -103,7 +103,7 @@ fn answer_plan(
 pub fn answer_found(
     alloc: Global,
     marked: &MarkedPlan<'_>,
-    telling: Telling<'_>,
+    telling: AnswerStyle<'_>,
     found: &PlacedList,
 ) -> Result<Answer, Fault>
     requires { AreFoundAnywhere marked.now found.now }
@@ -113,7 +113,7 @@ pub fn answer_found(
     ensures err { IfErr result (λ e. e ≡ Memory) }
 {
     let scripts = marked.plan().scripts();
-    let text = placed_text(alloc, scripts, telling.places, telling.form, found)?;
+    let text = on_placement_text(alloc, scripts, telling.places, telling.form, found)?;
     settled_exactly();
     Ok(Answer {
         text,

@@ -4,7 +4,7 @@
 ghost use Rattle.std.specs.Prelude.{◌≡◌, ◌≢◌, ◌⊎◌, Ok, Err, OnOk, IfOk, IfErr};
 ghost use Rattle.wire_types.specs.declared.Fault.TheVariants.{Memory, Read};
 ghost use Rattle.wire_types.specs.Counting.{one_more};
-ghost use Rattle.wire_content.specs.Planned.{plan_of};
+ghost use Rattle.wire_scripts.specs.Planned.{plan_of};
 ghost use Rattle.wire_runs.specs.Placings.{IsSettledAnywhere};
 ghost use Rattle.wire_commands.specs.declared.ended.Ended.TheVariants.{Clean};
 ghost use Rattle.wire_commands.specs.Answer.{BreaksOff, Writes, rows_in};
@@ -14,19 +14,19 @@ ghost use Rattle.wire_commands.specs.CheckSame.{IsSameEverywhere, IsSameVerdict,
 use crate::answer::{Answer, write_answer};
 use crate::check_anywhere::answer_found;
 use crate::ended::Ended;
-use crate::manner::{Manner, Telling};
+use crate::manner::{AnswerStyle, CommandOptions};
 use crate::shared_reading::read_in;
 use std::alloc::Global;
 use std::thread::Threads;
 use wire_anywhere::find_anywhere;
 use wire_anywhere::laws::settled_exactly;
 use wire_anywhere_report::same_text;
-use wire_content::Scripts;
 use wire_differing::find_differing;
-use wire_marks::{MarkedPlan, Marks};
+use wire_happens_before::{HappensBefore, MarkedPlan};
 use wire_plan::Plan;
-use wire_report::Places;
+use wire_report::SourceLines;
 use wire_runs::placing_laws::settled_anywhere;
+use wire_scripts::Scripts;
 use wire_types::{Fault, Sink, Source};
 
 /// Checks a plan on every placement of its ranks, as `check_placements` does. Where nothing is found, it writes each
@@ -39,7 +39,7 @@ use wire_types::{Fault, Sink, Source};
 pub fn check_replies<R: Source, W: Sink>(
     rt: &(impl Threads + Sync),
     alloc: Global,
-    manner: Manner<'_>,
+    manner: CommandOptions<'_>,
     reader: &mut R,
     writer: &mut W,
 ) -> Result<Ended, Fault>
@@ -60,12 +60,12 @@ pub fn check_replies<R: Source, W: Sink>(
     ensures unfailed { IfErr result (λ e. e ≢ Memory → e ≢ Read → R.failures reader.new ≡ R.failures reader.old) }
 {
     let (scripts, rows) = read_in(rt, alloc, manner.size, manner.form, reader)?;
-    let places = Places {
+    let places = SourceLines {
         name: manner.name,
         rows: rows.as_slice(),
     };
     let form = manner.form;
-    let answer = answer_scripts(rt, alloc, scripts, Telling { places, form })?;
+    let answer = answer_scripts(rt, alloc, scripts, AnswerStyle { places, form })?;
     write_answer(writer, &answer)
 }
 
@@ -74,7 +74,7 @@ fn answer_scripts(
     rt: &(impl Threads + Sync),
     alloc: Global,
     scripts: Scripts,
-    telling: Telling<'_>,
+    telling: AnswerStyle<'_>,
 ) -> Result<Answer, Fault>
     ensures ok { IfOk result (λ answer. IsSameVerdict telling.entry.form telling.entry.places.name.now scripts
         (rows_in telling.entry.places) answer.text.items answer.ended) }
@@ -91,13 +91,13 @@ fn answer_plan(
     rt: &(impl Threads + Sync),
     alloc: Global,
     plan: &Plan,
-    telling: Telling<'_>,
+    telling: AnswerStyle<'_>,
 ) -> Result<Answer, Fault>
     ensures ok { IfOk result (λ answer. IsSameVerdict telling.entry.form telling.entry.places.name.now plan.now
         (rows_in telling.entry.places) answer.text.items answer.ended) }
     ensures err { IfErr result (λ e. e ≡ Memory) }
 {
-    let marks = Marks::of(alloc, plan)?;
+    let marks = HappensBefore::of(alloc, plan)?;
     let marked = marks.with(plan);
     let found = find_anywhere(rt, alloc, &marked)?;
     if !found.is_empty() {
@@ -112,7 +112,7 @@ fn answer_plan(
 fn answer_settled(
     alloc: Global,
     marked: &MarkedPlan<'_>,
-    telling: Telling<'_>,
+    telling: AnswerStyle<'_>,
 ) -> Result<Answer, Fault>
     requires { IsSettledAnywhere (plan_of marked.now) }
     ensures ok { IfOk result (λ answer. TellsDiffering telling.entry.form telling.entry.places.name.now marked.now

@@ -2,12 +2,12 @@
 
 ghost use Rattle.std.specs.Prelude.{◌≡◌, ◌<◌, ◌^◌, ℕ, true, false, length, slice_get, IfOk, IfSome, IfNone};
 ghost use Rattle.wire_types.specs.Outcome.{ends_of};
-ghost use Rattle.wire_content.specs.Scripts.{calls_in};
+ghost use Rattle.wire_scripts.specs.Scripts.{calls_in};
 ghost use Rattle.wire_commands.specs.Complete as spec;
 ghost use Rattle.wire_commands.specs.Complete.{EverySucceeds, IsFirstFailure, TellsFailure, line_in};
 
 use std::alloc::{AllocError, Global};
-use wire_content::Scripts;
+use wire_scripts::Scripts;
 use wire_types::{CallAt, CallEnd, Outcome, Proc, Status};
 use wire_words::{push_call, push_end, verb_at};
 

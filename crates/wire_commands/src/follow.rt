@@ -5,25 +5,25 @@ ghost use Rattle.wire_types.specs.declared.Fault.TheVariants.{Memory, Read, Writ
 ghost use Rattle.wire_types.specs.Counting.{one_more};
 ghost use Rattle.wire_types.specs.Forms.{is_json};
 ghost use Rattle.wire_types.specs.Outcome.{ends_of};
-ghost use Rattle.wire_content.specs.Scripts.{Scripts, numbers_of};
-ghost use Rattle.wire_content.specs.Planned.{plan_of};
+ghost use Rattle.wire_scripts.specs.Scripts.{Scripts, numbers_of};
+ghost use Rattle.wire_scripts.specs.Planned.{plan_of};
 ghost use Rattle.wire_runs.specs.State.{start};
 ghost use Rattle.wire_runs.specs.Step.{run, IsInterleaving};
 ghost use Rattle.wire_runs.specs.Ends.{outcome};
-ghost use Rattle.wire_core.specs.Following.{Follows, StopsAt};
+ghost use Rattle.wire_core.specs.Following.{Follows, NotEnabledAt};
 ghost use Rattle.wire_core.specs.Course.{plan_in, state_of};
 ghost use Rattle.wire_commands.specs.Plain.{ReadAs};
 ghost use Rattle.wire_commands.specs.Follow.{WritesFollowed, BreaksOffFollowed, StopsBefore, OrdersAs, RefusesSteps};
 ghost use Rattle.wire_commands.specs.Follow.{StopsAfter, report_after};
 
-use crate::manner::Manner;
+use crate::manner::CommandOptions;
 use crate::reading::{read_scripts, read_up_to};
 use std::alloc::Global;
-use wire_content::Scripts;
 use wire_core::Core;
 use wire_plan::Plan;
+use wire_reader::{Size, read_order_sized};
 use wire_report::{report_text, write_text};
-use wire_script::{Size, read_order_sized};
+use wire_scripts::Scripts;
 use wire_types::{Fault, Outcome, Proc, Sink, Source};
 
 /// Runs the steps of an order: reads the plan and then the order, each to its end, takes the
@@ -36,7 +36,7 @@ use wire_types::{Fault, Outcome, Proc, Sink, Source};
 /// said where the readers and the writer tell theirs.
 pub fn follow_plan<R: Source, O: Source, W: Sink>(
     alloc: Global,
-    manner: Manner<'_>,
+    manner: CommandOptions<'_>,
     reader: &mut R,
     order_reader: &mut O,
     writer: &mut W,
@@ -92,7 +92,7 @@ fn read_steps<O: Source>(
 /// Takes these steps, and says what became of every call after them.
 fn follow_order(alloc: Global, core: &mut Core<'_>, order: &[Proc]) -> Result<Outcome, Fault>
     ensures ok { IfOk result (λ o. Follows core.old (numbers_of order.now) core.new × (ends_of o ≡ outcome (plan_in core.new) (state_of core.new))) }
-    ensures err { IfErr result (λ e. (e ≡ Memory) ⊎ StopsAt core.old (numbers_of order.now) core.new e) }
+    ensures err { IfErr result (λ e. (e ≡ Memory) ⊎ NotEnabledAt core.old (numbers_of order.now) core.new e) }
 {
     core.follow(order)?;
     core.outcome(alloc)

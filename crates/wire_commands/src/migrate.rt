@@ -8,9 +8,9 @@ ghost use Rattle.wire_commands.specs.Migrate.{WritesMigrated, BreaksOffMigrated,
 
 use crate::reading::read_scripts;
 use std::alloc::Global;
-use wire_content::Scripts;
+use wire_reader::Size;
 use wire_report::write_text;
-use wire_script::Size;
+use wire_scripts::Scripts;
 use wire_types::{Fault, Sink, Source};
 
 /// The canonical text of scripts under version 2.

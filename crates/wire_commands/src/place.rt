@@ -3,17 +3,17 @@
 ghost use Rattle.std.specs.Prelude.{◌≡◌, ◌≢◌, ◌⊎◌, Err, OnOk, IfOk, IfErr};
 ghost use Rattle.wire_types.specs.declared.Fault.TheVariants.{Memory, Read};
 ghost use Rattle.wire_types.specs.Counting.{one_more};
-ghost use Rattle.wire_content.specs.Canonical.{canonical};
-ghost use Rattle.wire_content.specs.Placed.{placed};
-ghost use Rattle.wire_content.specs.Scripts.{numbers_of};
-ghost use Rattle.wire_script.specs.Ranks.{ranks_read};
+ghost use Rattle.wire_scripts.specs.Canonical.{canonical};
+ghost use Rattle.wire_scripts.specs.Placed.{placed};
+ghost use Rattle.wire_scripts.specs.Scripts.{numbers_of};
+ghost use Rattle.wire_reader.specs.Ranks.{ranks_read};
 ghost use Rattle.wire_commands.specs.Place.{BreaksOffPlaced, IsPlacedText, StopsBeforePlaced, WritesPlaced};
 
 use crate::reading::read_scripts;
 use std::alloc::Global;
-use wire_content::Scripts;
+use wire_reader::{Size, read_ranks};
 use wire_report::write_text;
-use wire_script::{Size, read_ranks};
+use wire_scripts::Scripts;
 use wire_types::{Fault, Proc, Sink, Source};
 
 /// The canonical text of scripts with these ranks on the second node, and all others on the first.
@@ -28,7 +28,7 @@ fn text_with(alloc: Global, scripts: Scripts, ranks: &[Proc]) -> Result<Vec<u8>,
 }
 
 /// The canonical text of scripts with the ranks on the second node that the word lists, and all others on the first.
-fn placed_text(alloc: Global, scripts: Scripts, word: &str) -> Result<Vec<u8>, Fault>
+fn moved_text(alloc: Global, scripts: Scripts, word: &str) -> Result<Vec<u8>, Fault>
     ensures ok { IfOk result (λ text. IsPlacedText word.now scripts text.items) }
     ensures err { IfErr result (λ e. (e ≡ Memory) ⊎ (ranks_read scripts word.now ≡ Err e)) }
 {
@@ -70,6 +70,6 @@ pub fn place_plan<R: Source, W: Sink>(
     ensures unfailed { IfErr result (λ e. e ≢ Memory → e ≢ Read → R.failures reader.new ≡ R.failures reader.old) }
 {
     let scripts = read_scripts(alloc, size, reader)?;
-    let text = placed_text(alloc, scripts, word)?;
+    let text = moved_text(alloc, scripts, word)?;
     write_text(writer, text.as_slice())
 }

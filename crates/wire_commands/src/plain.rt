@@ -7,11 +7,11 @@ ghost use Rattle.wire_commands.specs.Plain.{plain_report, WritesReport, Refuses,
 
 use crate::reading::read_scripts;
 use std::alloc::Global;
-use wire_content::Scripts;
 use wire_core::plain_outcome;
 use wire_plan::Plan;
+use wire_reader::Size;
 use wire_report::{report_text, write_text};
-use wire_script::Size;
+use wire_scripts::Scripts;
 use wire_types::{Fault, Sink, Source};
 
 /// The report of the plain run of a plan.

@@ -8,9 +8,9 @@ ghost use Rattle.wire_commands.specs.Plain.{ReadAs, Refuses};
 ghost use Rattle.wire_commands.specs.Answer.{ReadIn, ReadPlaced};
 
 use std::alloc::Global;
-use wire_content::Scripts;
-use wire_script::{Size, read_located, read_sized};
-use wire_types::{Fault, Form, Source};
+use wire_reader::{Size, read_located, read_sized};
+use wire_scripts::Scripts;
+use wire_types::{Fault, OutputFormat, Source};
 
 /// The bytes of a reader, which is asked until it ends or so many have come. Fails where memory runs
 /// out or a call of the reader fails.
@@ -75,7 +75,7 @@ fn read_placed<R: Source>(
 pub(crate) fn read_in<R: Source>(
     alloc: Global,
     size: Size,
-    form: Form,
+    form: OutputFormat,
     reader: &mut R,
 ) -> Result<(Scripts, Vec<Vec<u64>>), Fault>
     ensures ok { IfOk result (λ r. ReadIn size form (R.coming reader.old) r.0 (lists_of r.1.items)) }

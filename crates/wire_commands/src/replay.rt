@@ -5,10 +5,10 @@ ghost use Rattle.wire_types.specs.declared.Fault.TheVariants.{Memory, Read, Work
 ghost use Rattle.wire_types.specs.Counting.{one_more};
 ghost use Rattle.wire_types.specs.Outcome.{ends_of};
 ghost use Rattle.wire_core.specs.EndsAfter.{plain_ends};
-ghost use Rattle.wire_content.specs.Planned.{plan_of};
-ghost use Rattle.wire_marks.specs.Clocks.{AreMarks};
+ghost use Rattle.wire_scripts.specs.Planned.{plan_of};
+ghost use Rattle.wire_happens_before.specs.Clocks.{AreMarks};
 ghost use Rattle.wire_findings.specs.Findings.{AreFindings};
-ghost use Rattle.wire_collect.specs.Collect.{MayWork};
+ghost use Rattle.wire_parallel_run.specs.Collect.{MayWork};
 ghost use Rattle.wire_commands.specs.declared.ended.Ended.TheVariants.{Clean};
 ghost use Rattle.wire_commands.specs.Complete.{TellsCalls, JudgesCalls, line_in, complete_status};
 ghost use Rattle.wire_commands.specs.Replay.{BreaksOffFound, BreaksOffReplayOf, IsReplay, JudgesPlan, TellsEnd, TellsRun};
@@ -21,16 +21,16 @@ use crate::shared_reading::read_scripts;
 use std::alloc::Global;
 use std::sync::Wait;
 use std::thread::Threads;
-use wire_collect::{MOST_WORKERS, run_any, run_workers};
-use wire_content::Scripts;
 use wire_findings::FindingList;
-use wire_marks::Marks;
+use wire_happens_before::HappensBefore;
+use wire_parallel_run::{MOST_WORKERS, run_any, run_workers};
 use wire_plan::Plan;
 use wire_races::laws::settled_exactly;
 use wire_races::{Settled, finding_list};
+use wire_reader::Size;
 use wire_report::{report_text, unsettled_text, write_findings, write_text};
 use wire_sched::Gate;
-use wire_script::Size;
+use wire_scripts::Scripts;
 use wire_standstill::standstill_report;
 use wire_types::{Fault, Outcome, Sink, Source};
 
@@ -48,7 +48,7 @@ pub struct Mode {
 /// How a plan is replayed: within which limits, by how many workers at most, and what is written. The
 /// workers call the gate.
 #[derive_where(Clone, Copy)]
-pub struct Replaying<'a, G> {
+pub struct ReplaySettings<'a, G> {
     pub size: Size,
     pub workers: usize,
     pub mode: Mode,
@@ -75,13 +75,14 @@ impl Replayed {
     }
 }
 
-/// Replays a plan with at most so many workers at once (`run_any` of `wire_collect` says how; no clause says how many
+/// Replays a plan with at most so many workers at once (`run_any` of `wire_parallel_run` says how; no clause says how many
 /// there were): reads its file to the end, judges it as `check` does, and writes what came of it, as lines or as JSON.
 ///
 /// Where there is nothing to find, it runs the plan and writes what became of every call: the same for any number of
-/// workers, the report of the plain run. With `explain` the JSON also has who waits for ever there. It answers `Clean`, and the line of the report of the first call that isn't
-/// answered `PMIX_SUCCESS`, in process order and then by its number. That line is the same for every interleaving that
-/// can't go on; there is none exactly where in each of them every call is answered `PMIX_SUCCESS`.
+/// workers, the report of the plain run. With `explain` the JSON also has who waits for ever there. It answers `Clean`,
+/// and the line of the report of the first call that isn't answered `PMIX_SUCCESS`, in process order and then by its
+/// number. That line is the same for every interleaving that can't go on; there is none exactly where in each of them
+/// every call is answered `PMIX_SUCCESS`.
 ///
 /// Else it writes the findings, as `check` does, or, with `anyway`, it runs the plan in spite of them and writes what
 /// became of every call and in which order the steps came. Followed in that order, the plan gives the same report. It
@@ -96,7 +97,7 @@ pub fn replay_plan<R: Source, W: Sink, T: Threads + Wait + Sync, G: Gate + Sync>
     alloc: Global,
     reader: &mut R,
     writer: &mut W,
-    manner: Replaying<'_, G>,
+    manner: ReplaySettings<'_, G>,
 ) -> Result<Replayed, Fault>
     ensures ok { IfOk result (λ r. WritesReplay manner.entry.size manner.entry.mode
         (R.coming reader.old) r.ended (W.written writer.old) (W.written writer.new)) }
@@ -148,34 +149,34 @@ fn find_races(
     rt: &(impl Threads + Sync),
     alloc: Global,
     plan: &Plan,
-) -> Result<(Marks, FindingList), Fault>
+) -> Result<(HappensBefore, FindingList), Fault>
     ensures marks { IfOk result (λ m. AreMarks (plan_of plan.now) m.0) }
     ensures findings { IfOk result (λ m. AreFindings plan.now m.1) }
     ensures err { IfErr result (λ e. e ≡ Memory) }
 {
-    let marks = Marks::of(alloc, plan)?;
+    let marks = HappensBefore::of(alloc, plan)?;
     let found = finding_list(rt, alloc, &marks.with(plan))?;
     Ok((marks, found))
 }
 
 /// A plan that was judged.
-enum Judged {
+enum Verdict {
     /// Nothing is found in it.
     Clean(Settled),
     Found(PlanWithFindings),
 }
 
 /// A plan with its marks, and what is found in it, as a plan that was judged.
-fn judge_marked(alloc: Global, plan: Plan, marks: Marks, findings: FindingList) -> Judged
+fn judge_marked(alloc: Global, plan: Plan, marks: HappensBefore, findings: FindingList) -> Verdict
     requires marks { AreMarks (plan_of plan) marks }
     requires those { AreFindings plan findings }
     ensures { JudgesPlan plan result }
 {
     if !findings.is_empty() {
-        return Judged::Found(PlanWithFindings { plan, findings });
+        return Verdict::Found(PlanWithFindings { plan, findings });
     }
     match Settled::try_new(plan, marks, Vec::new(alloc)) {
-        Ok(settled) => Judged::Clean(settled),
+        Ok(settled) => Verdict::Clean(settled),
         Err(_) => unreachable!(),
     }
 }
@@ -185,7 +186,7 @@ fn judge_scripts(
     rt: &(impl Threads + Sync),
     alloc: Global,
     scripts: Scripts,
-) -> Result<Judged, Fault>
+) -> Result<Verdict, Fault>
     ensures ok { IfOk result (JudgesPlan scripts) }
     ensures err { IfErr result (λ e. e ≡ Memory) }
 {
@@ -218,7 +219,7 @@ fn run_settled<R: Threads + Wait + Sync, G: Gate + Sync>(
     rt: &R,
     alloc: Global,
     settled: &Settled,
-    manner: Replaying<'_, G>,
+    manner: ReplaySettings<'_, G>,
 ) -> Result<(Replayed, Vec<u8>), Fault>
     requires workers { MayWork manner.workers }
     requires none { AreFindings settled.now [] }
@@ -239,7 +240,7 @@ fn replay_settled<R: Threads + Wait + Sync, G: Gate + Sync, W: Sink>(
     rt: &R,
     alloc: Global,
     settled: &Settled,
-    manner: Replaying<'_, G>,
+    manner: ReplaySettings<'_, G>,
     writer: &mut W,
 ) -> Result<Replayed, Fault>
     requires workers { MayWork manner.workers }
@@ -261,7 +262,7 @@ fn run_anyway<R: Threads + Wait + Sync, G: Gate + Sync>(
     rt: &R,
     alloc: Global,
     plan: &Plan,
-    manner: Replaying<'_, G>,
+    manner: ReplaySettings<'_, G>,
 ) -> Result<Vec<u8>, Fault>
     requires { MayWork manner.workers }
     ensures ok { IfOk result (λ text. TellsRun manner.entry.mode.json plan.now text.items) }
@@ -282,7 +283,7 @@ fn write_found<R: Threads + Wait + Sync, G: Gate + Sync, W: Sink>(
     rt: &R,
     alloc: Global,
     found: &PlanWithFindings,
-    manner: Replaying<'_, G>,
+    manner: ReplaySettings<'_, G>,
     writer: &mut W,
 ) -> Result<(), Fault>
     requires { MayWork manner.workers }
@@ -305,7 +306,7 @@ fn replay_found<R: Threads + Wait + Sync, G: Gate + Sync, W: Sink>(
     rt: &R,
     alloc: Global,
     found: &PlanWithFindings,
-    manner: Replaying<'_, G>,
+    manner: ReplaySettings<'_, G>,
     writer: &mut W,
 ) -> Result<Replayed, Fault>
     requires workers { MayWork manner.workers }
@@ -332,7 +333,7 @@ fn replay_scripts<R: Threads + Wait + Sync, G: Gate + Sync, W: Sink>(
     rt: &R,
     alloc: Global,
     scripts: Scripts,
-    manner: Replaying<'_, G>,
+    manner: ReplaySettings<'_, G>,
     writer: &mut W,
 ) -> Result<Replayed, Fault>
     requires workers { MayWork manner.workers }
@@ -344,12 +345,12 @@ fn replay_scripts<R: Threads + Wait + Sync, G: Gate + Sync, W: Sink>(
         × (W.failures writer.new ≡ one_more (W.failures writer.old)))) }
 {
     match judge_scripts(rt, alloc, scripts)? {
-        Judged::Clean(settled) => {
+        Verdict::Clean(settled) => {
             let end = replay_settled(rt, alloc, &settled, manner, writer);
             drop(settled);
             end
         }
-        Judged::Found(found) => {
+        Verdict::Found(found) => {
             let end = replay_found(rt, alloc, &found, manner, writer);
             drop(found);
             end

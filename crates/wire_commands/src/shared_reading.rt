@@ -10,9 +10,9 @@ ghost use Rattle.wire_commands.specs.Answer.{ReadIn, ReadPlaced};
 use crate::reading::read_up_to;
 use std::alloc::Global;
 use std::thread::Threads;
-use wire_content::Scripts;
-use wire_script::{Size, read_located_shared, read_shared};
-use wire_types::{Fault, Form, Source};
+use wire_reader::{Size, read_located_shared, read_shared};
+use wire_scripts::Scripts;
+use wire_types::{Fault, OutputFormat, Source};
 
 /// The scripts of a file, as `crate::reading::read_scripts` reads them.
 pub(crate) fn read_scripts<R: Source>(
@@ -55,7 +55,7 @@ pub(crate) fn read_in<R: Source>(
     rt: &(impl Threads + Sync),
     alloc: Global,
     size: Size,
-    form: Form,
+    form: OutputFormat,
     reader: &mut R,
 ) -> Result<(Scripts, Vec<Vec<u64>>), Fault>
     ensures ok { IfOk result (λ r. ReadIn size form (R.coming reader.old) r.0 (lists_of r.1.items)) }

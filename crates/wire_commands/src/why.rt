@@ -8,7 +8,7 @@ ghost use Rattle.wire_types.specs.declared.Fault.TheVariants.{Memory, Read};
 ghost use Rattle.wire_types.specs.Counting.{one_more};
 ghost use Rattle.wire_types.specs.Forms.{is_json};
 ghost use Rattle.wire_types.specs.Texts.{lists_of, texts_of};
-ghost use Rattle.wire_content.specs.Planned.{plan_of};
+ghost use Rattle.wire_scripts.specs.Planned.{plan_of};
 ghost use Rattle.wire_runs.specs.Ends.{calls_of};
 ghost use Rattle.wire_runs.specs.Plan.{event_count, event_of};
 ghost use Rattle.wire_report.specs.Chain.{AreDead};
@@ -16,27 +16,27 @@ ghost use Rattle.wire_report.specs.There.{AreThere};
 ghost use Rattle.wire_commands.specs.Answer.{BreaksOff, Writes, rows_in};
 ghost use Rattle.wire_commands.specs.CallsJson as spec;
 ghost use Rattle.wire_commands.specs.Chains as chains;
-ghost use Rattle.wire_commands.specs.Why.{Answers, Asks, StopsBeforeAnswer, TellsOrder};
+ghost use Rattle.wire_commands.specs.Why.{ExplainsOrder, QuestionNames, StopsBeforeAnswer, TellsOrder};
 
 use crate::answer::{Answer, write_answer};
 use crate::calls_json::{place_json, step_json};
 use crate::ended::Ended;
 use crate::json_builder::JsonBuilder;
-use crate::manner::{Manner, Telling};
+use crate::manner::{AnswerStyle, CommandOptions};
 use crate::reading::read_in;
 use std::alloc::{AllocError, Global};
-use wire_content::Scripts;
+use wire_happens_before::{HappensBefore, MarkedPlan};
 use wire_json::{ChainStep, which_word};
-use wire_marks::{MarkedPlan, Marks};
 use wire_plan::Plan;
+use wire_reader::{Question, read_question};
 use wire_report::{
-    Places, chain_steps, chain_text, find_dead_calls, order_line, push_dead_line, push_event,
+    SourceLines, chain_steps, chain_text, find_dead_calls, order_line, push_dead_line, push_event,
     push_place,
 };
-use wire_script::{Question, read_question};
+use wire_scripts::Scripts;
 use wire_types::{CallAt, Event, Fault, Sink, Source};
 
-/// Answers whether a chain of events leads from one call of a plan to another: reads the plan to its end, and writes
+/// ExplainsOrder whether a chain of events leads from one call of a plan to another: reads the plan to its end, and writes
 /// `before` and the events of the chain, else `after` and those of the chain the other way round, else `unordered` and
 /// which of the two calls isn't live. Where a chain leads from one event to another, the first has happened in every
 /// run in which the second does. In a form with places the name of the file and the line of its call stand before each
@@ -47,20 +47,20 @@ use wire_types::{CallAt, Event, Fault, Sink, Source};
 /// word, from 1. After the fault `Write` the front of the answer that it counts is written, after any other fault
 /// nothing. `Memory` may come in place of any other answer. What is said of bytes is said where the reader and the
 /// writer tell theirs.
-pub fn answer_question<R: Source, W: Sink>(
+pub fn explain_order<R: Source, W: Sink>(
     alloc: Global,
-    manner: Manner<'_>,
+    manner: CommandOptions<'_>,
     reader: &mut R,
     writer: &mut W,
     words: [&str; 4],
 ) -> Result<Ended, Fault>
     ensures ok { IfOk result (λ ended. Writes manner.entry.size manner.entry.form (R.coming reader.old)
-        (Answers manner.entry.form manner.entry.name.now (texts_of words.entry)) ended (W.written writer.old) (W.written writer.new)) }
+        (ExplainsOrder manner.entry.form manner.entry.name.now (texts_of words.entry)) ended (W.written writer.old) (W.written writer.new)) }
     ensures quiet { OnOk result ((R.failures reader.new ≡ R.failures reader.old) × (W.failures writer.new ≡ W.failures writer.old)) }
 
     // Either nothing was written, or the front of the answer that the fault counts.
     ensures err { IfErr result (λ e. (StopsBeforeAnswer manner.entry.size (R.coming reader.old) (texts_of words.entry) e × (writer.new ≡ writer.old))
-        ⊎ (BreaksOff manner.entry.size manner.entry.form (R.coming reader.old) (Answers manner.entry.form manner.entry.name.now (texts_of words.entry))
+        ⊎ (BreaksOff manner.entry.size manner.entry.form (R.coming reader.old) (ExplainsOrder manner.entry.form manner.entry.name.now (texts_of words.entry))
         (W.written writer.old) (W.written writer.new) e × (W.failures writer.new ≡ one_more (W.failures writer.old)))) }
 
     // A failed read is answered only where the reader failed.
@@ -68,12 +68,12 @@ pub fn answer_question<R: Source, W: Sink>(
     ensures unfailed { IfErr result (λ e. e ≢ Memory → e ≢ Read → R.failures reader.new ≡ R.failures reader.old) }
 {
     let (scripts, rows) = read_in(alloc, manner.size, manner.form, reader)?;
-    let places = Places {
+    let places = SourceLines {
         name: manner.name,
         rows: rows.as_slice(),
     };
     let form = manner.form;
-    let answer = answer_scripts(alloc, scripts, Telling { places, form }, words)?;
+    let answer = answer_scripts(alloc, scripts, AnswerStyle { places, form }, words)?;
     write_answer(writer, &answer)
 }
 
@@ -81,12 +81,12 @@ pub fn answer_question<R: Source, W: Sink>(
 fn answer_scripts(
     alloc: Global,
     scripts: Scripts,
-    telling: Telling<'_>,
+    telling: AnswerStyle<'_>,
     words: [&str; 4],
 ) -> Result<Answer, Fault>
-    ensures ok { IfOk result (λ answer. Answers telling.entry.form telling.entry.places.name.now (texts_of words.entry) scripts
+    ensures ok { IfOk result (λ answer. ExplainsOrder telling.entry.form telling.entry.places.name.now (texts_of words.entry) scripts
         (rows_in telling.entry.places) answer.text.items answer.ended) }
-    ensures err { IfErr result (λ e. (e ≡ Memory) ⊎ Asks scripts (texts_of words.entry) (Err e)) }
+    ensures err { IfErr result (λ e. (e ≡ Memory) ⊎ QuestionNames scripts (texts_of words.entry) (Err e)) }
 {
     let plan = Plan::build(alloc, scripts)?;
     let answer = answer_plan(alloc, &plan, telling, words);
@@ -98,12 +98,12 @@ fn answer_scripts(
 fn answer_plan(
     alloc: Global,
     plan: &Plan,
-    telling: Telling<'_>,
+    telling: AnswerStyle<'_>,
     words: [&str; 4],
 ) -> Result<Answer, Fault>
-    ensures ok { IfOk result (λ answer. Answers telling.entry.form telling.entry.places.name.now (texts_of words.entry) plan.now
+    ensures ok { IfOk result (λ answer. ExplainsOrder telling.entry.form telling.entry.places.name.now (texts_of words.entry) plan.now
         (rows_in telling.entry.places) answer.text.items answer.ended) }
-    ensures err { IfErr result (λ e. (e ≡ Memory) ⊎ Asks plan.now (texts_of words.entry) (Err e)) }
+    ensures err { IfErr result (λ e. (e ≡ Memory) ⊎ QuestionNames plan.now (texts_of words.entry) (Err e)) }
 {
     let calls = read_pair(alloc, plan.scripts(), words)?;
     let text = text_between(alloc, plan, telling, calls)?;
@@ -119,10 +119,10 @@ pub(crate) fn read_pair(
     scripts: &Scripts,
     words: [&str; 4],
 ) -> Result<(CallAt, CallAt), Fault>
-    ensures ok { IfOk result (λ calls. Asks scripts.now (texts_of words.entry) (Ok calls)) }
+    ensures ok { IfOk result (λ calls. QuestionNames scripts.now (texts_of words.entry) (Ok calls)) }
     ensures x_there { IfOk result (λ calls. calls.0.call < length (calls_of (plan_of scripts.now) calls.0.proc.number)) }
     ensures y_there { IfOk result (λ calls. calls.1.call < length (calls_of (plan_of scripts.now) calls.1.proc.number)) }
-    ensures err { IfErr result (λ e. (e ≡ Memory) ⊎ Asks scripts.now (texts_of words.entry) (Err e)) }
+    ensures err { IfErr result (λ e. (e ≡ Memory) ⊎ QuestionNames scripts.now (texts_of words.entry) (Err e)) }
 {
     let question = Question {
         proc: words[0],
@@ -137,7 +137,7 @@ pub(crate) fn read_pair(
 fn text_between(
     alloc: Global,
     plan: &Plan,
-    telling: Telling<'_>,
+    telling: AnswerStyle<'_>,
     calls: (CallAt, CallAt),
 ) -> Result<Vec<u8>, Fault>
     requires x_there { calls.0.call < length (calls_of (plan_of plan.now) calls.0.proc.number) }
@@ -146,7 +146,7 @@ fn text_between(
         plan.now calls.0 calls.1 text.items) }
     ensures err { IfErr result (λ e. e ≡ Memory) }
 {
-    let marks = Marks::of(alloc, plan)?;
+    let marks = HappensBefore::of(alloc, plan)?;
     let marked = marks.with(plan);
     if telling.form.has_places() {
         return placed_chain_text(alloc, &marked, telling, calls);
@@ -158,7 +158,7 @@ fn text_between(
 fn placed_chain_text(
     alloc: Global,
     marked: &MarkedPlan<'_>,
-    telling: Telling<'_>,
+    telling: AnswerStyle<'_>,
     calls: (CallAt, CallAt),
 ) -> Result<Vec<u8>, Fault>
     requires x_there { calls.0.call < length (calls_of (plan_of marked.now) calls.0.proc.number) }
@@ -185,7 +185,7 @@ fn placed_chain_text(
 fn ordered_text(
     alloc: Global,
     plan: &Plan,
-    telling: Telling<'_>,
+    telling: AnswerStyle<'_>,
     first: bool,
     chain: &[Event],
 ) -> Result<Vec<u8>, Fault>
@@ -206,7 +206,7 @@ fn ordered_text(
 fn ordered_json(
     alloc: Global,
     plan: &Plan,
-    places: Places<'_>,
+    places: SourceLines<'_>,
     first: bool,
     chain: &[Event],
 ) -> Result<Vec<u8>, AllocError>
@@ -222,7 +222,7 @@ fn ordered_json(
 fn unordered_text(
     alloc: Global,
     marked: &MarkedPlan<'_>,
-    telling: Telling<'_>,
+    telling: AnswerStyle<'_>,
     calls: (CallAt, CallAt),
 ) -> Result<Vec<u8>, Fault>
     requires x_there { calls.0.call < length (calls_of (plan_of marked.now) calls.0.proc.number) }
@@ -241,7 +241,7 @@ fn unordered_text(
 fn dead_text(
     alloc: Global,
     scripts: &Scripts,
-    telling: Telling<'_>,
+    telling: AnswerStyle<'_>,
     dead: &[CallAt],
 ) -> Result<Vec<u8>, AllocError>
     ensures { IfOk result (λ text. text.items ≡ chains.unordered_form (is_json telling.entry.form) telling.entry.places.name.now
@@ -259,7 +259,7 @@ fn dead_text(
 fn push_dead(
     out: &mut Vec<u8>,
     scripts: &Scripts,
-    places: Places<'_>,
+    places: SourceLines<'_>,
     dead: &[CallAt],
 ) -> Result<(), AllocError>
     ensures { OnOk result (out.new.items ≡ out.old.items
@@ -275,7 +275,7 @@ fn push_dead(
 fn push_placed_dead(
     out: &mut Vec<u8>,
     scripts: &Scripts,
-    places: Places<'_>,
+    places: SourceLines<'_>,
     call: CallAt,
 ) -> Result<(), AllocError>
     ensures { OnOk result (out.new.items ≡ out.old.items
@@ -289,7 +289,7 @@ fn push_placed_dead(
 fn push_events(
     out: &mut Vec<u8>,
     plan: &Plan,
-    places: Places<'_>,
+    places: SourceLines<'_>,
     chain: &[Event],
 ) -> Result<(), AllocError>
     requires { AreThere (plan_of plan.now) chain.now }
@@ -306,7 +306,7 @@ fn push_events(
 fn push_placed_event(
     out: &mut Vec<u8>,
     plan: &Plan,
-    places: Places<'_>,
+    places: SourceLines<'_>,
     event: Event,
 ) -> Result<(), AllocError>
     requires { event.at < event_count (plan_of plan.now) event.proc.number }

@@ -6,10 +6,10 @@ ghost use Rattle.wire_types.specs.declared.Fault.TheVariants.{Memory, Read};
 ghost use Rattle.wire_types.specs.Counting.{one_more};
 ghost use Rattle.wire_types.specs.Forms.{is_json};
 ghost use Rattle.wire_types.specs.Texts.{lists_of, texts_of};
-ghost use Rattle.wire_content.specs.Scripts.{numbers_of};
+ghost use Rattle.wire_scripts.specs.Scripts.{numbers_of};
 ghost use Rattle.wire_commands.specs.Answer.{BreaksOff, Writes, rows_in};
 ghost use Rattle.wire_commands.specs.CallsJson as json;
-ghost use Rattle.wire_commands.specs.Why.{Asks, StopsBeforeAnswer};
+ghost use Rattle.wire_commands.specs.Why.{QuestionNames, StopsBeforeAnswer};
 ghost use Rattle.wire_commands.specs.Witness as spec;
 ghost use Rattle.wire_commands.specs.Witness.{ShowsPair};
 
@@ -17,18 +17,19 @@ use crate::answer::{Answer, write_answer};
 use crate::calls_json::call_json;
 use crate::ended::Ended;
 use crate::json_builder::JsonBuilder;
-use crate::manner::{Manner, Telling};
+use crate::manner::{AnswerStyle, CommandOptions};
 use crate::shared_reading::read_in;
 use crate::why::read_pair;
 use std::alloc::{AllocError, Global};
 use std::thread::Threads;
-use wire_content::Scripts;
 use wire_json::{RunTold, run_json, witness_json};
 use wire_plan::Plan;
 use wire_report::{
-    Places, push_ends, push_note, push_orders, push_place, push_shown, push_steps, unshown_text,
+    SourceLines, push_ends, push_note, push_orders, push_place, push_shown, push_steps,
+    unshown_text,
 };
-use wire_types::{CallAt, Fault, Form, Orders, Proc, Sink, Source};
+use wire_scripts::Scripts;
+use wire_types::{CallAt, Fault, Orders, OutputFormat, Proc, Sink, Source};
 use wire_witness::{PairSearch, Witness, search_pair};
 
 /// The two calls that `witness` is asked about, as four words, and what is written of their runs.
@@ -45,13 +46,13 @@ pub struct PairAsked<'a> {
 /// such runs are found, it says so, and nothing of other runs.
 ///
 /// It answers `Found(1)` where it shows the race, else `Clean`. The words and the faults are those of
-/// [`crate::why::answer_question`]. After the fault `Write` the front of the text that it counts is written, after any
+/// [`crate::why::explain_order`]. After the fault `Write` the front of the text that it counts is written, after any
 /// other fault nothing. `Memory` may come in place of any other answer. What is said of bytes is said where the reader
 /// and the writer tell theirs.
 pub fn witness_pair<R: Source, W: Sink>(
     rt: &(impl Threads + Sync),
     alloc: Global,
-    manner: Manner<'_>,
+    manner: CommandOptions<'_>,
     reader: &mut R,
     writer: &mut W,
     asked: PairAsked<'_>,
@@ -72,12 +73,12 @@ pub fn witness_pair<R: Source, W: Sink>(
     ensures unfailed { IfErr result (λ e. e ≢ Memory → e ≢ Read → R.failures reader.new ≡ R.failures reader.old) }
 {
     let (scripts, rows) = read_in(rt, alloc, manner.size, manner.form, reader)?;
-    let places = Places {
+    let places = SourceLines {
         name: manner.name,
         rows: rows.as_slice(),
     };
     let form = manner.form;
-    let answer = answer_scripts(alloc, scripts, Telling { places, form }, asked)?;
+    let answer = answer_scripts(alloc, scripts, AnswerStyle { places, form }, asked)?;
     write_answer(writer, &answer)
 }
 
@@ -85,12 +86,12 @@ pub fn witness_pair<R: Source, W: Sink>(
 fn answer_scripts(
     alloc: Global,
     scripts: Scripts,
-    telling: Telling<'_>,
+    telling: AnswerStyle<'_>,
     asked: PairAsked<'_>,
 ) -> Result<Answer, Fault>
     ensures ok { IfOk result (λ answer. ShowsPair telling.entry.form telling.entry.places.name.now (texts_of asked.entry.words) asked.entry.orders scripts
         (rows_in telling.entry.places) answer.text.items answer.ended) }
-    ensures err { IfErr result (λ e. (e ≡ Memory) ⊎ Asks scripts (texts_of asked.entry.words) (Err e)) }
+    ensures err { IfErr result (λ e. (e ≡ Memory) ⊎ QuestionNames scripts (texts_of asked.entry.words) (Err e)) }
 {
     let plan = Plan::build(alloc, scripts)?;
     let answer = answer_plan(alloc, &plan, telling, asked);
@@ -102,12 +103,12 @@ fn answer_scripts(
 fn answer_plan(
     alloc: Global,
     plan: &Plan,
-    telling: Telling<'_>,
+    telling: AnswerStyle<'_>,
     asked: PairAsked<'_>,
 ) -> Result<Answer, Fault>
     ensures ok { IfOk result (λ answer. ShowsPair telling.entry.form telling.entry.places.name.now (texts_of asked.entry.words) asked.entry.orders plan.now
         (rows_in telling.entry.places) answer.text.items answer.ended) }
-    ensures err { IfErr result (λ e. (e ≡ Memory) ⊎ Asks plan.now (texts_of asked.entry.words) (Err e)) }
+    ensures err { IfErr result (λ e. (e ≡ Memory) ⊎ QuestionNames plan.now (texts_of asked.entry.words) (Err e)) }
 {
     let calls = read_pair(alloc, plan.scripts(), asked.words)?;
     let search = search_pair(alloc, plan, calls)?;
@@ -122,7 +123,7 @@ fn answer_plan(
 fn pair_text(
     alloc: Global,
     scripts: &Scripts,
-    telling: Telling<'_>,
+    telling: AnswerStyle<'_>,
     orders: Orders,
     search: &PairSearch,
 ) -> Result<Vec<u8>, AllocError>
@@ -140,7 +141,7 @@ fn pair_text(
 fn witness_text(
     alloc: Global,
     scripts: &Scripts,
-    telling: Telling<'_>,
+    telling: AnswerStyle<'_>,
     orders: Orders,
     witness: &Witness,
 ) -> Result<Vec<u8>, AllocError>
@@ -158,17 +159,17 @@ fn witness_text(
 fn whole_text(
     alloc: Global,
     scripts: &Scripts,
-    telling: Telling<'_>,
+    telling: AnswerStyle<'_>,
     witness: &Witness,
 ) -> Result<Vec<u8>, AllocError>
     ensures { IfOk result (λ text. text.items ≡ spec.whole_text telling.entry.form telling.entry.places.name.now (rows_in telling.entry.places)
         scripts.now witness.now) }
 {
     match telling.form {
-        Form::Lines => lines_text(alloc, scripts, witness),
-        Form::Places => placed_text(alloc, scripts, telling.places, witness),
-        Form::Json => whole_json(alloc, scripts, witness),
-        Form::PlacedJson => placed_json(alloc, scripts, telling.places.rows, witness),
+        OutputFormat::Lines => lines_text(alloc, scripts, witness),
+        OutputFormat::Places => located_text(alloc, scripts, telling.places, witness),
+        OutputFormat::Json => whole_json(alloc, scripts, witness),
+        OutputFormat::PlacedJson => placed_json(alloc, scripts, telling.places.rows, witness),
     }
 }
 
@@ -176,7 +177,7 @@ fn whole_text(
 fn push_calls(
     out: &mut Vec<u8>,
     scripts: &Scripts,
-    places: Places<'_>,
+    places: SourceLines<'_>,
     call: CallAt,
     other: CallAt,
 ) -> Result<(), AllocError>
@@ -189,10 +190,10 @@ fn push_calls(
 }
 
 /// The lines of a witness, with the places of its calls.
-fn placed_text(
+fn located_text(
     alloc: Global,
     scripts: &Scripts,
-    places: Places<'_>,
+    places: SourceLines<'_>,
     witness: &Witness,
 ) -> Result<Vec<u8>, AllocError>
     ensures { IfOk result (λ text. text.items

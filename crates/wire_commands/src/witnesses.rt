@@ -16,17 +16,17 @@ use crate::answer::{Answer, write_answer};
 use crate::calls_json::{begin_finding, place_json};
 use crate::ended::Ended;
 use crate::json_builder::JsonBuilder;
-use crate::manner::{Manner, Telling};
+use crate::manner::{AnswerStyle, CommandOptions};
 use crate::shared_reading::read_in;
 use std::alloc::{AllocError, Global};
 use std::thread::Threads;
-use wire_content::Scripts;
 use wire_json::{counts_json, races_json};
 use wire_plan::Plan;
 use wire_report::{
-    Places, pair_of, push_counts, push_finding, push_place, push_second, push_tried,
+    SourceLines, pair_of, push_counts, push_finding, push_place, push_second, push_tried,
 };
-use wire_types::{CallAt, Fault, Form, Sink, Source};
+use wire_scripts::Scripts;
+use wire_types::{CallAt, Fault, OutputFormat, Sink, Source};
 use wire_witness::{RaceSearch, TriedRace, search_races};
 
 /// Tries to show the races of a plan: reads the plan to its end, and looks for two runs of each race, of
@@ -43,7 +43,7 @@ use wire_witness::{RaceSearch, TriedRace, search_races};
 pub fn witness_races<R: Source, W: Sink>(
     rt: &(impl Threads + Sync),
     alloc: Global,
-    manner: Manner<'_>,
+    manner: CommandOptions<'_>,
     reader: &mut R,
     writer: &mut W,
     most: usize,
@@ -62,12 +62,12 @@ pub fn witness_races<R: Source, W: Sink>(
     ensures unfailed { IfErr result (λ e. e ≢ Memory → e ≢ Read → R.failures reader.new ≡ R.failures reader.old) }
 {
     let (scripts, rows) = read_in(rt, alloc, manner.size, manner.form, reader)?;
-    let places = Places {
+    let places = SourceLines {
         name: manner.name,
         rows: rows.as_slice(),
     };
     let form = manner.form;
-    let telling = Telling { places, form };
+    let telling = AnswerStyle { places, form };
     let answer = answer_scripts(rt, alloc, scripts, Tries { most, telling })?;
     write_answer(writer, &answer)
 }
@@ -76,7 +76,7 @@ pub fn witness_races<R: Source, W: Sink>(
 #[derive(Clone, Copy)]
 struct Tries<'a> {
     most: usize,
-    telling: Telling<'a>,
+    telling: AnswerStyle<'a>,
 }
 
 /// The answer about the races of scripts.
@@ -119,28 +119,28 @@ fn answer_plan(
 fn races_text(
     alloc: Global,
     scripts: &Scripts,
-    telling: Telling<'_>,
+    telling: AnswerStyle<'_>,
     search: &RaceSearch,
 ) -> Result<Vec<u8>, AllocError>
     ensures { IfOk result (λ text. text.items ≡ spec.races_form telling.entry.form telling.entry.places.name.now (rows_in telling.entry.places)
         scripts.now search.now) }
 {
     match telling.form {
-        Form::Lines => lines_text(alloc, scripts, search),
-        Form::Places => placed_text(alloc, scripts, telling.places, search),
-        Form::Json => plain_json(alloc, scripts, search),
-        Form::PlacedJson => placed_json(alloc, scripts, telling.places.rows, search),
+        OutputFormat::Lines => lines_text(alloc, scripts, search),
+        OutputFormat::Places => located_text(alloc, scripts, telling.places, search),
+        OutputFormat::Json => plain_json(alloc, scripts, search),
+        OutputFormat::PlacedJson => placed_json(alloc, scripts, telling.places.rows, search),
     }
 }
 
 /// The lines of a search, with the places of the calls.
-fn placed_text(
+fn located_text(
     alloc: Global,
     scripts: &Scripts,
-    places: Places<'_>,
+    places: SourceLines<'_>,
     search: &RaceSearch,
 ) -> Result<Vec<u8>, AllocError>
-    ensures { IfOk result (λ text. text.items ≡ spec.placed_text places.entry.name.now (rows_in places.entry) scripts.now search.now) }
+    ensures { IfOk result (λ text. text.items ≡ spec.located_text places.entry.name.now (rows_in places.entry) scripts.now search.now) }
 {
     let mut text = Vec::new(alloc);
     push_races(&mut text, scripts, places, search.tried.as_slice())?;
@@ -152,7 +152,7 @@ fn placed_text(
 fn push_races(
     out: &mut Vec<u8>,
     scripts: &Scripts,
-    places: Places<'_>,
+    places: SourceLines<'_>,
     tried: &[TriedRace],
 ) -> Result<(), AllocError>
     ensures { OnOk result (out.new.items ≡ out.old.items
@@ -168,7 +168,7 @@ fn push_races(
 fn push_race(
     out: &mut Vec<u8>,
     scripts: &Scripts,
-    places: Places<'_>,
+    places: SourceLines<'_>,
     tried: TriedRace,
 ) -> Result<(), AllocError>
     ensures { OnOk result (out.new.items ≡ out.old.items

@@ -11,8 +11,8 @@ use Rattle.std.proofs.Math.Bool.{and-false}
 use Rattle.wire_runs.specs.Plan.{Plan, Kind, Arrive, kind_at, event_count}
 use Rattle.wire_runs.specs.Puts.{stored}
 use Rattle.wire_runs.specs.Fences.{arrivals, is_complete, is_collecting, has_node}
-use Rattle.wire_content.specs.Scripts.{Scripts, set_at}
-use Rattle.wire_content.specs.Planned.{plan_of}
+use Rattle.wire_scripts.specs.Scripts.{Scripts, set_at}
+use Rattle.wire_scripts.specs.Planned.{plan_of}
 use Rattle.wire_fence.specs.FenceTable.{FenceTable, AreFencesOf, fence_at, collects_in, reaches_in}
 use Rattle.wire_runs.specs.Sight.{has_brought, delivered, delivered_with, stored_at_with}
 use Rattle.wire_runs.proofs.Basics.{arrivals_step, arrivals_rise, list_all_at_member}

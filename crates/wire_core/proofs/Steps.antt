@@ -12,8 +12,8 @@ use Rattle.wire_types.specs.declared.CallAt.{CallAt}
 use Rattle.wire_types.specs.declared.Reply.{Reply}
 use Rattle.wire_types.specs.declared.CallEnd.{CallEnd}
 use Rattle.wire_types.specs.declared.CallEnd.TheVariants.{Replied}
-use Rattle.wire_content.specs.Scripts.{Scripts}
-use Rattle.wire_content.specs.Planned.{plan_of}
+use Rattle.wire_scripts.specs.Scripts.{Scripts}
+use Rattle.wire_scripts.specs.Planned.{plan_of}
 use Rattle.wire_store.specs.Kept.{kept_with, kept_after}
 use Rattle.wire_plan.specs.declared.Kind.{Kind as CodeKind}
 use Rattle.wire_plan.specs.declared.Kind.TheVariants as code

@@ -12,15 +12,15 @@ use Rattle.wire_runs.specs.State.{State, next_event}
 use Rattle.wire_runs.specs.Sight.{held, served}
 use Rattle.wire_runs.specs.Step.{is_seen, may_do, is_enabled, is_publisher, name_after, step}
 use Rattle.wire_runs.proofs.Due.{done_same, done_other, place_path}
-use Rattle.wire_content.specs.Scripts.{Scripts}
-use Rattle.wire_content.specs.Planned.{plan_of}
+use Rattle.wire_scripts.specs.Scripts.{Scripts}
+use Rattle.wire_scripts.specs.Planned.{plan_of}
 use Rattle.wire_fence.specs.declared.FenceId.{FenceId}
 use Rattle.wire_fence.specs.FenceTable.{FenceTable}
 use Rattle.wire_fence.specs.Arrivals.{TellsMissing, missing_at}
 use Rattle.wire_fence.proofs.Missing.{complete_is}
 use Rattle.wire_plan.specs.Meetings.{IsMet}
 use Rattle.wire_core.specs.Met.{ArrivesAt, after_arrival}
-use Rattle.wire_core.specs.Waiting.{is_known, is_same_thing, after, coming, Awaits, AreNoted, IsFirst, AreUnknown}
+use Rattle.wire_core.specs.Waiting.{is_known_wait, is_same_thing, after, coming, Awaits, AreNotesTrue, IsFirst, AreUnknown}
 use Rattle.wire_runs.specs.PlainRun.{or_else, lowest}
 use Rattle.wire_core.specs.declared.waits.Awaited.{Awaited}
 use Rattle.wire_core.specs.declared.waits.Awaited.TheVariants as wait
@@ -157,8 +157,8 @@ unknown_after comes = cond_both (is_same_thing comes wait.Unknown) wait.Unknown 
 -- the notes after p's event, of which those are forgotten that await what it brings, and p's own
 pub noted_step : (s : Scripts) (table : FenceTable) (state : State) (missing : List ℕ) (p : Proc) (fence : Option FenceId) (e : Kind) (notes : List Awaited) →
     kind_at (plan_of s) p.number (state.done p.number) ≡ Some e → ArrivesAt s table (next_event state p.number) (option_map (λ f. f.number) fence) → TellsMissing s state.done table missing →
-    TellsMissing s (step (plan_of s) state p.number).done table (after_arrival (option_map (λ f. f.number) fence) missing) → p.number < process_count (plan_of s) → AreNoted s table state notes →
-    AreNoted s table (step (plan_of s) state p.number) (slice_set (map (after (coming p fence (after_arrival (option_map (λ f. f.number) fence) missing) e)) notes) p.number wait.Unknown)
+    TellsMissing s (step (plan_of s) state p.number).done table (after_arrival (option_map (λ f. f.number) fence) missing) → p.number < process_count (plan_of s) → AreNotesTrue s table state notes →
+    AreNotesTrue s table (step (plan_of s) state p.number) (slice_set (map (after (coming p fence (after_arrival (option_map (λ f. f.number) fence) missing) e)) notes) p.number wait.Unknown)
 noted_step s table state missing p fence e notes is arrives tells tells_then within noted =
     let comes = coming p fence (after_arrival (option_map (λ f. f.number) fence) missing) e in
     let woken = map (after comes) notes in
@@ -170,15 +170,15 @@ noted_step s table state missing p fence e notes is arrives tells tells_then wit
             let long = length-map notes (after comes) in
             let here = ap (λ n. slice_index_or (slice_set woken p.number wait.Unknown) n wait.Unknown) same
             ∙ get_or-set_same woken p.number wait.Unknown wait.Unknown (omega (arith, count, long, within)) in
-            absurd (true≢false (sym known ∙ ap is_known here))
+            absurd (true≢false (sym known ∙ ap is_known_wait here))
         | inr other ↦
             let w = slice_index_or notes q wait.Unknown in
             let here = get_or-set_other woken p.number q wait.Unknown wait.Unknown other ∙ map_at (after comes) (unknown_after comes) notes q in
             elim (cases_Bool (is_same_thing comes w)) [
-              | inl t ↦ absurd (true≢false (sym known ∙ ap is_known (here ∙ ap (λ b. cond b wait.Unknown w) t)))
+              | inl t ↦ absurd (true≢false (sym known ∙ ap is_known_wait (here ∙ ap (λ b. cond b wait.Unknown w) t)))
               | inr f ↦
                   let same : slice_index_or (slice_set woken p.number wait.Unknown) q wait.Unknown ≡ w = here ∙ ap (λ b. cond b wait.Unknown w) f in
-                  let before = noted.each q (ap is_known (sym same) ∙ known) in (
+                  let before = noted.each q (ap is_known_wait (sym same) ∙ known) in (
                     still s table state missing p fence e is arrives tells tells_then q w before.1 other f before.0,
                     subst (λ v. Awaits s table (next_event (step (plan_of s) state p.number) q) v) (sym same)
                         (subst (λ y. Awaits s table y w) (sym (next_same (plan_of s) state p.number q other)) before.1),
@@ -188,10 +188,10 @@ noted_step s table state missing p fence e notes is arrives tells tells_then wit
     }
 
 -- nothing is noted at the start
-pub noted_first : (s : Scripts) (table : FenceTable) (state : State) (n : ℕ) → n ≡ process_count (plan_of s) → AreNoted s table state (replicate n wait.Unknown)
+pub noted_first : (s : Scripts) (table : FenceTable) (state : State) (n : ℕ) → n ≡ process_count (plan_of s) → AreNotesTrue s table state (replicate n wait.Unknown)
 noted_first s table state n count = record {
   count = length-replicate n wait.Unknown ∙ count;
-  each = λ p known. absurd (true≢false (sym known ∙ ap is_known (nothing n p)));
+  each = λ p known. absurd (true≢false (sym known ∙ ap is_known_wait (nothing n p)));
 }
   where
     nothing : (n p : ℕ) → slice_index_or (replicate n wait.Unknown) p wait.Unknown ≡ wait.Unknown
@@ -200,8 +200,8 @@ noted_first s table state n count = record {
     nothing (suc n) (suc p) = nothing n p
 
 -- one more note
-pub noted_more : (s : Scripts) (table : FenceTable) (state : State) (notes : List Awaited) (p : ℕ) (w : Awaited) → AreNoted s table state notes → p < process_count (plan_of s) →
-    is_enabled (plan_of s) state p ≡ false → Awaits s table (next_event state p) w → AreNoted s table state (slice_set notes p w)
+pub noted_more : (s : Scripts) (table : FenceTable) (state : State) (notes : List Awaited) (p : ℕ) (w : Awaited) → AreNotesTrue s table state notes → p < process_count (plan_of s) →
+    is_enabled (plan_of s) state p ≡ false → Awaits s table (next_event state p) w → AreNotesTrue s table state (slice_set notes p w)
 noted_more s table state notes p w noted within off awaits = record {
   count = length-set notes p w ∙ noted.count;
   each = λ q known. elim (cases_eq q p) [
@@ -213,19 +213,19 @@ noted_more s table state notes p w noted within off awaits = record {
         )
     | inr other ↦
         let here = get_or-set_other notes p q w wait.Unknown other in
-        subst (λ v. is_known v ≡ true → (is_enabled (plan_of s) state q ≡ false) × Awaits s table (next_event state q) v) (sym here) (noted.each q) known
+        subst (λ v. is_known_wait v ≡ true → (is_enabled (plan_of s) state q ≡ false) × Awaits s table (next_event state q) v) (sym here) (noted.each q) known
   ];
 }
 
 -- notes that what comes leaves as they are
-unknown_only : (w : Awaited) → is_known w ≡ false → w ≡ wait.Unknown
+unknown_only : (w : Awaited) → is_known_wait w ≡ false → w ≡ wait.Unknown
 unknown_only wait.Unknown none = refl
 unknown_only (wait.Commit p) none = absurd (true≢false none)
 unknown_only (wait.Fence f) none = absurd (true≢false none)
 unknown_only (wait.Publish name) none = absurd (true≢false none)
 unknown_only wait.Nothing none = absurd (true≢false none)
 
-pub nothing_comes : (comes : Awaited) (notes : List Awaited) → is_known comes ≡ false → notes ≡ map (after comes) notes
+pub nothing_comes : (comes : Awaited) (notes : List Awaited) → is_known_wait comes ≡ false → notes ≡ map (after comes) notes
 nothing_comes comes notes none = go notes ∙ ap (λ w. map (after w) notes) (sym (unknown_only comes none))
   where
     go : (notes : List Awaited) → notes ≡ map (after wait.Unknown) notes
@@ -239,19 +239,19 @@ nothing_noted comes (w ∷ notes) none =
     ∙ ap (λ ws. after comes w ∷ ws) (nothing_noted comes notes (λ p. none (suc p)))
 
 -- of the first processes something is known, so none of them is enabled
-known_within : (notes : List Awaited) (n : ℕ) → ((p : ℕ) → p < n → is_known (slice_index_or notes p wait.Unknown) ≡ true) → n ≤ length notes
+known_within : (notes : List Awaited) (n : ℕ) → ((p : ℕ) → p < n → is_known_wait (slice_index_or notes p wait.Unknown) ≡ true) → n ≤ length notes
 known_within notes n below = elim (cases_lt (length notes) n) [
-  | inl past ↦ absurd (true≢false (sym (below (length notes) past) ∙ ap is_known (get_or_past notes (length notes) wait.Unknown (omega arith))))
+  | inl past ↦ absurd (true≢false (sym (below (length notes) past) ∙ ap is_known_wait (get_or_past notes (length notes) wait.Unknown (omega arith))))
   | inr le ↦ le
 ]
 
-pub first_within : (s : Scripts) (table : FenceTable) (state : State) (notes : List Awaited) (n : ℕ) → AreNoted s table state notes → IsFirst notes n → n ≤ process_count (plan_of s)
+pub first_within : (s : Scripts) (table : FenceTable) (state : State) (notes : List Awaited) (n : ℕ) → AreNotesTrue s table state notes → IsFirst notes n → n ≤ process_count (plan_of s)
 first_within s table state notes n noted first = let le = known_within notes n first.below in let count = noted.count in omega (arith, le, count)
 
-pub none_before : (s : Scripts) (table : FenceTable) (state : State) (notes : List Awaited) (n : ℕ) → AreNoted s table state notes → IsFirst notes n → lowest (plan_of s) state n ≡ None
+pub none_before : (s : Scripts) (table : FenceTable) (state : State) (notes : List Awaited) (n : ℕ) → AreNotesTrue s table state notes → IsFirst notes n → lowest (plan_of s) state n ≡ None
 none_before s table state notes n noted first = go n (λ p lt. first.below p lt)
   where
-    go : (m : ℕ) → ((p : ℕ) → p < m → is_known (slice_index_or notes p wait.Unknown) ≡ true) → lowest (plan_of s) state m ≡ None
+    go : (m : ℕ) → ((p : ℕ) → p < m → is_known_wait (slice_index_or notes p wait.Unknown) ≡ true) → lowest (plan_of s) state m ≡ None
     go zero below = refl
     go (suc m) below =
         ap (λ o. or_else o (cond (is_enabled (plan_of s) state m) (Some m) None)) (go m (λ p lt. below p (omega (arith, lt))))

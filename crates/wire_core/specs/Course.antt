@@ -1,8 +1,8 @@
 -- What a core is seen as: the scripts that it runs, and the history of its steps.
 use Rattle.std.specs.Prelude.{ℕ, List}
 use Rattle.wire_runs.specs.Plan.{Plan}
-use Rattle.wire_content.specs.Scripts.{Scripts}
-use Rattle.wire_content.specs.Planned.{plan_of}
+use Rattle.wire_scripts.specs.Scripts.{Scripts}
+use Rattle.wire_scripts.specs.Planned.{plan_of}
 use Rattle.wire_runs.specs.State.{State}
 use Rattle.wire_runs.specs.Step.{run}
 

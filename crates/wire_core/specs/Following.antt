@@ -11,7 +11,7 @@ pub record Follows (old : Course) (order : List ℕ) (new : Course) : Type 0 whe
   pub taken : new ≡ record { scripts = old.scripts; history = old.history ++ order }
 
 -- the first n steps were taken, and the next of the order isn't enabled after them
-pub record StopsAt (old : Course) (order : List ℕ) (new : Course) (fault : Fault) : Type 0 where
+pub record NotEnabledAt (old : Course) (order : List ℕ) (new : Course) (fault : Fault) : Type 0 where
   pub n : ℕ
   pub is : fault ≡ NotReady (suc n)
   pub before : Follows old (take n order) new

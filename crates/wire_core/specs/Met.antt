@@ -3,8 +3,8 @@ use Rattle.std.specs.Prelude.{◌≡◌, ℕ, suc, List, Bool, false, Option, So
 use Rattle.wire_runs.specs.Plan.{Plan, Kind, Arrive, Event, kind, kind_at}
 use Rattle.wire_runs.specs.Puts.{stored}
 use Rattle.wire_runs.specs.Fences.{arrivals}
-use Rattle.wire_content.specs.Scripts.{Scripts}
-use Rattle.wire_content.specs.Planned.{plan_of}
+use Rattle.wire_scripts.specs.Scripts.{Scripts}
+use Rattle.wire_scripts.specs.Planned.{plan_of}
 use Rattle.wire_fence.specs.FenceTable.{FenceTable}
 use Rattle.wire_fence.specs.Arrivals.{one_arrived}
 use Rattle.wire_runs.specs.Sight.{has_brought}

@@ -3,8 +3,8 @@ use Rattle.std.specs.Prelude.{◌≡◌, ℕ, ◌+◌, ◌-◌, ◌≤◌, List,
 use Rattle.std.specs.Prelude.{vec_capacity}
 use Rattle.wire_runs.specs.Plan.{Plan, kinds, kind_at, event_count, process_count}
 use Rattle.wire_types.specs.declared.CallAt.{CallAt}
-use Rattle.wire_content.specs.Scripts.{Scripts, IsSound}
-use Rattle.wire_content.specs.Planned.{plan_of}
+use Rattle.wire_scripts.specs.Scripts.{Scripts, IsSound}
+use Rattle.wire_scripts.specs.Planned.{plan_of}
 use Rattle.wire_store.specs.Kept.{kept_after}
 use Rattle.wire_fence.specs.FenceTable.{FenceTable, AreFencesOf}
 use Rattle.wire_fence.specs.Arrivals.{TellsMissing}

@@ -6,8 +6,8 @@ use Rattle.wire_runs.specs.Plan.{Event, Kind, kind, process_count}
 use Rattle.wire_runs.specs.Plan as plan
 use Rattle.wire_runs.specs.State.{State, next_event}
 use Rattle.wire_runs.specs.Step.{may_do, is_enabled}
-use Rattle.wire_content.specs.Scripts.{Scripts}
-use Rattle.wire_content.specs.Planned.{plan_of}
+use Rattle.wire_scripts.specs.Scripts.{Scripts}
+use Rattle.wire_scripts.specs.Planned.{plan_of}
 use Rattle.wire_fence.specs.declared.FenceId.{FenceId}
 use Rattle.wire_fence.specs.FenceTable.{FenceTable}
 use Rattle.wire_fence.specs.Arrivals.{missing_at}
@@ -15,9 +15,9 @@ use Rattle.wire_plan.specs.Meetings.{IsMet}
 use Rattle.wire_core.specs.declared.waits.Awaited.{Awaited}
 use Rattle.wire_core.specs.declared.waits.Awaited.TheVariants.{Unknown, Commit, Fence, Publish, Nothing}
 
-abbrev pub is_known : Awaited → Bool
-is_known Unknown = false
-is_known _ = true
+abbrev pub is_known_wait : Awaited → Bool
+is_known_wait Unknown = false
+is_known_wait _ = true
 
 -- whether what comes is the thing that is awaited
 abbrev pub is_same_thing : Awaited → Awaited → Bool
@@ -47,19 +47,19 @@ coming p None missing (plan.Publish name) = Publish name
 coming p None missing _ = Unknown
 
 -- what is noted of p is so: p isn't enabled, and its next event awaits this
-abbrev pub IsNoted : Scripts → FenceTable → State → ℕ → Awaited → Type 0
-IsNoted s table state p awaited = is_known awaited ≡ true → (is_enabled (plan_of s) state p ≡ false) × Awaits s table (next_event state p) awaited
+abbrev pub IsNoteTrue : Scripts → FenceTable → State → ℕ → Awaited → Type 0
+IsNoteTrue s table state p awaited = is_known_wait awaited ≡ true → (is_enabled (plan_of s) state p ≡ false) × Awaits s table (next_event state p) awaited
 
 -- the notes of all processes. Of a process that has none nothing is known
-pub record AreNoted (s : Scripts) (table : FenceTable) (state : State) (notes : List Awaited) : Type 0 where
+pub record AreNotesTrue (s : Scripts) (table : FenceTable) (state : State) (notes : List Awaited) : Type 0 where
   pub count : length notes ≡ process_count (plan_of s)
-  pub each : (p : ℕ) → IsNoted s table state p (slice_index_or notes p Unknown)
+  pub each : (p : ℕ) → IsNoteTrue s table state p (slice_index_or notes p Unknown)
 
 -- of the process of this number nothing is known, and of each before it something is
 pub record IsFirst (notes : List Awaited) (n : ℕ) : Type 0 where
-  pub below : (p : ℕ) → p < n → is_known (slice_index_or notes p Unknown) ≡ true
-  pub here : is_known (slice_index_or notes n Unknown) ≡ false
+  pub below : (p : ℕ) → p < n → is_known_wait (slice_index_or notes p Unknown) ≡ true
+  pub here : is_known_wait (slice_index_or notes n Unknown) ≡ false
 
 -- nothing is known of any process
 abbrev pub AreUnknown : List Awaited → Type 0
-AreUnknown notes = (p : ℕ) → is_known (slice_index_or notes p Unknown) ≡ false
+AreUnknown notes = (p : ℕ) → is_known_wait (slice_index_or notes p Unknown) ≡ false

@@ -3,7 +3,7 @@
 ghost use Rattle.std.specs.Prelude.{◌≡◌, ◌+◌, ◌<◌, ◌≤◌, ℕ, true, Some, None, IfOk, IfErr, IfSome};
 ghost use Rattle.std.specs.HashMap.{spare};
 ghost use Rattle.wire_runs.specs.Plan.{event_total};
-ghost use Rattle.wire_content.specs.Planned.{plan_of};
+ghost use Rattle.wire_scripts.specs.Planned.{plan_of};
 ghost use Rattle.wire_plan.specs.Kinds.{kind_of};
 ghost use Rattle.wire_runs.specs.State.{next_kind};
 ghost use Rattle.wire_runs.specs.Plan as runs;

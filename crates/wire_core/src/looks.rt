@@ -6,7 +6,7 @@ ghost use Rattle.std.specs.Prelude.{IfErr, IfSome, if◌then◌else◌};
 ghost use Rattle.wire_runs.specs.Plan.{Plan as ThePlan, event_count, process_count};
 ghost use Rattle.wire_runs.specs.Puts.{stored};
 ghost use Rattle.wire_runs.specs.Sight.{delivered};
-ghost use Rattle.wire_content.specs.Planned.{plan_of};
+ghost use Rattle.wire_scripts.specs.Planned.{plan_of};
 ghost use Rattle.wire_fence.specs.FenceTable.{AreFencesOf};
 ghost use Rattle.wire_core.specs.Course.{plan_in, state_of};
 ghost use Rattle.wire_core.specs.Met.{brings_at, stored_at};

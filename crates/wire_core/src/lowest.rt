@@ -2,7 +2,7 @@
 
 ghost use Rattle.std.specs.Prelude.{◌≡◌, ◌<◌, false, option_map};
 ghost use Rattle.wire_runs.specs.Plan.{process_count};
-ghost use Rattle.wire_content.specs.Planned.{plan_of};
+ghost use Rattle.wire_scripts.specs.Planned.{plan_of};
 ghost use Rattle.wire_runs.specs.Step.{is_enabled};
 ghost use Rattle.wire_runs.specs.PlainRun.{lowest};
 ghost use Rattle.wire_core.specs.Course.{state_of};

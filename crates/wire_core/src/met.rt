@@ -4,7 +4,7 @@ ghost use Rattle.std.specs.Prelude.{◌≡◌, ◌<◌, ◌≤◌, ℕ, suc, tru
 ghost use Rattle.std.specs.Prelude.{OnSome};
 ghost use Rattle.wire_runs.specs.Plan.{Arrive, event_of, kind_at, event_count, kind as kind_in};
 ghost use Rattle.wire_runs.specs.Fences.{arrivals as arrivals_of, is_complete as all_arrived};
-ghost use Rattle.wire_content.specs.Planned.{plan_of};
+ghost use Rattle.wire_scripts.specs.Planned.{plan_of};
 ghost use Rattle.wire_fence.specs.FenceTable.{AreFencesOf};
 ghost use Rattle.wire_fence.specs.Arrivals.{TellsMissing, missing_at};
 ghost use Rattle.wire_plan.specs.Kinds.{kind_of};

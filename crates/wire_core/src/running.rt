@@ -5,7 +5,7 @@ ghost use Rattle.std.specs.Prelude.{option_map, slice_get, IsTrue, ◌↔◌, If
 ghost use Rattle.std.specs.Prelude.{OnOk, OnSome};
 ghost use Rattle.wire_runs.specs.Plan.{event_of, process_count};
 ghost use Rattle.wire_types.specs.Outcome.{ends_of};
-ghost use Rattle.wire_content.specs.Planned.{plan_of};
+ghost use Rattle.wire_scripts.specs.Planned.{plan_of};
 ghost use Rattle.wire_plan.specs.Kinds.{kind_of};
 ghost use Rattle.wire_runs.specs.State.{start, next_event, next_kind};
 ghost use Rattle.wire_runs.specs.Step.{is_enabled, run, IsInterleaving, IsEnd, reply as answer};
@@ -16,7 +16,7 @@ ghost use Rattle.wire_runs.specs.Ends.{calls_of, given, is_waiting, outcome, row
 ghost use Rattle.wire_core.specs.Course.{plan_in, state_of};
 ghost use Rattle.wire_core.specs.Seeing.{replies_in};
 ghost use Rattle.wire_core.specs.Ranks.{AreRanksOf};
-ghost use Rattle.wire_core.specs.Following.{Follows, StopsAt};
+ghost use Rattle.wire_core.specs.Following.{Follows, NotEnabledAt};
 
 use crate::ends::{add_unanswered, end_at, ends_of_replies};
 use crate::keeping::Keeping;
@@ -289,7 +289,7 @@ impl<'a> Core<'a> {
     /// the plain run ends.
     pub fn follow(&mut self, order: &[Proc]) -> Result<(), Fault>
         ensures ok { OnOk result (Follows self.old (map (λ p. p.number) order.now) self.new) }
-        ensures err { IfErr result (λ e. StopsAt self.old (map (λ p. p.number) order.now) self.new e) }
+        ensures err { IfErr result (λ e. NotEnabledAt self.old (map (λ p. p.number) order.now) self.new e) }
         ensures settled { self.old.history ≡ [] → IsSettled (plan_in self.new) → IsEnd (plan_in self.new) (state_of self.new) →
             state_of self.new ≡ run (plan_in self.new) (plain_run (plan_in self.new)) }
     {

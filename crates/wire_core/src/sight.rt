@@ -3,7 +3,7 @@
 ghost use Rattle.std.specs.Prelude.{◌≡◌, ◌≢◌, ◌<◌, ◌≤◌, IfSome};
 ghost use Rattle.wire_runs.specs.Plan.{process_count, node_of, same_node};
 ghost use Rattle.wire_runs.specs.Puts.{own, stored};
-ghost use Rattle.wire_content.specs.Planned.{plan_of};
+ghost use Rattle.wire_scripts.specs.Planned.{plan_of};
 ghost use Rattle.wire_runs.specs.Sight.{held, served, get_sees, for_others, get_now_sees, brought};
 ghost use Rattle.wire_core.specs.Course.{plan_in, state_of};
 ghost use Rattle.wire_core.specs.Seeing.{seen_as};

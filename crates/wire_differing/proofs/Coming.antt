@@ -13,7 +13,7 @@ use Rattle.wire_runs.specs.PlainRun.{plain_run}
 use Rattle.wire_runs.specs.Order.{Edge, Follows, Live, live, may_come, Before, edge, further}
 use Rattle.wire_runs.specs.Races.{IsSettled}
 use Rattle.wire_runs.specs.Fate.{Waits, HasFate, dead, told}
-use Rattle.wire_runs.specs.Laws.{plain_end, Marks}
+use Rattle.wire_runs.specs.Laws.{plain_end, HappensBefore}
 use Rattle.wire_runs.proofs.Due.{Sound, chain_in, closed_cut, live_may, live_source, reachable_sound, place_path}
 use Rattle.wire_runs.proofs.Fates.{live_event, get_fate, says_not_waits, fates_tell, runs_are_sound}
 use Rattle.wire_runs.proofs.HaveFates.{have_fates}
@@ -82,7 +82,7 @@ module _ (plan : Plan) (settled : IsSettled plan) where
       go zero e = omega (arith, ge, e)
       go (suc i) e = let d = sources (record { proc = y.proc; at = i }) (Follows refl (sym e)) in omega (arith, ge, e, d)
 
-  module _ (marks : Marks plan) where
+  module _ (marks : HappensBefore plan) where
     -- nothing that is stuck is y, or before it
     abbrev Free : Event → Type 0
     Free y = (w : Event) → IsStuck plan w → (w ≡ y) ⊎ Before plan w y → ⊥

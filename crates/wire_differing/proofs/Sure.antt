@@ -13,11 +13,11 @@ use Rattle.wire_runs.proofs.Histories.{before_live, joined, same_process}
 use Rattle.wire_fates.proofs.Gets.{first_before}
 use Rattle.wire_fates.proofs.OwnFences.{member_there}
 use Rattle.wire_fates.proofs.Surely.{delivering_within}
-use Rattle.wire_differing.specs.Surely.{IsAsked, IsSureAt, IsSureByFence, IsSureByGet, IsEarliest, IsAmong}
+use Rattle.wire_differing.specs.Surely.{IsAskedNow, IsSureAt, IsSureByFence, IsSureByGet, IsEarliest, IsAmong}
 
 module _ (plan : Plan) (p key : ℕ) (get : Event) where
   -- a fence that is sure of the owner's arrival brings the key surely
-  by_fence : IsAsked plan get p key → IsSureByFence plan p key get → HasSurely plan p key get.proc get
+  by_fence : IsAskedNow plan get p key → IsSureByFence plan p key get → HasSurely plan p key get.proc get
   by_fence asked (at, s) =
       let d = s.delivers in
       let all = (one_member_tells plan d.members d.j p at p key get d.arrival asked.is).sure.1 s.before in
@@ -27,7 +27,7 @@ module _ (plan : Plan) (p key : ℕ) (get : Event) where
         all_before = all;
       }
 
-  by_get : IsAsked plan get p key → IsSureByGet plan p key get → HasSurely plan p key get.proc get
+  by_get : IsAskedNow plan get p key → IsSureByGet plan p key get → HasSurely plan p key get.proc get
   by_get asked (z, b, its, before) = record {
     delivery = ByGet z;
     carries = record { another = asked.another; takes_part = its; brings_away = b; all_live = λ v e. subst (Live plan) (sym e) (before_live before) };
@@ -46,7 +46,7 @@ module _ (plan : Plan) (p key : ℕ) (get : Event) where
           inl (b.at, record { delivers = d; member = c.takes_part; before = all _ b.arrival })
       go (ByGet z) c all = inr (z, c.brings_away, c.takes_part, all z refl)
 
-  pub either : IsAsked plan get p key → IsSureByFence plan p key get ⊎ IsSureByGet plan p key get → HasSurely plan p key get.proc get
+  pub either : IsAskedNow plan get p key → IsSureByFence plan p key get ⊎ IsSureByGet plan p key get → HasSurely plan p key get.proc get
   either asked h = elim h [ inl s ↦ by_fence asked s | inr s ↦ by_get asked s ]
 
   -- none of the owner's first n events is such an arrival

@@ -20,16 +20,16 @@ RepliesWith plan x status =
     (answer : Answer) × (value : Value) × (plain_reply plan x ≡ Some answer) × (given plan answer ≡ record { status = status; value = value } ∷ [])
 
 -- the event is a get of the key, or a get-now, as the verb says
-abbrev pub AsksFor : Plan → Event → Verb → ℕ → ℕ → Type 0
-AsksFor plan x verb.Get owner key = kind plan x ≡ Some (Get owner key)
-AsksFor plan x verb.GetNow owner key = kind plan x ≡ Some (GetNow owner key)
-AsksFor plan x _ owner key = ⊥
+abbrev pub ReadsKey : Plan → Event → Verb → ℕ → ℕ → Type 0
+ReadsKey plan x verb.Get owner key = kind plan x ≡ Some (Get owner key)
+ReadsKey plan x verb.GetNow owner key = kind plan x ≡ Some (GetNow owner key)
+ReadsKey plan x _ owner key = ⊥
 
 -- x asks for another process's key, is answered, and its reply isn't the same on every placing; with its replies where it and the owner have
 -- a node of their own, and where it is alone on its node
 pub record IsDiffering (plan : Plan) (x : Event) (d : Differing) : Type 0 where
   pub call : d.call ≡ call_of plan x
-  pub asks : AsksFor plan x d.verb d.owner.number d.key
+  pub asks : ReadsKey plan x d.verb d.owner.number d.key
   pub another : x.proc ≢ d.owner.number
   pub answered : is_some (plain_reply plan x) ≡ true
   pub differs : ¬ (RepliesAlike plan x)
@@ -41,14 +41,14 @@ pub data IsUntold (plan : Plan) (x : Event) : Type 0 where
   Reserved : (reply : Reply) → kind plan x ≡ Some (Fixed reply) → IsUntold plan x
   Alike : RepliesAlike plan x → IsUntold plan x
 
-abbrev pub IsToldBy : Plan → Event → Option Differing → Type 0
-IsToldBy plan x told = MatchOption told (IsUntold plan x) (λ d. IsDiffering plan x d)
+abbrev pub IsDifferingTold : Plan → Event → Option Differing → Type 0
+IsDifferingTold plan x told = MatchOption told (IsUntold plan x) (λ d. IsDiffering plan x d)
 
 -- what is told of p's first n events, in their order
 abbrev pub AreToldTo : Plan → ℕ → ℕ → List Differing → Type 0
 AreToldTo plan p zero found = found ≡ []
 AreToldTo plan p (suc n) found =
-    (before : List Differing) × (told : Option Differing) × AreToldTo plan p n before × IsToldBy plan (record { proc = p; at = n }) told
+    (before : List Differing) × (told : Option Differing) × AreToldTo plan p n before × IsDifferingTold plan (record { proc = p; at = n }) told
     × (found ≡ before ++ option_to_list told)
 
 -- what is told of the first n processes, of their events that come in the plain run
@@ -65,8 +65,8 @@ AreDiffering plan found = AreToldBelow plan (process_count plan) found
 -- The rest is for the contracts of private functions
 
 -- those are added at the end
-abbrev pub Adds : List Differing → List Differing → (List Differing → Type 0) → Type 0
-Adds old new those = (added : List Differing) × those added × (new ≡ old ++ added)
+abbrev pub AddsDiffering : List Differing → List Differing → (List Differing → Type 0) → Type 0
+AddsDiffering old new those = (added : List Differing) × those added × (new ≡ old ++ added)
 
 -- x is a commit of p that stores its key, and it is before the get
 pub record IsCommitBefore (plan : Plan) (p key : ℕ) (get x : Event) : Type 0 where

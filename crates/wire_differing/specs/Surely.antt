@@ -24,7 +24,7 @@ abbrev pub IsAmong : List Event → ℕ → Type 0
 IsAmong places m = (k : ℕ) × (z : Event) × (slice_get places k ≡ Some z) × (z.proc ≡ m)
 
 -- a live get-now of a key that another process puts once
-pub record IsAsked (plan : Plan) (get : Event) (owner key : ℕ) : Type 0 where
+pub record IsAskedNow (plan : Plan) (get : Event) (owner key : ℕ) : Type 0 where
   pub is : kind plan get ≡ Some (GetNow owner key)
   pub another : get.proc ≢ owner
   pub once : IsPutOnce plan owner key

@@ -2,7 +2,7 @@
 
 ghost use Rattle.std.specs.Prelude.{◌≡◌, ◌<◌, ◌↔◌, ℕ, IsTrue, IfOk, MatchOption, map};
 ghost use Rattle.wire_runs.specs.Plan.{event_of, event_count};
-ghost use Rattle.wire_content.specs.Planned.{plan_of};
+ghost use Rattle.wire_scripts.specs.Planned.{plan_of};
 ghost use Rattle.wire_runs.specs.State.{IsDone};
 ghost use Rattle.wire_runs.specs.Laws.{plain_end};
 ghost use Rattle.wire_runs.specs.Order.{Live};
@@ -11,7 +11,7 @@ ghost use Rattle.wire_differing.specs.Answered.{IsStuck, IsFirstStuck, AreStuck,
 
 use std::alloc::{AllocError, Global};
 use wire_fates::{Fate, fate_of};
-use wire_marks::MarkedPlan;
+use wire_happens_before::MarkedPlan;
 use wire_plan::Kind;
 use wire_types::{Event, Proc};
 

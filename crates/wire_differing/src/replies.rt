@@ -3,19 +3,19 @@
 ghost use Rattle.std.specs.Prelude.{◌≡◌, ◌≢◌, ◌↔◌, ℕ, Some, IsTrue, MatchOption, if◌then◌else◌};
 ghost use Rattle.wire_runs.specs.Plan.{Get, GetNow, event_of, kind, admits};
 ghost use Rattle.wire_runs.specs.Plan as runs;
-ghost use Rattle.wire_content.specs.Planned.{plan_of};
+ghost use Rattle.wire_scripts.specs.Planned.{plan_of};
 ghost use Rattle.wire_runs.specs.Puts.{scope_of as scope_in};
 ghost use Rattle.wire_runs.specs.Ends.{call_of};
 ghost use Rattle.wire_runs.specs.State.{IsDone};
 ghost use Rattle.wire_runs.specs.Laws.{plain_end};
 ghost use Rattle.wire_runs.specs.Placings.{IsSettledAnywhere};
 ghost use Rattle.wire_plan.specs.Index.{IsFirstPut};
-ghost use Rattle.wire_differing.specs.Differing.{IsToldBy, IsCommitBefore, NoCommitBefore};
+ghost use Rattle.wire_differing.specs.Differing.{IsDifferingTold, IsCommitBefore, NoCommitBefore};
 
 use crate::differing::Differing;
 use crate::surely::has_surely;
 use wire_fates::KeyRead;
-use wire_marks::MarkedPlan;
+use wire_happens_before::MarkedPlan;
 use wire_plan::{Kind, Plan};
 use wire_types::{Event, Proc, Scope, Status, Verb};
 
@@ -54,7 +54,7 @@ fn told_get(plan: &Plan, event: Event, owner: Proc, key: u32) -> Option<Differin
     requires settled { IsSettledAnywhere (plan_of plan.now) }
     requires answered { IsDone (plain_end (plan_of plan.now)) (event_of event) }
     requires get { kind (plan_of plan.now) (event_of event) ≡ Some (Get owner.number key) }
-    ensures { IsToldBy (plan_of plan.now) (event_of event) result }
+    ensures { IsDifferingTold (plan_of plan.now) (event_of event) result }
 {
     if owner == event.proc {
         return None;
@@ -121,7 +121,7 @@ fn told_committed(marked: &MarkedPlan<'_>, asked: KeyRead) -> Option<Differing>
     requires get { kind (plan_of marked.now) (event_of asked.get_now) ≡ Some (GetNow asked.owner.number asked.key) }
     requires another { asked.get_now.proc.number ≢ asked.owner.number }
     requires committed { (x : runs.Event) × IsCommitBefore (plan_of marked.now) asked.owner.number asked.key (event_of asked.get_now) x }
-    ensures { IsToldBy (plan_of marked.now) (event_of asked.get_now) result }
+    ensures { IsDifferingTold (plan_of marked.now) (event_of asked.get_now) result }
 {
     let plan = marked.plan();
     let Some(put) = plan.first_put(asked.owner, asked.key) else {
@@ -145,7 +145,7 @@ fn told_get_now(marked: &MarkedPlan<'_>, asked: KeyRead) -> Option<Differing>
     requires settled { IsSettledAnywhere (plan_of marked.now) }
     requires answered { IsDone (plain_end (plan_of marked.now)) (event_of asked.get_now) }
     requires get { kind (plan_of marked.now) (event_of asked.get_now) ≡ Some (GetNow asked.owner.number asked.key) }
-    ensures { IsToldBy (plan_of marked.now) (event_of asked.get_now) result }
+    ensures { IsDifferingTold (plan_of marked.now) (event_of asked.get_now) result }
 {
     if asked.owner == asked.get_now.proc {
         return None;
@@ -160,7 +160,7 @@ fn told_get_now(marked: &MarkedPlan<'_>, asked: KeyRead) -> Option<Differing>
 pub(crate) fn told(marked: &MarkedPlan<'_>, event: Event) -> Option<Differing>
     requires settled { IsSettledAnywhere (plan_of marked.now) }
     requires answered { IsDone (plain_end (plan_of marked.now)) (event_of event) }
-    ensures { IsToldBy (plan_of marked.now) (event_of event) result }
+    ensures { IsDifferingTold (plan_of marked.now) (event_of event) result }
 {
     let plan = marked.plan();
     match plan.kind(event) {

@@ -2,20 +2,20 @@
 
 ghost use Rattle.std.specs.Prelude.{◌++◌, IfOk, OnOk, IsOkUnless, map};
 ghost use Rattle.wire_runs.specs.Plan.{event_of};
-ghost use Rattle.wire_content.specs.Planned.{plan_of};
+ghost use Rattle.wire_scripts.specs.Planned.{plan_of};
 ghost use Rattle.wire_runs.specs.Laws.{plain_end};
 ghost use Rattle.wire_runs.specs.Placings.{IsSettledAnywhere};
 ghost use Rattle.wire_differing.specs.Answered.{AreStuck};
-ghost use Rattle.wire_differing.specs.Differing.{AreToldTo, AreDiffering, Adds};
+ghost use Rattle.wire_differing.specs.Differing.{AreToldTo, AreDiffering, AddsDiffering};
 
 use crate::answered::{count_answered, stuck_events};
 use crate::differing::Differing;
 use crate::replies::told;
 use std::alloc::{AllocError, Global};
-use wire_marks::MarkedPlan;
+use wire_happens_before::MarkedPlan;
 use wire_types::{Event, Fault, Proc};
 
-/// Adds the calls of a process whose reply isn't the same on every placement.
+/// AddsDiffering the calls of a process whose reply isn't the same on every placement.
 fn add_process(
     marked: &MarkedPlan<'_>,
     found: &mut Vec<Differing>,
@@ -24,7 +24,7 @@ fn add_process(
 ) -> Result<(), AllocError>
     requires settled { IsSettledAnywhere (plan_of marked.now) }
     requires stuck { AreStuck (plan_of marked.now) (map event_of stuck.now) }
-    ensures { OnOk result (Adds found.old.items found.new.items
+    ensures { OnOk result (AddsDiffering found.old.items found.new.items
         (AreToldTo (plan_of marked.now) proc.number ((plain_end (plan_of marked.now)).done proc.number))) }
 {
     for at in 0..count_answered(marked, stuck, proc) {

@@ -3,13 +3,13 @@
 ghost use Rattle.std.specs.Prelude.{◌≡◌, ◌↔◌, ℕ, Some, IsTrue, map, nat_lt, slice_get};
 ghost use Rattle.wire_runs.specs.Plan.{event_of};
 ghost use Rattle.wire_runs.specs.Plan as runs;
-ghost use Rattle.wire_content.specs.Planned.{plan_of};
+ghost use Rattle.wire_scripts.specs.Planned.{plan_of};
 ghost use Rattle.wire_runs.specs.Placings.{HasSurely};
 ghost use Rattle.wire_plan.specs.Bringing.{IsRising};
-ghost use Rattle.wire_differing.specs.Surely.{IsFirstOf, IsAmong, IsAsked, IsSureByFence, IsSureByGet};
+ghost use Rattle.wire_differing.specs.Surely.{IsFirstOf, IsAmong, IsAskedNow, IsSureByFence, IsSureByGet};
 
 use wire_fates::{KeyRead, all_arrivals, next_arrival};
-use wire_marks::MarkedPlan;
+use wire_happens_before::MarkedPlan;
 use wire_types::{Event, Proc};
 
 /// How many events of a list in process order are of lower processes, by bisection.
@@ -49,7 +49,7 @@ fn is_among(list: &[Event], proc: Proc) -> bool
 /// Whether a fence brings a key to the caller's process before its get in every run. The owner's arrival there tells
 /// whether the fence is complete before the get; where one isn't, no later one is.
 fn fence_brings(marked: &MarkedPlan<'_>, asked: KeyRead) -> bool
-    requires { IsAsked (plan_of marked.now) (event_of asked.get_now) asked.owner.number asked.key }
+    requires { IsAskedNow (plan_of marked.now) (event_of asked.get_now) asked.owner.number asked.key }
     ensures { IsTrue result ↔ IsSureByFence (plan_of marked.now) asked.owner.number asked.key (event_of asked.get_now) }
 {
     let plan = marked.plan();
@@ -73,7 +73,7 @@ fn fence_brings(marked: &MarkedPlan<'_>, asked: KeyRead) -> bool
 
 /// Whether a get of the caller's process brings it a key before its get in every run. If any does, its first does.
 fn get_brings(marked: &MarkedPlan<'_>, asked: KeyRead) -> bool
-    requires { IsAsked (plan_of marked.now) (event_of asked.get_now) asked.owner.number asked.key }
+    requires { IsAskedNow (plan_of marked.now) (event_of asked.get_now) asked.owner.number asked.key }
     ensures { IsTrue result ↔ IsSureByGet (plan_of marked.now) asked.owner.number asked.key (event_of asked.get_now) }
 {
     let plan = marked.plan();
@@ -90,7 +90,7 @@ fn get_brings(marked: &MarkedPlan<'_>, asked: KeyRead) -> bool
 /// Whether the caller's process surely has a key when it asks for it at once: a fence that it calls or a get of its
 /// own brings the key before that in every run, on whatever nodes processes are.
 pub(crate) fn has_surely(marked: &MarkedPlan<'_>, asked: KeyRead) -> bool
-    requires { IsAsked (plan_of marked.now) (event_of asked.get_now) asked.owner.number asked.key }
+    requires { IsAskedNow (plan_of marked.now) (event_of asked.get_now) asked.owner.number asked.key }
     ensures { IsTrue result ↔ HasSurely (plan_of marked.now) asked.owner.number asked.key asked.get_now.proc.number (event_of asked.get_now) }
 {
     fence_brings(marked, asked) || get_brings(marked, asked)

@@ -8,7 +8,7 @@ use Rattle.std.proofs.lemmas.List.{get_or-map, get_or_past, length-map}
 use Rattle.std.proofs.lemmas.List.Elements.{filter_more}
 use Rattle.wire_types.specs.declared.Proc.{Proc}
 use Rattle.wire_runs.specs.Plan.{set_of}
-use Rattle.wire_content.specs.Scripts.{Scripts, IsSound, numbers_of, set_at}
+use Rattle.wire_scripts.specs.Scripts.{Scripts, IsSound, numbers_of, set_at}
 use Rattle.wire_fence.proofs.Events.{set_canonical, same_set}
 
 -- two numbers of sets are those of one set where they are the same

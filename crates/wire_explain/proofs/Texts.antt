@@ -6,16 +6,16 @@ use Rattle.std.proofs.lemmas.List.{length-map}
 use Rattle.wire_types.specs.declared.Proc.{Proc}
 use Rattle.wire_types.specs.declared.Fault.{Fault}
 use Rattle.wire_types.specs.declared.Fault.TheVariants.{Memory, NotReady}
-use Rattle.wire_content.specs.Scripts.{Scripts, numbers_of}
-use Rattle.wire_content.specs.Planned.{plan_of}
+use Rattle.wire_scripts.specs.Scripts.{Scripts, numbers_of}
+use Rattle.wire_scripts.specs.Planned.{plan_of}
 use Rattle.wire_runs.specs.Step.{is_enabled, run, IsInterleaving}
 use Rattle.wire_core.specs.Course.{Course, plan_in, state_of}
-use Rattle.wire_core.specs.Following.{StopsAt}
-use Rattle.wire_script.specs.declared.Size.{Size}
-use Rattle.wire_script.specs.Reads.{Reads}
-use Rattle.wire_script.specs.Order.{order_read}
+use Rattle.wire_core.specs.Following.{NotEnabledAt}
+use Rattle.wire_reader.specs.declared.Size.{Size}
+use Rattle.wire_reader.specs.Reads.{Reads}
+use Rattle.wire_reader.specs.Order.{order_read}
 use Rattle.wire_explain.specs.Quote.{shown_byte}
-use Rattle.wire_explain.specs.Stops.{explanation}
+use Rattle.wire_explain.specs.Stops.{stop_explanation}
 use Rattle.wire_explain.specs.Told.{TellsStop, Stops, TellsNothing}
 
 -- three parts
@@ -38,7 +38,7 @@ two_joined (Ok x) zero one two a b e f = f ∙ ap (λ t. t ++ b) e ∙ append_as
 two_joined (Err x) zero one two a b e f = tt
 
 -- the step at which following an order stops is one of its steps
-pub stops_within : (old new : Course) (order : List Proc) (number : ℕ) → StopsAt old (numbers_of order) new (NotReady number) → number - 1 < length order
+pub stops_within : (old new : Course) (order : List Proc) (number : ℕ) → NotEnabledAt old (numbers_of order) new (NotReady number) → number - 1 < length order
 stops_within old new order number stops =
     let same : number ≡ suc stops.n = cc (stops.is) in
     let within : stops.n < length (numbers_of order) = slice_get_within (numbers_of order) stops.n stops.p stops.next in
@@ -46,8 +46,8 @@ stops_within old new order number stops =
 
 -- what is told of a step at which following an order stops
 pub told_stop : (s : Scripts) (old new : Course) (order : List Proc) (order_bytes text : List ℕ) (number : ℕ) (proc : Proc) → old ≡ record { scripts = s; history = [] } →
-    StopsAt old (numbers_of order) new (NotReady number) → slice_get order (number - 1) ≡ Some proc →
-    text ≡ map shown_byte (explanation order_bytes new.scripts (state_of new) (number - 1) proc.number) → TellsStop order_bytes s (numbers_of order) text
+    NotEnabledAt old (numbers_of order) new (NotReady number) → slice_get order (number - 1) ≡ Some proc →
+    text ≡ map shown_byte (stop_explanation order_bytes new.scripts (state_of new) (number - 1) proc.number) → TellsStop order_bytes s (numbers_of order) text
 told_stop s old new order order_bytes text number proc began stops there told =
     let n = stops.n in
     let steps = take n (numbers_of order) in
@@ -62,9 +62,9 @@ told_stop s old new order order_bytes text number proc began stops there told =
     let proc_is : proc.number ≡ stops.p = same_Some proc.number stops.p (sym named ∙ stops.next) in
     Stops n stops.p (subst (λ (course : Course). IsInterleaving (plan_in course) (state_of course) steps) began stops.before.enabled) stops.next
     (subst (λ (course : Course). is_enabled (plan_in course) (state_of course) stops.p ≡ false) new_is stops.not_enabled)
-    (told ∙ ap (λ (course : Course). map shown_byte (explanation order_bytes course.scripts (state_of course) (number - 1) proc.number)) new_is
-    ∙ ap (λ k. map shown_byte (explanation order_bytes s (run (plan_of s) steps) k proc.number)) step_is
-    ∙ ap (λ p. map shown_byte (explanation order_bytes s (run (plan_of s) steps) n p)) proc_is)
+    (told ∙ ap (λ (course : Course). map shown_byte (stop_explanation order_bytes course.scripts (state_of course) (number - 1) proc.number)) new_is
+    ∙ ap (λ k. map shown_byte (stop_explanation order_bytes s (run (plan_of s) steps) k proc.number)) step_is
+    ∙ ap (λ p. map shown_byte (stop_explanation order_bytes s (run (plan_of s) steps) n p)) proc_is)
 
 -- why nothing can be told: the plan is refused, or the order, or memory ran out later
 pub of_plan : (size : Size) (bytes order_bytes : List ℕ) (e : Fault) → (e ≡ Memory) ⊎ Reads size bytes (Err e) → TellsNothing size bytes order_bytes e

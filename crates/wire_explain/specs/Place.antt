@@ -2,7 +2,7 @@
 use Rattle.std.specs.Prelude.{ℕ, ◌||◌, Bool, nat_lt, List, [], ◌∷◌, Option, Some, None, if◌then◌else◌, codes}
 use Rattle.std.specs.Str.{bytes_eq}
 use Rattle.wire_lines.specs.Text.{words_of}
-use Rattle.wire_script.specs.Statements.{Statement, statements}
+use Rattle.wire_reader.specs.Statements.{Statement, statements}
 use Rattle.wire_explain.specs.Quote.{line_at}
 use Rattle.wire_explain.specs.declared.line_places.Place.{Place}
 use Rattle.wire_explain.specs.declared.line_places.Place.TheVariants.{Opening, InJob, InRank, InLoop}

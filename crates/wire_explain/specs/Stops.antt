@@ -7,9 +7,9 @@ use Rattle.wire_runs.specs.Fences.{arrivals}
 use Rattle.wire_runs.specs.State.{State, next_event, next_kind}
 use Rattle.wire_runs.specs.Ends.{call_of}
 use Rattle.wire_types.specs.declared.CallAt.{CallAt}
-use Rattle.wire_content.specs.Scripts.{Scripts, text_at, call_at}
-use Rattle.wire_content.specs.Planned.{plan_of}
-use Rattle.wire_script.specs.Statements.{Statement, statements}
+use Rattle.wire_scripts.specs.Scripts.{Scripts, text_at, call_at}
+use Rattle.wire_scripts.specs.Planned.{plan_of}
+use Rattle.wire_reader.specs.Statements.{Statement, statements}
 use Rattle.wire_words.specs.Words.{name_of, call_text, verb_text_in}
 use Rattle.wire_explain.specs.Quote.{quoted, labelled}
 
@@ -88,5 +88,5 @@ abbrev pub line_of_step : List ℕ → ℕ → ℕ
 line_of_step bytes n = number_in (slice_get (statements bytes) n)
 
 -- of a step of an order that its rank p can't take: the line of the order, where p stands, and what it waits for
-abbrev pub explanation : List ℕ → Scripts → State → ℕ → ℕ → List ℕ
-explanation order_bytes scripts s n p = quoted order_bytes (line_of_step order_bytes n) ++ standing_text scripts (standing scripts s p)
+abbrev pub stop_explanation : List ℕ → Scripts → State → ℕ → ℕ → List ℕ
+stop_explanation order_bytes scripts s n p = quoted order_bytes (line_of_step order_bytes n) ++ standing_text scripts (standing scripts s p)

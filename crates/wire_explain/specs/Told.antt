@@ -7,13 +7,13 @@ use Rattle.wire_runs.specs.Plan.{Plan, Kind, Get, Leave, LookupWait}
 use Rattle.wire_runs.specs.Puts.{own, stored}
 use Rattle.wire_runs.specs.State.{State, start, next_kind}
 use Rattle.wire_runs.specs.Step.{is_enabled, run, IsInterleaving}
-use Rattle.wire_content.specs.Scripts.{Scripts}
-use Rattle.wire_content.specs.Planned.{plan_of}
-use Rattle.wire_script.specs.declared.Size.{Size}
-use Rattle.wire_script.specs.Reads.{Reads}
-use Rattle.wire_script.specs.Order.{order_read}
+use Rattle.wire_scripts.specs.Scripts.{Scripts}
+use Rattle.wire_scripts.specs.Planned.{plan_of}
+use Rattle.wire_reader.specs.declared.Size.{Size}
+use Rattle.wire_reader.specs.Reads.{Reads}
+use Rattle.wire_reader.specs.Order.{order_read}
 use Rattle.wire_explain.specs.Quote.{shown_byte}
-use Rattle.wire_explain.specs.Stops.{missing_for, explanation}
+use Rattle.wire_explain.specs.Stops.{missing_for, stop_explanation}
 
 -- all steps can be taken, and nothing is told; or n of them can, the next, of p, can't, and the text tells where p
 -- stands then
@@ -21,10 +21,10 @@ pub data TellsStop (order_bytes : List ℕ) (scripts : Scripts) (steps text : Li
   Goes : IsInterleaving (plan_of scripts) start steps → text ≡ [] → TellsStop order_bytes scripts steps text
   Stops : (n p : ℕ) → IsInterleaving (plan_of scripts) start (take n steps) → slice_get steps n ≡ Some p →
       is_enabled (plan_of scripts) (run (plan_of scripts) (take n steps)) p ≡ false →
-      text ≡ map shown_byte (explanation order_bytes scripts (run (plan_of scripts) (take n steps)) n p) → TellsStop order_bytes scripts steps text
+      text ≡ map shown_byte (stop_explanation order_bytes scripts (run (plan_of scripts) (take n steps)) n p) → TellsStop order_bytes scripts steps text
 
 -- the text tells of the order that these bytes read as, of the scripts that those bytes read as
-pub record TellsOrder (size : Size) (bytes order_bytes text : List ℕ) : Type 0 where
+pub record TellsOrderRead (size : Size) (bytes order_bytes text : List ℕ) : Type 0 where
   pub scripts : Scripts
   pub reads : Reads size bytes (Ok scripts)
   pub steps : List ℕ

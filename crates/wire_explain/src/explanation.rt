@@ -8,9 +8,9 @@ ghost use Rattle.wire_explain.specs.Stops as spec;
 use crate::quote::{push_labelled, push_quoted, shown_text};
 use crate::standing::{Standing, find_standing, push_said_call};
 use std::alloc::{AllocError, Global};
-use wire_content::Scripts;
 use wire_core::Core;
-use wire_script::Cursor;
+use wire_reader::Cursor;
+use wire_scripts::Scripts;
 use wire_types::{CallAt, Proc};
 
 /// The number of the line of a step, which is counted from 0; 0 where there is none.
@@ -75,7 +75,7 @@ pub(crate) fn explanation_of(
     proc: Proc,
 ) -> Result<Vec<u8>, AllocError>
     ensures explanation { IfOk result (λ text. text.items
-        ≡ map shown_byte (spec.explanation order_bytes.now core.now.scripts (state_of core.now) step proc.number)) }
+        ≡ map shown_byte (spec.stop_explanation order_bytes.now core.now.scripts (state_of core.now) step proc.number)) }
     ensures printable { IfOk result (λ text. is_printable_text text.items ≡ true) }
 {
     let mut explanation = Vec::new(alloc);

@@ -7,7 +7,7 @@ mod file_faults;
 mod format;
 mod hint;
 pub mod language;
-mod law;
+mod laws;
 pub mod line_places;
 mod near;
 mod not_arrived;
@@ -19,7 +19,7 @@ mod wait_words;
 
 pub use file_faults::explain_file;
 pub use language::Language;
-pub use law::{
+pub use laws::{
     choices_are_words, lines_have_usages, pattern_choices_are_words, pattern_lines_have_usages,
     pattern_usages_are_lines, usages_are_lines, waits_are_reasons,
 };

@@ -9,7 +9,7 @@ use crate::language::Language;
 use crate::quote::find_line;
 use std::alloc::{AllocError, Global};
 use wire_lines::cut_words;
-use wire_script::Cursor;
+use wire_reader::Cursor;
 
 /// What stands above a line.
 #[derive(Clone, Copy)]

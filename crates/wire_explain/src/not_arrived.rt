@@ -5,7 +5,7 @@ ghost use Rattle.std.specs.Prelude.{if◌then◌else◌};
 ghost use Rattle.std.specs.Str.{bytes_eq as same_members};
 ghost use Rattle.wire_runs.specs.Plan.{event_count, set_of};
 ghost use Rattle.wire_runs.specs.Fences.{arrivals as arrivals_in, arrivals_with};
-ghost use Rattle.wire_content.specs.Scripts.{numbers_of, set_at};
+ghost use Rattle.wire_scripts.specs.Scripts.{numbers_of, set_at};
 ghost use Rattle.wire_plan.specs.Kinds.{kind_of};
 ghost use Rattle.wire_core.specs.Course.{plan_in, state_of};
 ghost use Rattle.wire_explain.specs.Stops as spec;

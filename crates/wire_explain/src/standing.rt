@@ -8,8 +8,8 @@ ghost use Rattle.wire_explain.specs.Stops as spec;
 
 use crate::wait_words::push_wait;
 use std::alloc::{AllocError, Global};
-use wire_content::Scripts;
 use wire_core::Core;
+use wire_scripts::Scripts;
 use wire_types::{CallAt, Event, Proc};
 use wire_words::{push_call, verb_at};
 

@@ -2,16 +2,16 @@
 
 ghost use Rattle.std.specs.Prelude.{◌≡◌, [], true, IfOk, IfErr};
 ghost use Rattle.wire_types.specs.declared.Fault.TheVariants.{Memory};
-ghost use Rattle.wire_content.specs.Scripts.{numbers_of};
+ghost use Rattle.wire_scripts.specs.Scripts.{numbers_of};
 ghost use Rattle.wire_explain.specs.Quote.{is_printable_text};
-ghost use Rattle.wire_explain.specs.Told.{TellsStop, TellsOrder, TellsNothing};
+ghost use Rattle.wire_explain.specs.Told.{TellsStop, TellsOrderRead, TellsNothing};
 
 use crate::explanation::explanation_of;
 use std::alloc::{AllocError, Global};
-use wire_content::Scripts;
 use wire_core::Core;
 use wire_plan::Plan;
-use wire_script::{Size, read_order_sized, read_sized};
+use wire_reader::{Size, read_order_sized, read_sized};
+use wire_scripts::Scripts;
 use wire_types::{Fault, Proc};
 
 /// What is told of the steps of an order, of which these are the bytes, by a core that has taken none.
@@ -81,7 +81,7 @@ pub fn explain_stop(
     bytes: &[u8],
     order_bytes: &[u8],
 ) -> Result<Vec<u8>, Fault>
-    ensures tells { IfOk result (λ text. TellsOrder size bytes.now order_bytes.now text.items) }
+    ensures tells { IfOk result (λ text. TellsOrderRead size bytes.now order_bytes.now text.items) }
     ensures printable { IfOk result (λ text. is_printable_text text.items ≡ true) }
     ensures err { IfErr result (TellsNothing size bytes.now order_bytes.now) }
 {

@@ -1,16 +1,16 @@
 //! What a rank waits for, in words.
 
 ghost use Rattle.std.specs.Prelude.{◌≡◌, ◌++◌, OnOk};
-ghost use Rattle.wire_content.specs.Scripts.{numbers_of, text_at};
+ghost use Rattle.wire_scripts.specs.Scripts.{numbers_of, text_at};
 ghost use Rattle.wire_plan.specs.Kinds.{kind_of};
 ghost use Rattle.wire_core.specs.Course.{state_of};
 ghost use Rattle.wire_explain.specs.Stops as spec;
 
 use crate::not_arrived::missing_for;
 use std::alloc::{AllocError, Global};
-use wire_content::Scripts;
 use wire_core::Core;
 use wire_plan::Kind;
+use wire_scripts::Scripts;
 use wire_types::Proc;
 use wire_words::{push_number, push_proc};
 

@@ -16,11 +16,11 @@ use Rattle.wire_runs.proofs.Brought.{complete_if_arrived}
 use Rattle.wire_runs.proofs.Histories.{one_history, before_live}
 use Rattle.wire_runs.proofs.Fates.{fates_tell, one_fate, live_within, get_fate}
 use Rattle.wire_runs.proofs.HaveFates.{have_fates}
-use Rattle.wire_marks.specs.Clocks.{Clocks, AreMarks}
+use Rattle.wire_happens_before.specs.Clocks.{Clocks, AreMarks}
 use Rattle.wire_fates.specs.declared.fate.Fate.{Fate as Told}
 use Rattle.wire_fates.specs.declared.fate.Fate.TheVariants as code
 use Rattle.wire_fates.specs.Fates.{told_by, fate_told, IsFateOf, TellsReply, TellsEnabled}
-use Rattle.wire_fates.specs.Pasts.{IsFateInPast, AreGot, IsStanding, GivesPublish, GivesUnpublish, GivesLookup, WaitsFor}
+use Rattle.wire_fates.specs.Pasts.{IsFateInPast, AreGot, IsStanding, GivesPublish, GivesUnpublish, GivesLookup, IsFateOfWait}
 use Rattle.wire_fates.proofs.Marked.{marks_of}
 
 module _ (plan : Plan) (y : Event) (past : State) where
@@ -40,7 +40,7 @@ module _ (plan : Plan) (y : Event) (past : State) where
     pub lookup_says : (r : Reply) → kind plan y ≡ Some (Lookup n) → GivesLookup plan standing r → code.Says r ≡ fate_told plan (fate_in plan past y)
     lookup_says r is g = says (Some (Lookup n)) r is refl (subst (λ v. given plan (lookup_reply v) ≡ r ∷ []) (sym names) g)
 
-    pub waiting_is : (found : Told) → kind plan y ≡ Some (LookupWait n) → WaitsFor plan standing found → found ≡ fate_told plan (fate_in plan past y)
+    pub waiting_is : (found : Told) → kind plan y ≡ Some (LookupWait n) → IsFateOfWait plan standing found → found ≡ fate_told plan (fate_in plan past y)
     waiting_is found is w =
         w ∙ ap (λ v. fate_told plan (if is_some v then Says (lookup_reply v) else Waits)) (sym names)
         ∙ ap (λ k. fate_told plan (if may_do plan past y k then Says (reply plan past y k) else Waits)) (sym is)

@@ -1,13 +1,13 @@
--- Marks tell which events are live, and which are before which.
+-- HappensBefore tell which events are live, and which are before which.
 use Rattle.std.proofs.Common.{◌≡◌, ◌⊎◌, inl, inr, sym, Bool, true, false, ltb-true, lt-ltb}
 use Rattle.std.specs.Prelude.{◌↔◌, nat_lt}
 use Rattle.std.proofs.lemmas.Bool.{true≢false}
 use Rattle.wire_runs.specs.Plan.{Plan, Event}
 use Rattle.wire_runs.specs.Order.{Before}
-use Rattle.wire_runs.specs.Laws.{Marks}
+use Rattle.wire_runs.specs.Laws.{HappensBefore}
 use Rattle.wire_runs.proofs.Histories.{same_place}
-use Rattle.wire_marks.specs.Clocks.{Clocks, marked_count, clock_of, AreMarks}
-use Rattle.wire_marks.proofs.Growing.{before_iff, never_self}
+use Rattle.wire_happens_before.specs.Clocks.{Clocks, marked_count, clock_of, AreMarks}
+use Rattle.wire_happens_before.proofs.Growing.{before_iff, never_self}
 
 abbrev is_before : (clocks : Clocks) (x y : Event) → (x ≡ y) ⊎ (x ≡ y → ⊥) → Bool
 is_before clocks x y (inl e) = false
@@ -19,7 +19,7 @@ tells plan clocks m x y (inr other) =
     let iff = before_iff plan clocks x y m other in
     ((λ t. iff.0 (ltb-true x.at (clock_of clocks y x.proc) t)), (λ b. lt-ltb x.at (clock_of clocks y x.proc) (iff.1 b)))
 
-pub marks_of : (plan : Plan) (clocks : Clocks) → AreMarks plan clocks → Marks plan
+pub marks_of : (plan : Plan) (clocks : Clocks) → AreMarks plan clocks → HappensBefore plan
 marks_of plan clocks m = record {
   alive = λ y. nat_lt y.at (marked_count clocks y.proc);
   before = λ x y. is_before clocks x y (same_place x y);

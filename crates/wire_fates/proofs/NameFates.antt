@@ -14,10 +14,10 @@ use Rattle.wire_runs.proofs.Diamond.{writes_calls, writes_no_lookup}
 use Rattle.wire_runs.proofs.Histories.{before_live, joined, same_process}
 use Rattle.wire_runs.proofs.Lists.{not_in_empty, slice_get_push_cases, slice_get_push_kept, slice_get_push_last, slice_get-append_left}
 use Rattle.wire_runs.proofs.Fates.{live_within}
-use Rattle.wire_marks.specs.declared.Update.{Update}
-use Rattle.wire_marks.specs.Clocks.{Clocks, AreMarks}
-use Rattle.wire_marks.specs.Updates.{standing_after, standing_in, IsFalling, AreChanges, AreUpdates}
-use Rattle.wire_marks.proofs.Noting.{standing_all}
+use Rattle.wire_happens_before.specs.declared.Update.{Update}
+use Rattle.wire_happens_before.specs.Clocks.{Clocks, AreMarks}
+use Rattle.wire_happens_before.specs.Updates.{standing_after, standing_in, IsFalling, AreChanges, AreUpdates}
+use Rattle.wire_happens_before.proofs.Noting.{standing_all}
 use Rattle.wire_fates.specs.Cuts.{IsCut}
 use Rattle.wire_fates.specs.Pasts.{events_in, IsStanding}
 use Rattle.wire_fates.proofs.Marked.{marks_of}

@@ -10,7 +10,7 @@ use Rattle.wire_runs.specs.Step.{is_seen, sight_reply, lookup_reply, is_publishe
 use Rattle.wire_runs.specs.Order.{Before}
 use Rattle.wire_runs.specs.Ends.{given}
 use Rattle.wire_runs.specs.Fate.{Fate, Waits, Says, fate_in, IsPast, IsNameHistory, left_by}
-use Rattle.wire_marks.specs.declared.Update.{Update}
+use Rattle.wire_happens_before.specs.declared.Update.{Update}
 use Rattle.wire_fates.specs.declared.fate.Fate.{Fate as Told}
 use Rattle.wire_fates.specs.Fates.{fate_told}
 
@@ -74,5 +74,5 @@ abbrev pub GivesLookup : Plan → Option Event → Reply → Type 0
 GivesLookup plan standing reply = given plan (lookup_reply standing) ≡ reply ∷ []
 
 -- the fate of a lookup that waits for it
-abbrev pub WaitsFor : Plan → Option Event → Told → Type 0
-WaitsFor plan standing found = found ≡ fate_told plan (if is_some standing then Says (lookup_reply standing) else Waits)
+abbrev pub IsFateOfWait : Plan → Option Event → Told → Type 0
+IsFateOfWait plan standing found = found ≡ fate_told plan (if is_some standing then Says (lookup_reply standing) else Waits)

@@ -1,7 +1,7 @@
 //! What an event of a settled plan does once all that is before it has happened.
 
 ghost use Rattle.wire_runs.specs.Plan.{event_of};
-ghost use Rattle.wire_content.specs.Planned.{plan_of};
+ghost use Rattle.wire_scripts.specs.Planned.{plan_of};
 ghost use Rattle.wire_runs.specs.Order.{Live};
 ghost use Rattle.wire_runs.specs.Races.{IsSettled};
 ghost use Rattle.wire_fates.specs.Fates.{IsFateOf};
@@ -11,7 +11,7 @@ use crate::key_fates::{get_now_reply, get_reply};
 use crate::name_fates::{
     lookup_reply, publish_reply, standing_publish, unpublish_reply, waiting_fate,
 };
-use wire_marks::MarkedPlan;
+use wire_happens_before::MarkedPlan;
 use wire_plan::Kind;
 use wire_types::{Event, Reply, Status};
 

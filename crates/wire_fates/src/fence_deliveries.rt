@@ -3,7 +3,7 @@
 ghost use Rattle.std.specs.Prelude.{◌≡◌, ℕ, List, suc, Some, IsTrue, MatchOption, ◌↔◌, map};
 ghost use Rattle.wire_runs.specs.Plan.{Leave, event_of, kind};
 ghost use Rattle.wire_runs.specs.Plan as runs;
-ghost use Rattle.wire_content.specs.Planned.{plan_of};
+ghost use Rattle.wire_scripts.specs.Planned.{plan_of};
 ghost use Rattle.wire_runs.specs.Order.{IsArrival, Live};
 ghost use Rattle.wire_runs.specs.Races.{IsPutOnce, ComesSurely};
 ghost use Rattle.wire_plan.specs.Index.{AreArrivals};
@@ -11,7 +11,7 @@ ghost use Rattle.wire_fates.specs.Deliveries.{Arrives, AreOfRising, IsFoundAmong
 ghost use Rattle.wire_fates.specs.Deliveries.{MayBeLate, IsLate, AllLive, NoneAfter, IsFirstLate, IsNextArrival};
 
 use crate::get_deliveries::get_comes_surely;
-use wire_marks::MarkedPlan;
+use wire_happens_before::MarkedPlan;
 use wire_plan::Plan;
 use wire_types::{Event, Proc};
 

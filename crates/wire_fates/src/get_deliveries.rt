@@ -2,13 +2,13 @@
 
 ghost use Rattle.std.specs.Prelude.{◌-◌, ◌<◌, ◌≤◌, ◌↔◌, ℕ, IsTrue, length, map};
 ghost use Rattle.wire_runs.specs.Plan.{event_of};
-ghost use Rattle.wire_content.specs.Planned.{plan_of};
+ghost use Rattle.wire_scripts.specs.Planned.{plan_of};
 ghost use Rattle.wire_runs.specs.Races.{IsPutOnce};
 ghost use Rattle.wire_plan.specs.Index.{AreGetDeliveries};
 ghost use Rattle.wire_fates.specs.Deliveries.{AreOfOne, EndsAt, IsSureByGet};
 
 use crate::fence_deliveries::KeyRead;
-use wire_marks::MarkedPlan;
+use wire_happens_before::MarkedPlan;
 use wire_types::{Event, Proc};
 
 /// The place behind the last get of the process whose get stands at this place, among gets in process

@@ -2,7 +2,7 @@
 
 ghost use Rattle.std.specs.Prelude.{◌≡◌, ◌<◌, Some, true, false};
 ghost use Rattle.wire_runs.specs.Plan.{Get, event_of, event_count, kind, same_node, admits};
-ghost use Rattle.wire_content.specs.Planned.{plan_of};
+ghost use Rattle.wire_scripts.specs.Planned.{plan_of};
 ghost use Rattle.wire_runs.specs.Puts.{own};
 ghost use Rattle.wire_runs.specs.Sight.{Shown, held, served};
 ghost use Rattle.wire_runs.specs.Order.{Live};
@@ -11,7 +11,7 @@ ghost use Rattle.wire_plan.specs.Index.{IsFirstPut};
 ghost use Rattle.wire_fates.specs.Pasts.{GivesSight, GivesGet, GivesGetNow, GivesServed, GivesBrought};
 
 use crate::fence_deliveries::{KeyRead, comes_surely};
-use wire_marks::MarkedPlan;
+use wire_happens_before::MarkedPlan;
 use wire_plan::{Kind, Plan};
 use wire_types::{Event, Proc, Reply, Scope, Status, Value};
 

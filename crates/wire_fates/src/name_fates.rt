@@ -2,15 +2,15 @@
 
 ghost use Rattle.std.specs.Prelude.{◌<◌, ◌≤◌, ℕ, length, option_map, IfSome};
 ghost use Rattle.wire_runs.specs.Plan.{event_of, event_count};
-ghost use Rattle.wire_content.specs.Planned.{plan_of};
+ghost use Rattle.wire_scripts.specs.Planned.{plan_of};
 ghost use Rattle.wire_runs.specs.Order.{Live, Before};
 ghost use Rattle.wire_runs.specs.Races.{IsSettled};
-ghost use Rattle.wire_marks.specs.Updates.{AreUpdates};
+ghost use Rattle.wire_happens_before.specs.Updates.{AreUpdates};
 ghost use Rattle.wire_fates.specs.Cuts.{IsCut};
-ghost use Rattle.wire_fates.specs.Pasts.{events_in, IsStanding, GivesPublish, GivesLookup, GivesUnpublish, WaitsFor};
+ghost use Rattle.wire_fates.specs.Pasts.{events_in, IsStanding, GivesPublish, GivesLookup, GivesUnpublish, IsFateOfWait};
 
 use crate::fate::Fate;
-use wire_marks::{MarkedPlan, Update};
+use wire_happens_before::{MarkedPlan, Update};
 use wire_plan::Plan;
 use wire_types::{Event, Proc, Reply, Status, Value};
 
@@ -51,7 +51,7 @@ pub(crate) fn lookup_reply(plan: &Plan, standing: Option<Event>) -> Reply
 /// The fate of a lookup that waits for a name under which this publish stands.
 pub(crate) fn waiting_fate(plan: &Plan, standing: Option<Event>) -> Fate
     requires { IfSome standing (λ e. e.at < event_count (plan_of plan.now) e.proc.number) }
-    ensures { WaitsFor (plan_of plan.now) (option_map event_of standing) result }
+    ensures { IsFateOfWait (plan_of plan.now) (option_map event_of standing) result }
 {
     if standing.is_none() {
         return Fate::Waits;

@@ -2,7 +2,7 @@
 
 ghost use Rattle.std.specs.Prelude.{◌≡◌, ◌≢◌, ◌↔◌, ◌<◌, ℕ, List, [], true, IfOk, IfErr, IsOk};
 ghost use Rattle.wire_runs.specs.Plan as runs;
-ghost use Rattle.wire_content.specs.Planned.{plan_of};
+ghost use Rattle.wire_scripts.specs.Planned.{plan_of};
 ghost use Rattle.wire_runs.specs.State.{State, start};
 ghost use Rattle.wire_runs.specs.Step.{is_enabled, IsInterleaving, run, IsEnd, IsReachable};
 ghost use Rattle.wire_runs.specs.Fate as runs_fate;
@@ -10,21 +10,21 @@ ghost use Rattle.wire_runs.specs.Fate.{HasFate, IsSoundCut};
 ghost use Rattle.wire_runs.specs.Plan.{event_of, event_count};
 ghost use Rattle.wire_runs.specs.Laws.{Commute, FatesHold, HasOneEnd};
 ghost use Rattle.wire_runs.specs.Races.{IsSettled};
-ghost use Rattle.wire_marks.specs.Clocks.{AreMarks};
+ghost use Rattle.wire_happens_before.specs.Clocks.{AreMarks};
 ghost use Rattle.wire_findings.specs.Findings.{AreFindings};
 ghost use Rattle.wire_fates.specs.Fates.{IsFateOf, TellsReply, TellsEnabled};
 
 use crate::fate::{Fate, fate_of};
 use std::marker::Model;
 use wire_findings::Finding;
-use wire_marks::Marks;
+use wire_happens_before::HappensBefore;
 use wire_plan::Plan;
 use wire_types::Event;
 
 /// A plan in which nothing is found, with its marks.
 pub struct Settled {
     plan: Plan,
-    marks: Marks,
+    marks: HappensBefore,
 }
 
 // By hand and not derived: so dropping one is a call, and the proof of a function that drops one doesn't take it apart.
@@ -35,10 +35,10 @@ impl Drop for Settled {
 }
 
 impl Model for Settled {
-    ghost use Rattle.wire_content.specs.Scripts as spec;
-    ghost use Rattle.wire_content.specs.Planned.{plan_of};
+    ghost use Rattle.wire_scripts.specs.Scripts as spec;
+    ghost use Rattle.wire_scripts.specs.Planned.{plan_of};
     ghost use Rattle.wire_runs.specs.Races.{IsSettled};
-    ghost use Rattle.wire_marks.specs.Clocks.{AreMarks};
+    ghost use Rattle.wire_happens_before.specs.Clocks.{AreMarks};
 
     ghost Value = { spec.Scripts };
 
@@ -51,13 +51,17 @@ impl Model for Settled {
 #[derive(Drop)]
 pub struct Unsettled {
     pub plan: Plan,
-    pub marks: Marks,
+    pub marks: HappensBefore,
     pub findings: Vec<Finding>,
 }
 
 impl Settled {
     /// The plan as a settled one, where the list of its findings is empty; else all is given back.
-    pub fn try_new(plan: Plan, marks: Marks, findings: Vec<Finding>) -> Result<Settled, Unsettled>
+    pub fn try_new(
+        plan: Plan,
+        marks: HappensBefore,
+        findings: Vec<Finding>,
+    ) -> Result<Settled, Unsettled>
         requires marks { AreMarks (plan_of plan) marks }
         requires findings { AreFindings plan findings.items }
         ensures variant { IsOk result ↔ (findings.items ≡ []) }

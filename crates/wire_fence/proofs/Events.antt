@@ -18,10 +18,10 @@ use Rattle.wire_types.specs.declared.Reply.{Reply}
 use Rattle.wire_types.specs.declared.Status.TheVariants.{BadParam}
 use Rattle.wire_types.specs.Replies.{bare}
 use Rattle.wire_runs.proofs.Lists.{take_get, slice_get-append_right}
-use Rattle.wire_content.specs.Said.{is_reserved}
-use Rattle.wire_content.specs.Scripts.{Scripts, IsSound, set_at, text_at}
-use Rattle.wire_content.specs.Planned.{reply_of_key, planned_call, plan_of}
-use Rattle.wire_content.proofs.PlannedCalls.{events_are}
+use Rattle.wire_scripts.specs.Said.{is_reserved}
+use Rattle.wire_scripts.specs.Scripts.{Scripts, IsSound, set_at, text_at}
+use Rattle.wire_scripts.specs.Planned.{reply_of_key, planned_call, plan_of}
+use Rattle.wire_scripts.proofs.PlannedCalls.{events_are}
 use Rattle.wire_fence.specs.FenceTable.{is_over, fence_count, written_calls, FenceInfo, FenceTable, AreFencesOf, fence_at, fence_over}
 use Rattle.wire_fence.specs.Reading.{says_with, says_to}
 use Rattle.wire_fence.specs.Missing.{CallsAreArrivals}

@@ -9,12 +9,12 @@ use Rattle.wire_runs.specs.Plan.{event_count}
 use Rattle.wire_runs.specs.Fences.{arrivals, collects, is_full, is_collecting, has_node}
 use Rattle.wire_types.specs.declared.Call.{Call}
 use Rattle.wire_types.specs.declared.Call.TheVariants.{Fence}
-use Rattle.wire_content.specs.Scripts.{Scripts, IsSound, calls_in, call_at, set_at}
-use Rattle.wire_content.specs.Planned.{plan_of}
+use Rattle.wire_scripts.specs.Scripts.{Scripts, IsSound, calls_in, call_at, set_at}
+use Rattle.wire_scripts.specs.Planned.{plan_of}
 use Rattle.wire_fence.specs.declared.register.FenceDraft.{FenceDraft}
 use Rattle.wire_fence.specs.FenceTable.{FenceInfo, FenceTable, IsFenceOf, IsFence, AreFencesOf, is_reached, fence_at, fence_number, fence_over, fence_count, written_calls}
 use Rattle.wire_fence.specs.Reading.{says_to}
-use Rattle.wire_fence.specs.Register.{info_of, HasRow, read_count, read_to, IsRead, AreRead, IsNumber, AreAllNumbers}
+use Rattle.wire_fence.specs.Register.{info_of, HasRow, read_count, read_to, TellsOfRead, AreRead, IsNumber, AreAllNumbers}
 use Rattle.wire_fence.proofs.Counts.{all_same, all_by_count, none_missing}
 use Rattle.wire_fence.proofs.Events.{all_arrivals, all_say}
 
@@ -29,7 +29,7 @@ read_all s m = elim (cases_lt m (length s.processes)) [
 ]
 
 -- a row tells of its fence
-info_is : (s : Scripts) → IsSound s → (row : FenceDraft) → IsRead s (all_calls s) row → info_of s.sets row ≡ fence_over s row.set row.nth
+info_is : (s : Scripts) → IsSound s → (row : FenceDraft) → TellsOfRead s (all_calls s) row → info_of s.sets row ≡ fence_over s row.set row.nth
 info_is s sound row is =
     let members = set_at s.sets row.set in
     let full : (row.missing == 0) ≡ is_full (plan_of s) members row.nth =

@@ -8,8 +8,8 @@ use Rattle.std.proofs.lemmas.List.{length-map, length-set, get_or-set_same, get_
 use Rattle.wire_runs.specs.Plan.{Kind, Arrive, kind_at, update}
 use Rattle.wire_runs.specs.Fences.{arrivals_with, arrivals, is_complete}
 use Rattle.wire_runs.proofs.Basics.{update_same, update_other}
-use Rattle.wire_content.specs.Scripts.{Scripts, IsSound, set_at}
-use Rattle.wire_content.specs.Planned.{plan_of}
+use Rattle.wire_scripts.specs.Scripts.{Scripts, IsSound, set_at}
+use Rattle.wire_scripts.specs.Planned.{plan_of}
 use Rattle.wire_fence.specs.FenceTable.{FenceInfo, FenceTable, IsFence, AreFencesOf, fence_at}
 use Rattle.wire_fence.specs.Arrivals.{arrived, missing_at, one_arrived, TellsMissing, IsArriving}
 use Rattle.wire_fence.specs.Missing.{OtherEventsKeep, ArrivalCounts, SomebodyIsMissing, ArrivingIsMissing}

@@ -9,9 +9,9 @@ use Rattle.std.proofs.lemmas.List.Folds.{list_any_more}
 use Rattle.std.proofs.Math.Bool.{or-false}
 use Rattle.wire_runs.specs.Plan.{node_of, process_node}
 use Rattle.wire_runs.specs.Fences.{has_node}
-use Rattle.wire_content.specs.Scripts.{Process, Scripts, set_at}
-use Rattle.wire_content.specs.Planned.{planned_process, plan_of}
-use Rattle.wire_content.specs.Map.{node_in, node_at}
+use Rattle.wire_scripts.specs.Scripts.{Process, Scripts, set_at}
+use Rattle.wire_scripts.specs.Planned.{planned_process, plan_of}
+use Rattle.wire_scripts.specs.Map.{node_in, node_at}
 use Rattle.wire_fence.specs.FenceTable.{is_noted}
 
 -- the node of a process of the plan is that of the scripts

@@ -12,11 +12,11 @@ use Rattle.wire_types.specs.declared.Call.{Call}
 use Rattle.wire_types.specs.declared.Call.TheVariants.{Fence}
 use Rattle.wire_runs.proofs.Lists.{take_get, slice_get_push_kept, slice_get_push_last}
 use Rattle.wire_runs.proofs.Basics.{update_same, update_other}
-use Rattle.wire_content.specs.Scripts.{Scripts, IsSound, set_at}
+use Rattle.wire_scripts.specs.Scripts.{Scripts, IsSound, set_at}
 use Rattle.wire_fence.specs.declared.register.FenceDraft.{FenceDraft}
 use Rattle.wire_fence.specs.FenceTable.{is_over, fence_count, written_calls}
 use Rattle.wire_fence.specs.Reading.{says_with, says_to}
-use Rattle.wire_fence.specs.Register.{called, HasRow, IsCalled, Again, First, read_count, IsRead, AreRead}
+use Rattle.wire_fence.specs.Register.{called, HasRow, IsCalled, Again, First, read_count, TellsOfRead, AreRead}
 use Rattle.wire_fence.proofs.Counts.{count_same, all_same, count_none, all_pass, count_one_more, all_one_more, canonical_distinct}
 use Rattle.wire_fence.proofs.Events.{set_canonical}
 use Rattle.wire_fence.proofs.Missing.{le_same}
@@ -142,7 +142,7 @@ module _ (s : Scripts) (sound : IsSound s) (read : ℕ → ℕ) (p n set_of_call
       in
       says_before set_of_row nth ∙ sym (says_after set_of_row nth ∙ ap (λ b. cond b collect (says_to set_of_row nth (written_calls s p) n)) fails)
 
-  other_row : (row : FenceDraft) → ((row.set ≡ set_of_call) × (row.nth ≡ suc count) → ⊥) → IsRead s before row → IsRead s after row
+  other_row : (row : FenceDraft) → ((row.set ≡ set_of_call) × (row.nth ≡ suc count) → ⊥) → TellsOfRead s before row → TellsOfRead s after row
   other_row row other was = record {
     of_set = was.of_set;
     from_one = was.from_one;
@@ -169,7 +169,7 @@ module _ (s : Scripts) (sound : IsSound s) (read : ℕ → ℕ) (p n set_of_call
   }
 
   -- the called row
-  called_row : (row : FenceDraft) → row.set ≡ set_of_call → row.nth ≡ suc count → IsRead s before row → IsRead s after (called collect row)
+  called_row : (row : FenceDraft) → row.set ≡ set_of_call → row.nth ≡ suc count → TellsOfRead s before row → TellsOfRead s after (called collect row)
   called_row row of_set is_nth was =
       let members = set_at s.sets row.set in
       let distinct = canonical_distinct members (set_canonical s row.set sound was.of_set) in
@@ -207,7 +207,7 @@ module _ (s : Scripts) (sound : IsSound s) (read : ℕ → ℕ) (p n set_of_call
   abbrev blank : FenceDraft
   blank = record { set = set_of_call; nth = suc count; missing = length (set_at s.sets set_of_call); collects = true }
 
-  blank_row : (rows : List FenceDraft) → AreRead s before rows → ((m : ℕ) → HasRow rows m set_of_call (suc count) → ⊥) → IsRead s before blank
+  blank_row : (rows : List FenceDraft) → AreRead s before rows → ((m : ℕ) → HasRow rows m set_of_call (suc count) → ⊥) → TellsOfRead s before blank
   blank_row rows are none =
       let there = (sound.members p n set_of_call collect is).0 in
       let low : (m : ℕ) → read_count s before m set_of_call < suc count = λ m. elim (cases_lt (read_count s before m set_of_call) (suc count)) [
@@ -375,16 +375,16 @@ once_after s read rows new set_of_call nth members number collect are call m n k
 each_after : (s : Scripts) (sound : IsSound s) (read : ℕ → ℕ) (p n set_of_call : ℕ) (collect : Bool) (is : slice_get (written_calls s p) n ≡ Some (Fence set_of_call collect))
     (rows new : List FenceDraft) (number : ℕ) → AreRead s (update read p n) rows →
     IsCalled rows set_of_call (suc (fence_count set_of_call (take n (written_calls s p)))) (length (set_at s.sets set_of_call)) collect number new → (m : ℕ) (row : FenceDraft) →
-    slice_get new m ≡ Some row → IsRead s (update read p (suc n)) row
+    slice_get new m ≡ Some row → TellsOfRead s (update read p (suc n)) row
 each_after s sound read p n set_of_call collect is rows new number are (Again row there of_set is_nth made) m x at_m = elim
     (set_at_number rows number (called collect row) m x (ap (λ xs. slice_get xs m) (sym made) ∙ at_m)) [
-      | inl here ↦ subst (IsRead s (update read p (suc n))) (sym here.1) (called_row s sound read p n set_of_call collect is row of_set is_nth (are.each number row there))
+      | inl here ↦ subst (TellsOfRead s (update read p (suc n))) (sym here.1) (called_row s sound read p n set_of_call collect is row of_set is_nth (are.each number row there))
       | inr old ↦
           elim (cases_eq m number) [
             | inl same ↦
                 let new_row : x ≡ called collect row = same_Some x (called collect row)
                 (sym at_m ∙ ap (λ xs. slice_get xs m) made ∙ ap (slice_get (set rows number (called collect row))) same ∙ set_there rows number row (called collect row) there) in
-                subst (IsRead s (update read p (suc n))) (sym new_row) (called_row s sound read p n set_of_call collect is row of_set is_nth (are.each number row there))
+                subst (TellsOfRead s (update read p (suc n))) (sym new_row) (called_row s sound read p n set_of_call collect is row of_set is_nth (are.each number row there))
             | inr ne ↦
                 other_row s sound read p n set_of_call collect is x
                 (λ both. ne (are.once m number set_of_call (suc (fence_count set_of_call (take n (written_calls s p)))) (record { row = x; there = old; of_set = both.0; is_nth = both.1 })
@@ -395,7 +395,7 @@ each_after s sound read p n set_of_call collect is rows new number are (Again ro
 each_after s sound read p n set_of_call collect is rows new number are (First last none made) m x at_m =
     let first : FenceDraft = record { set = set_of_call; nth = suc (fence_count set_of_call (take n (written_calls s p))); missing = length (set_at s.sets set_of_call); collects = true } in
     elim (push_at rows (called collect first) m x (ap (λ xs. slice_get xs m) (sym made) ∙ at_m)) [
-      | inl here ↦ subst (IsRead s (update read p (suc n))) (sym here.1)
+      | inl here ↦ subst (TellsOfRead s (update read p (suc n))) (sym here.1)
           (called_row s sound read p n set_of_call collect is first refl refl (blank_row s sound read p n set_of_call collect is rows are none))
       | inr old ↦
           other_row s sound read p n set_of_call collect is x

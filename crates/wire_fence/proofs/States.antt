@@ -11,7 +11,7 @@ use Rattle.wire_types.specs.declared.Call.{Call}
 use Rattle.wire_types.specs.declared.Call.TheVariants.{Fence}
 use Rattle.wire_runs.proofs.Lists.{take_get}
 use Rattle.wire_runs.proofs.Basics.{update_same, update_other}
-use Rattle.wire_content.specs.Scripts.{Process, Scripts, IsSound, set_at, calls_in, call_count}
+use Rattle.wire_scripts.specs.Scripts.{Process, Scripts, IsSound, set_at, calls_in, call_count}
 use Rattle.wire_fence.specs.declared.register.FenceDraft.{FenceDraft}
 use Rattle.wire_fence.specs.FenceTable.{is_over, fence_count, written_calls}
 use Rattle.wire_fence.specs.Reading.{says_with}

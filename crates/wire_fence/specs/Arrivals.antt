@@ -3,8 +3,8 @@ use Rattle.std.specs.Prelude.{◌≡◌, ℕ, suc, ◌+◌, ◌-◌, List, Bool,
 use Rattle.std.specs.Prelude.{slice_index_or}
 use Rattle.wire_runs.specs.Plan.{Arrive, kind_at}
 use Rattle.wire_runs.specs.Fences.{arrivals, is_member}
-use Rattle.wire_content.specs.Scripts.{Scripts}
-use Rattle.wire_content.specs.Planned.{plan_of}
+use Rattle.wire_scripts.specs.Scripts.{Scripts}
+use Rattle.wire_scripts.specs.Planned.{plan_of}
 use Rattle.wire_fence.specs.FenceTable.{FenceInfo, FenceTable, fence_at}
 
 -- how many of the members have arrived at the fence

@@ -6,8 +6,8 @@ use Rattle.std.specs.List.{list_any}
 use Rattle.wire_runs.specs.Fences.{is_full, is_collecting, has_node}
 use Rattle.wire_types.specs.declared.Call.{Call}
 use Rattle.wire_types.specs.declared.Call.TheVariants.{Fence}
-use Rattle.wire_content.specs.Scripts.{Scripts, IsSound, calls_in, call_at, set_at}
-use Rattle.wire_content.specs.Planned.{plan_of}
+use Rattle.wire_scripts.specs.Scripts.{Scripts, IsSound, calls_in, call_at, set_at}
+use Rattle.wire_scripts.specs.Planned.{plan_of}
 
 -- a fence: the number of its set, its number among the fences over that set, from 1, its members, whether each of them
 -- calls it, and whether every call of it says collect. A member that doesn't call it has no say in the last, so a fence

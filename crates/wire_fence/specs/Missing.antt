@@ -2,8 +2,8 @@
 use Rattle.std.specs.Prelude.{◌≡◌, ℕ, suc, ◌<◌, List, Bool, true, false, Some, length, map, take, nat_le}
 use Rattle.wire_runs.specs.Plan.{Arrive, kind_at, kinds_of, update}
 use Rattle.wire_runs.specs.Fences.{arrivals, is_member}
-use Rattle.wire_content.specs.Scripts.{Scripts, IsSound, set_at}
-use Rattle.wire_content.specs.Planned.{planned_call, plan_of}
+use Rattle.wire_scripts.specs.Scripts.{Scripts, IsSound, set_at}
+use Rattle.wire_scripts.specs.Planned.{planned_call, plan_of}
 use Rattle.wire_fence.specs.FenceTable.{FenceInfo, FenceTable, AreFencesOf, fence_at, fence_count, written_calls}
 use Rattle.wire_fence.specs.Arrivals.{TellsMissing, IsArriving, one_arrived, missing_at}
 

@@ -6,7 +6,7 @@ use Rattle.std.specs.Prelude.{count_by, nat_le, nat_lt, slice_get, slice_index_o
 use Rattle.std.specs.List.{list_all}
 use Rattle.wire_types.specs.declared.Call.{Call}
 use Rattle.wire_types.specs.declared.Call.TheVariants.{Fence}
-use Rattle.wire_content.specs.Scripts.{Process, Scripts, calls_in, set_at}
+use Rattle.wire_scripts.specs.Scripts.{Process, Scripts, calls_in, set_at}
 use Rattle.wire_fence.specs.declared.register.FenceDraft.{FenceDraft}
 use Rattle.wire_fence.specs.declared.register.Register.{Register}
 use Rattle.wire_fence.specs.FenceTable.{FenceInfo, fence_count, written_calls}
@@ -60,7 +60,7 @@ abbrev pub read_count : Scripts → (ℕ → ℕ) → ℕ → ℕ → ℕ
 read_count s read m set_of_call = fence_count set_of_call (take (read m) (written_calls s m))
 
 -- the row tells of the calls that are read, so many of each process
-pub record IsRead (s : Scripts) (read : ℕ → ℕ) (row : FenceDraft) : Type 0 where
+pub record TellsOfRead (s : Scripts) (read : ℕ → ℕ) (row : FenceDraft) : Type 0 where
   pub of_set : row.set < length s.sets
   pub from_one : 0 < row.nth
   pub missing : row.missing + count_by (λ m. nat_le row.nth (read_count s read m row.set)) (set_at s.sets row.set) ≡ length (set_at s.sets row.set)
@@ -68,7 +68,7 @@ pub record IsRead (s : Scripts) (read : ℕ → ℕ) (row : FenceDraft) : Type 0
 
 -- the rows are those of the fences that are read, each once
 pub record AreRead (s : Scripts) (read : ℕ → ℕ) (rows : List FenceDraft) : Type 0 where
-  pub each : (number : ℕ) (row : FenceDraft) → slice_get rows number ≡ Some row → IsRead s read row
+  pub each : (number : ℕ) (row : FenceDraft) → slice_get rows number ≡ Some row → TellsOfRead s read row
   pub once : (m n set nth : ℕ) → HasRow rows m set nth → HasRow rows n set nth → m ≡ n
   pub there : (m set nth : ℕ) → set < length s.sets → 0 < nth → nth ≤ read_count s read m set → (number : ℕ) × HasRow rows number set nth
 

@@ -3,8 +3,8 @@
 ghost use Rattle.std.specs.Prelude.{◌≡◌, ◌<◌, ◌==◌, ℕ, suc, Some, length, map, IfOk, IsOkUnless};
 ghost use Rattle.wire_runs.specs.Plan.{update};
 ghost use Rattle.wire_runs.specs.Fences.{is_complete};
-ghost use Rattle.wire_content.specs.Scripts.{Scripts as TheScripts};
-ghost use Rattle.wire_content.specs.Planned.{plan_of};
+ghost use Rattle.wire_scripts.specs.Scripts.{Scripts as TheScripts};
+ghost use Rattle.wire_scripts.specs.Planned.{plan_of};
 ghost use Rattle.wire_fence.specs.FenceTable.{FenceInfo, FenceTable, AreFencesOf, fence_at};
 ghost use Rattle.wire_fence.specs.Arrivals.{TellsMissing, IsArriving, missing_at as how_many_missing, one_arrived};
 

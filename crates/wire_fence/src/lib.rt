@@ -2,12 +2,12 @@
 #![tactic(auto)]
 
 mod arrivals;
-mod law;
+mod laws;
 mod register;
 mod table;
 
 pub use arrivals::Arrivals;
-pub use law::{
+pub use laws::{
     arrival_counts, arriving_is_missing, calls_are_arrivals, other_events_keep, somebody_is_missing,
 };
 pub use table::{FenceId, Fences};

@@ -4,14 +4,14 @@ ghost use Rattle.std.specs.Prelude.{◌≡◌, ◌+◌, ◌<◌, ◌≤◌, ◌^
 ghost use Rattle.std.specs.Prelude.{◌↔◌, IsTrue, OnOk, IfOk, Some, None};
 ghost use Rattle.wire_types.specs.declared.Call.TheVariants.{Fence as TheFence};
 ghost use Rattle.wire_runs.specs.Plan.{update};
-ghost use Rattle.wire_content.specs.Scripts.{Scripts, IsSound, IsCounted, numbers_of, call_at, set_at};
+ghost use Rattle.wire_scripts.specs.Scripts.{Scripts, IsSound, IsCounted, numbers_of, call_at, set_at};
 ghost use Rattle.wire_fence.specs.FenceTable.{written_calls};
 ghost use Rattle.wire_fence.specs.Register.{IsKeyed, HasRow, IsCalled, IsAfter, AreNumbersOf, AreAllNumbers, AreRead};
 ghost use Rattle.wire_fence.specs.Register.{AreForgotten, EndsBare, read_to, called, number_kept};
 
 use indexmap::IndexSet;
 use std::alloc::{AllocError, Global};
-use wire_content::Process;
+use wire_scripts::Process;
 use wire_types::{Call, Proc};
 
 /// What is kept of a call that is part of no fence. No fence has this number.

@@ -4,8 +4,8 @@ ghost use Rattle.std.specs.Prelude.{◌≡◌, ◌<◌, ◌||◌, ◌&&◌, ◌=
 ghost use Rattle.std.specs.Prelude.{map as map_list, slice_index_or, IfOk, OnOk, IsOkUnless};
 ghost use Rattle.std.specs.List.{list_all};
 ghost use Rattle.wire_runs.specs.Fences.{has_node};
-ghost use Rattle.wire_content.specs.Scripts.{Scripts as TheScripts, numbers_of, set_at};
-ghost use Rattle.wire_content.specs.Planned.{plan_of};
+ghost use Rattle.wire_scripts.specs.Scripts.{Scripts as TheScripts, numbers_of, set_at};
+ghost use Rattle.wire_scripts.specs.Planned.{plan_of};
 ghost use Rattle.wire_procmap.specs.Map.{map_of, row_count};
 ghost use Rattle.wire_fence.specs.FenceTable.{FenceInfo, AreFencesOf, fence_at, members_in, full_in, collects_in};
 ghost use Rattle.wire_fence.specs.FenceTable.{reaches_in, is_noted, fence_number as the_fence_number};
@@ -15,8 +15,8 @@ use crate::register::{FenceDraft, NO_FENCE, members_of, read_rows};
 use std::alloc::{AllocError, Global};
 use std::collections::HashSet;
 use std::marker::Model;
-use wire_content::{Scripts, Sets};
 use wire_procmap::ProcMap;
+use wire_scripts::{Scripts, Sets};
 use wire_types::{CallAt, Fault, Proc};
 
 /// A fence, by its number.
@@ -51,7 +51,7 @@ impl Drop for Fences {
 
 impl Model for Fences {
     ghost use Rattle.std.specs.Prelude.{map};
-    ghost use Rattle.wire_content.specs.Scripts.{numbers_of};
+    ghost use Rattle.wire_scripts.specs.Scripts.{numbers_of};
     ghost use Rattle.wire_fence.specs.FenceTable.{FenceTable};
     ghost use Rattle.wire_fence.specs.Register.{info_of, number_kept};
 

@@ -5,7 +5,7 @@ use Rattle.wire_runs.specs.Plan.{Plan}
 use Rattle.wire_runs.specs.Findings.{Finding, Has}
 use Rattle.wire_findings.specs.declared.finding.Finding.{Finding as Told}
 use Rattle.wire_findings.specs.Findings.{shown, all_shown}
-use Rattle.wire_findings.specs.Collected.{Tells, AreFound, IsAdded}
+use Rattle.wire_findings.specs.Collected.{TellsFinding, AreFound, IsFindingAdded}
 
 has_front : (xs ys : List Finding) (f : Finding) → Has xs f → Has (xs ++ ys) f
 has_front [] ys f h = absurd h
@@ -25,17 +25,17 @@ module _ (plan : Plan) (old new piece : List Told) (is : new ≡ old ++ piece) w
   parts : all_shown plan new ≡ all_shown plan old ++ all_shown plan piece
   parts = ap (all_shown plan) is ∙ map-append (shown plan) old piece
 
-  pub tells_old : (f : Finding) → Tells plan old f → Tells plan new f
+  pub tells_old : (f : Finding) → TellsFinding plan old f → TellsFinding plan new f
   tells_old f h = subst (λ l. Has l f) (sym parts) (has_front (all_shown plan old) (all_shown plan piece) f h)
 
-  pub tells_piece : (f : Finding) → Tells plan piece f → Tells plan new f
+  pub tells_piece : (f : Finding) → TellsFinding plan piece f → TellsFinding plan new f
   tells_piece f h = subst (λ l. Has l f) (sym parts) (has_back (all_shown plan old) (all_shown plan piece) f h)
 
-  pub tells_either : (f : Finding) → Tells plan new f → Tells plan old f ⊎ Tells plan piece f
+  pub tells_either : (f : Finding) → TellsFinding plan new f → TellsFinding plan old f ⊎ TellsFinding plan piece f
   tells_either f h = has_either (all_shown plan old) (all_shown plan piece) f (subst (λ l. Has l f) parts h)
 
 -- a finding is added
-pub pushed : (plan : Plan) (old new : List Told) (t : Told) → new ≡ old ++ t ∷ [] → IsAdded plan old new (shown plan t)
+pub pushed : (plan : Plan) (old new : List Told) (t : Told) → new ≡ old ++ t ∷ [] → IsFindingAdded plan old new (shown plan t)
 pushed plan old new t is f = (
   (λ h. elim (tells_either plan old new (t ∷ []) is f h) [
     | inl was ↦ inl was

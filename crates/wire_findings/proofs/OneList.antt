@@ -14,8 +14,8 @@ use Rattle.wire_runs.specs.Races.{IsSettled}
 use Rattle.wire_runs.specs.Findings.{Finding, IsFound, Has, IsFindings}
 use Rattle.wire_runs.specs.Laws.{IsOneWay}
 use Rattle.wire_runs.proofs.Findings.{no_findings, one_list}
-use Rattle.wire_content.specs.Scripts.{Scripts, text_at}
-use Rattle.wire_content.specs.Planned.{plan_of}
+use Rattle.wire_scripts.specs.Scripts.{Scripts, text_at}
+use Rattle.wire_scripts.specs.Planned.{plan_of}
 use Rattle.wire_findings.specs.Findings.{shown, all_shown, lower_name, AreFindings}
 use Rattle.wire_findings.specs.declared.finding.Finding.{Finding as Told}
 use Rattle.wire_findings.specs.declared.finding.Finding.TheVariants as told_as

@@ -22,9 +22,9 @@ use Rattle.wire_runs.proofs.EventLists.{lower_not_same}
 use Rattle.wire_findings.specs.declared.finding.Finding.{Finding as Told}
 use Rattle.wire_findings.specs.declared.finding.Finding.TheVariants.{Rewrite, KeyRace, NameRace}
 use Rattle.wire_findings.specs.declared.found.Standing.{Standing}
-use Rattle.wire_content.specs.Scripts.{text_at}
+use Rattle.wire_scripts.specs.Scripts.{text_at}
 use Rattle.wire_findings.specs.Findings.{shown, all_shown, lower_name}
-use Rattle.wire_findings.specs.Collected.{Tells, AreFound}
+use Rattle.wire_findings.specs.Collected.{TellsFinding, AreFound}
 use Rattle.wire_findings.specs.Standings.{standing, race_name, call_cmp, standing_cmp, told_cmp, AreNamesOf}
 use Rattle.wire_findings.proofs.Told.{IsLike, found_like, low_call, high_call, shown_low, shown_high, one_first, never_both, one_standing}
 use Rattle.wire_findings.proofs.OneList.{rising}
@@ -149,7 +149,7 @@ module _ (plan : Plan) (names : List (List ℕ)) (of : AreNamesOf plan names) wh
   sooner (NameRace v w n) (KeyRace x y q l) a b e = name_first v w x y q l n a b e
   sooner (NameRace v w n) (NameRace x y m) a b e = by_name v w x y n m a e
 
-  first_sooner : (f : Told) (fs : List Told) → IsFound plan (shown plan f) → AreFound plan fs → AllByRecursion (λ g. told_cmp names f g ≡ Less) fs → (g : Finding) → Tells plan fs g →
+  first_sooner : (f : Told) (fs : List Told) → IsFound plan (shown plan f) → AreFound plan fs → AllByRecursion (λ g. told_cmp names f g ≡ Less) fs → (g : Finding) → TellsFinding plan fs g →
       IsSooner (lower_name names) (shown plan f) g
   first_sooner f [] a found all g h = absurd h
   first_sooner f (x ∷ fs) a found all g (inl is) =
@@ -190,12 +190,12 @@ module _ (plan : Plan) (names : List (List ℕ)) (of : AreNamesOf plan names) wh
       one_standing plan names of x k (standing_same (standing x) (standing k) both.0) (text_one (race_name names x) (race_name names k) both.1) a b
 
   -- what is told once is told as before
-  kept : (k : Told) (xs : List Told) (f : Finding) → AreFound plan (k ∷ xs) → Tells plan (k ∷ xs) f → Tells plan (dedup_from (same_place names) k xs) f
+  kept : (k : Told) (xs : List Told) (f : Finding) → AreFound plan (k ∷ xs) → TellsFinding plan (k ∷ xs) f → TellsFinding plan (dedup_from (same_place names) k xs) f
   kept k [] f found h = h
   kept k (x ∷ xs) f found h =
       let rest : AreFound plan (x ∷ xs) = λ g i. found g (inr i) in
       let without : AreFound plan (k ∷ xs) = λ g i. found g (⊎_elim (λ e. inl e) (λ j. inr (inr j)) i) in
-      cond_both (same_place names x k) (dedup_from (same_place names) k xs) (k ∷ dedup_from (same_place names) x xs) (λ l. Tells plan l f)
+      cond_both (same_place names x k) (dedup_from (same_place names) k xs) (k ∷ dedup_from (same_place names) x xs) (λ l. TellsFinding plan l f)
       (λ t. kept k xs f without (elim h [
         | inl e ↦ inl e
         | inr i ↦ elim i [
@@ -205,39 +205,39 @@ module _ (plan : Plan) (names : List (List ℕ)) (of : AreNamesOf plan names) wh
       ]))
       (λ n. elim h [ inl e ↦ inl e | inr i ↦ inr (kept x xs f rest i) ])
 
-  were : (k : Told) (xs : List Told) (f : Finding) → Tells plan (dedup_from (same_place names) k xs) f → Tells plan (k ∷ xs) f
+  were : (k : Told) (xs : List Told) (f : Finding) → TellsFinding plan (dedup_from (same_place names) k xs) f → TellsFinding plan (k ∷ xs) f
   were k [] f = λ h. h
   were k (x ∷ xs) f =
-      cond_both (same_place names x k) (dedup_from (same_place names) k xs) (k ∷ dedup_from (same_place names) x xs) (λ l. Tells plan l f → Tells plan (k ∷ x ∷ xs) f)
+      cond_both (same_place names x k) (dedup_from (same_place names) k xs) (k ∷ dedup_from (same_place names) x xs) (λ l. TellsFinding plan l f → TellsFinding plan (k ∷ x ∷ xs) f)
       (λ t h. ⊎_elim (λ e. inl e) (λ i. inr (inr i)) (were k xs f h))
       (λ n h. elim h [ inl e ↦ inl e | inr i ↦ inr (were x xs f i) ])
 
-  once : (xs : List Told) (f : Finding) → AreFound plan xs → Tells plan (dedup (same_place names) xs) f ↔ Tells plan xs f
+  once : (xs : List Told) (f : Finding) → AreFound plan xs → TellsFinding plan (dedup (same_place names) xs) f ↔ TellsFinding plan xs f
   once [] f found = ((λ h. h), (λ h. h))
   once (x ∷ xs) f found = ((λ h. were x xs f h), (λ h. kept x xs f found h))
 
-  told_at : (xs : List Told) (f : Finding) → Tells plan xs f → (t : Told) × Contains xs t × (f ≡ shown plan t)
+  told_at : (xs : List Told) (f : Finding) → TellsFinding plan xs f → (t : Told) × Contains xs t × (f ≡ shown plan t)
   told_at [] f h = absurd h
   told_at (x ∷ xs) f (inl e) = (x, (0, omega arith, refl), e)
   told_at (x ∷ xs) f (inr h) = let w = told_at xs f h in let lt = w.1.1 in (w.0, (suc w.1.0, omega (arith, lt), w.1.2), w.2)
 
-  at_told : (xs : List Told) (t : Told) → Contains xs t → Tells plan xs (shown plan t)
+  at_told : (xs : List Told) (t : Told) → Contains xs t → TellsFinding plan xs (shown plan t)
   at_told [] t (k, lt, is) = omega (arith, lt)
   at_told (x ∷ xs) t (zero, lt, is) = inl (ap (shown plan) (sym is))
   at_told (x ∷ xs) t (suc k, lt, is) = inr (at_told xs t (k, omega (arith, lt), is))
 
-  moved : (xs ys : List Told) (f : Finding) → IsPermutation xs ys → Tells plan xs f → Tells plan ys f
-  moved xs ys f p h = let w = told_at xs f h in subst (λ g. Tells plan ys g) (sym w.2) (at_told ys w.0 (Contains-permutation xs ys w.0 p w.1))
+  moved : (xs ys : List Told) (f : Finding) → IsPermutation xs ys → TellsFinding plan xs f → TellsFinding plan ys f
+  moved xs ys f p h = let w = told_at xs f h in subst (λ g. TellsFinding plan ys g) (sym w.2) (at_told ys w.0 (Contains-permutation xs ys w.0 p w.1))
 
   module _ (xs ys zs : List Told) (p : IsPermutation xs ys) (is : zs ≡ dedup (same_place names) ys) (found : AreFound plan xs) where
     sorted_found : AreFound plan ys
     sorted_found f h = found f (moved ys xs f (IsPermutation-sym xs ys p) h)
 
     -- the list tells what was met
-    pub list_tells : (f : Finding) → Tells plan zs f ↔ Tells plan xs f
+    pub list_tells : (f : Finding) → TellsFinding plan zs f ↔ TellsFinding plan xs f
     list_tells f = (
-      (λ h. moved ys xs f (IsPermutation-sym xs ys p) ((once ys f sorted_found).0 (subst (λ l. Tells plan l f) is h))),
-      (λ h. subst (λ l. Tells plan l f) (sym is) ((once ys f sorted_found).1 (moved xs ys f p h))),
+      (λ h. moved ys xs f (IsPermutation-sym xs ys p) ((once ys f sorted_found).0 (subst (λ l. TellsFinding plan l f) is h))),
+      (λ h. subst (λ l. TellsFinding plan l f) (sym is) ((once ys f sorted_found).1 (moved xs ys f p h))),
     )
 
     -- in the order of findings

@@ -22,7 +22,7 @@ use Rattle.wire_runs.specs.Plan.{Plan}
 use Rattle.wire_runs.specs.Findings.{Finding, IsSorted}
 use Rattle.wire_runs.proofs.Lists.{slice_get-append_left}
 use Rattle.wire_findings.specs.Findings.{all_shown, lower_name}
-use Rattle.wire_findings.specs.Collected.{Tells, AreFound}
+use Rattle.wire_findings.specs.Collected.{TellsFinding, AreFound}
 use Rattle.wire_findings.proofs.Ordered.{same_place, told_total, list_tells, list_sorted}
 
 of_same : (b : Bool) (o p : Option Subject) (v w : CallAt) → (b ≡ false → o ≡ p) → told_of b o v w ≡ told_of b p v w
@@ -116,7 +116,7 @@ module _ (plan : Plan) (names : List (List ℕ)) (of : AreNamesOf plan names) (s
   moved = IsPermutation-map (told_by subjects) met up p
 
   -- the list tells what was met
-  pub entries_tell : (f : Finding) → Tells plan (all_told_by subjects list) f ↔ Tells plan (all_told_by subjects met) f
+  pub entries_tell : (f : Finding) → TellsFinding plan (all_told_by subjects list) f ↔ TellsFinding plan (all_told_by subjects met) f
   entries_tell = list_tells plan names of (all_told_by subjects met) (all_told_by subjects up) (all_told_by subjects list) moved told_once found
 
   -- in the order of findings

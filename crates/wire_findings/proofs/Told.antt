@@ -5,7 +5,7 @@ use Rattle.std.proofs.lemmas.Bool.{cases_lt, true≢false}
 use Rattle.wire_runs.specs.Plan.{Plan, Event, Kind, Put, GetNow, Publish, Lookup, LookupWait, Unpublish, kind}
 use Rattle.wire_types.specs.declared.CallAt.{CallAt}
 use Rattle.wire_types.specs.declared.Proc.{Proc}
-use Rattle.wire_content.specs.Scripts.{text_at}
+use Rattle.wire_scripts.specs.Scripts.{text_at}
 use Rattle.wire_runs.specs.Names.{calls_name}
 use Rattle.wire_runs.specs.Races.{IsRewrite}
 use Rattle.wire_plan.specs.Index.{IsFirstPut}

@@ -5,8 +5,8 @@ use Rattle.std.specs.Ordering.{is_lt, nat_cmp}
 use Rattle.wire_runs.specs.Plan.{Plan}
 use Rattle.wire_runs.specs.Ends.{first_event}
 use Rattle.wire_runs.specs.Findings.{Finding, Rewrite, KeyRace, NameRace, IsFindings}
-use Rattle.wire_content.specs.Scripts.{Scripts, text_at}
-use Rattle.wire_content.specs.Planned.{plan_of}
+use Rattle.wire_scripts.specs.Scripts.{Scripts, text_at}
+use Rattle.wire_scripts.specs.Planned.{plan_of}
 use Rattle.wire_findings.specs.declared.finding.Finding.{Finding as Told}
 use Rattle.wire_findings.specs.declared.finding.Finding.TheVariants as told
 

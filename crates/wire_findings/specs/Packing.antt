@@ -37,8 +37,8 @@ abbrev pub HasMore : List Subject → List Subject → Type 0
 HasMore old new = (more : List Subject) × (new ≡ old ++ more)
 
 -- this is the last subject
-abbrev pub IsLast : List Subject → Subject → Type 0
-IsLast subjects subject = slice_get subjects (length subjects - 1) ≡ Some subject
+abbrev pub IsLastSubject : List Subject → Subject → Type 0
+IsLastSubject subjects subject = slice_get subjects (length subjects - 1) ≡ Some subject
 
 -- the place of the subject in the table, counted from 1
 abbrev pub IsNumberOf : List Subject → Subject → ℕ → Type 0

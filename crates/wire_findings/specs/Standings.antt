@@ -8,8 +8,8 @@ use Rattle.std.specs.Ordering.{ordering_then, then_cmp, on, nat_cmp, bool_cmp}
 use Rattle.wire_types.specs.declared.CallAt.{CallAt}
 use Rattle.wire_runs.specs.Plan.{Plan, Event}
 use Rattle.wire_runs.specs.Findings.{NameRace, IsFound}
-use Rattle.wire_content.specs.Scripts.{text_at}
-use Rattle.wire_content.specs.Apart.{AreApart}
+use Rattle.wire_scripts.specs.Scripts.{text_at}
+use Rattle.wire_scripts.specs.Apart.{AreDistinct}
 use Rattle.wire_findings.specs.declared.finding.Finding.{Finding as Told}
 use Rattle.wire_findings.specs.declared.finding.Finding.TheVariants as told
 use Rattle.wire_findings.specs.declared.packed.Subject.{Subject}
@@ -50,5 +50,5 @@ AreInOrder names subjects entries = AllAdjacentBelow (λ x y. entry_cmp names su
 
 -- the names of the plan: no text is there twice, and races on names are on these
 pub record AreNamesOf (plan : Plan) (names : List (List ℕ)) : Type 0 where
-  pub apart : AreApart names
+  pub apart : AreDistinct names
   pub within : (x y : Event) (name : ℕ) → IsFound plan (NameRace x y name) → name < length names

@@ -6,7 +6,7 @@ ghost use Rattle.wire_runs.specs.Plan as runs;
 ghost use Rattle.wire_runs.specs.Findings as told;
 ghost use Rattle.wire_runs.specs.Findings.{IsSorted};
 ghost use Rattle.wire_findings.specs.Findings.{shown, all_shown, lower_name};
-ghost use Rattle.wire_findings.specs.Collected.{Tells, AreFound, IsAdded};
+ghost use Rattle.wire_findings.specs.Collected.{TellsFinding, AreFound, IsFindingAdded};
 ghost use Rattle.wire_findings.specs.Packing.{told_by, all_told_by};
 ghost use Rattle.wire_findings.specs.Standings.{standing, race_name, told_cmp, entry_cmp, AreInOrder, AreNamesOf};
 
@@ -16,7 +16,7 @@ use crate::packed::{Packed, Subject, pack, unpack};
 use std::alloc::{AllocError, Global};
 use std::cmp::Ordering;
 use std::marker::Model;
-use wire_content::Texts;
+use wire_scripts::Texts;
 use wire_types::CallAt;
 
 /// Where a finding stands in the list: a rewrite by the later put, and behind all of them a race by its
@@ -113,22 +113,22 @@ fn are_in_order(names: &Texts, subjects: &[Subject], entries: &[Packed]) -> bool
 }
 
 /// Findings as they are met, in any order, in few bytes. One that is met twice stands there twice.
-pub struct Found {
+pub struct FindingsBuilder {
     entries: Vec<Packed>,
     subjects: Vec<Subject>,
 }
 
 // By hand and not derived: so dropping one is a call, and the proof of a function that drops one doesn't take it apart.
-impl Drop for Found {
+impl Drop for FindingsBuilder {
     fn drop(self) {
-        let Found {
+        let FindingsBuilder {
             entries: _,
             subjects: _,
         } = self;
     }
 }
 
-impl Model for Found {
+impl Model for FindingsBuilder {
     ghost use Rattle.std.specs.Prelude.{List};
     ghost use Rattle.wire_findings.specs.declared.finding.Finding.{Finding as Told};
     ghost use Rattle.wire_findings.specs.Packing.{all_told_by, AreWithin};
@@ -140,12 +140,12 @@ impl Model for Found {
     ghost invariant = { λ f. AreWithin f.subjects.items f.entries.items };
 }
 
-impl Found {
+impl FindingsBuilder {
     /// Nothing yet.
-    pub fn new(alloc: Global) -> Found
+    pub fn new(alloc: Global) -> FindingsBuilder
         ensures { result ≡ [] }
     {
-        Found {
+        FindingsBuilder {
             entries: Vec::new(alloc),
             subjects: Vec::new(alloc),
         }
@@ -163,7 +163,7 @@ impl Found {
     /// Adds a finding, behind the others. The one error is that memory ran out: nothing is said of what is there
     /// then, and a caller drops it.
     pub fn add(&mut self, finding: Finding) -> Result<(), AllocError>
-        ensures added { OnOk result ((plan : runs.Plan) → IsAdded plan self.old self.new (shown plan finding)) }
+        ensures added { OnOk result ((plan : runs.Plan) → IsFindingAdded plan self.old self.new (shown plan finding)) }
         ensures behind { OnOk result (self.new ≡ self.old ++ finding ∷ []) }
     {
         self.push(finding)
@@ -181,7 +181,7 @@ impl Found {
 
     /// Adds the findings of a piece, behind the others. Where nothing is there yet, they needn't be moved. The one
     /// error is that memory ran out: a part of the piece may be there then, and a caller drops it.
-    pub fn append(&mut self, piece: Found) -> Result<(), AllocError>
+    pub fn append(&mut self, piece: FindingsBuilder) -> Result<(), AllocError>
         ensures { OnOk result (self.new ≡ self.old ++ piece) }
     {
         if self.entries.is_empty() {
@@ -195,7 +195,7 @@ impl Found {
     pub fn as_met(self) -> FindingList
         ensures { result ≡ self }
     {
-        let Found { entries, subjects } = self;
+        let FindingsBuilder { entries, subjects } = self;
         FindingList::new(entries, subjects)
     }
 
@@ -203,10 +203,10 @@ impl Found {
     /// moved.
     pub fn into_list(self, names: &Texts) -> FindingList
         ensures those { (plan : runs.Plan) → AreNamesOf plan names.now → AreFound plan self → (f : told.Finding) →
-            Tells plan result f ↔ Tells plan self f }
+            TellsFinding plan result f ↔ TellsFinding plan self f }
         ensures sorted { (plan : runs.Plan) → AreNamesOf plan names.now → AreFound plan self → IsSorted (lower_name names.now) (all_shown plan result) }
     {
-        let Found {
+        let FindingsBuilder {
             mut entries,
             subjects,
         } = self;

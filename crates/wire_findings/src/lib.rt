@@ -7,5 +7,5 @@ mod list;
 mod packed;
 
 pub use finding::Finding;
-pub use found::{Found, compare_findings};
+pub use found::{FindingsBuilder, compare_findings};
 pub use list::FindingList;

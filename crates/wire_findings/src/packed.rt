@@ -1,7 +1,7 @@
 //! Findings in few bytes.
 
 ghost use Rattle.std.specs.Prelude.{◌≡◌, ◌≤◌, IsTrue, IfOk, length};
-ghost use Rattle.wire_findings.specs.Packing.{told_by, all_told_by, HasMore, IsLast, IsNumberOf};
+ghost use Rattle.wire_findings.specs.Packing.{told_by, all_told_by, HasMore, IsLastSubject, IsNumberOf};
 
 use crate::finding::Finding;
 use std::alloc::{AllocError, Global};
@@ -30,7 +30,7 @@ pub(crate) struct Packed {
 
 /// Whether this is the last subject of the table.
 fn is_last(subjects: &[Subject], subject: Subject) -> bool
-    ensures { IsTrue result → IsLast subjects.now subject }
+    ensures { IsTrue result → IsLastSubject subjects.now subject }
 {
     match subjects.last() {
         Some(last) => *last == subject,

@@ -11,14 +11,14 @@ use Rattle.wire_runs.specs.Patterns as plan
 use Rattle.wire_runs.specs.Patterns.{Coding, Who, who, call_in, word_code}
 use Rattle.wire_runs.specs.Restrictions.{on_nodes}
 use Rattle.wire_lines.proofs.Colon.{and_left}
-use Rattle.wire_content.specs.Scripts.{text_at}
-use Rattle.wire_script.specs.FirstPass.{is_among, number_or_count}
-use Rattle.wire_script.specs.Reads.{proc_number, seen_in}
-use Rattle.wire_script.proofs.Seen.{alone}
+use Rattle.wire_scripts.specs.Scripts.{text_at}
+use Rattle.wire_reader.specs.FirstPass.{is_among, number_or_count}
+use Rattle.wire_reader.specs.Reads.{proc_number, seen_in}
+use Rattle.wire_reader.proofs.Seen.{alone}
 use Rattle.wire_pattern.specs.Pattern.{Indexed, Call, Put, Commit, Fence, Get, GetNow, Publish, Lookup, LookupWait, Unpublish, UnpublishAll, Pattern}
 use Rattle.wire_pattern.specs.Planned.{text_number, word_of, line_of}
 use Rattle.wire_pattern.specs.Instances.{Cast, IsCast, cast_of, process_text, process_item, indexed_text, word_text, call_said}
-use Rattle.wire_pattern.specs.Lawful.{is_base, is_sound_call, IsSound}
+use Rattle.wire_pattern.specs.Lawful.{is_base, is_sound_call, IsSoundPattern}
 use Rattle.wire_instance_laws.proofs.Roles.{EachOf, count_is, who_low}
 use Rattle.wire_instance_laws.proofs.Lawful.{process_lawful}
 use Rattle.wire_instance_laws.proofs.Digits.{text_back}
@@ -36,7 +36,7 @@ pub record IsUsed (p : Pattern) (cast : Cast) (coding : Coding) (table : List (L
   pub code : coding.code (text_number base) indices ≡ n
   pub there : is_among table (indexed_text base (map (process_text p cast) indices)) ≡ true
 
-module _ (p : Pattern) (cast : Cast) (sound : IsSound p) (is_cast : IsCast p cast) (a : IsDeclaredAs p cast) (coding : Coding) where
+module _ (p : Pattern) (cast : Cast) (sound : IsSoundPattern p) (is_cast : IsCast p cast) (a : IsDeclaredAs p cast) (coding : Coding) where
   -- texts of processes are items of a set
   spelled : (qs : List ℕ) → map (process_text p cast) qs ≡ map spelled_item (map (process_item p cast) qs)
   spelled [] = refl

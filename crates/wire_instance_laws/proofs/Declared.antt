@@ -15,24 +15,24 @@ use Rattle.wire_types.specs.Said.{Said, Header, Keep, Node, Job, Rank, Calls, fi
 use Rattle.wire_runs.proofs.Lists.{slice_get-map_kept, slice_get-map_back}
 use Rattle.wire_lines.specs.Text.{lines_of}
 use Rattle.wire_lines.proofs.Colon.{and_left, and_right}
-use Rattle.wire_content.specs.Process.{Process}
-use Rattle.wire_content.specs.Map as content
-use Rattle.wire_content.specs.Scripts.{Scripts, text_at}
-use Rattle.wire_content.specs.Canonical.{keep_said, line_text}
-use Rattle.wire_script.specs.declared.limits.Size.{Size}
-use Rattle.wire_script.specs.declared.limits.Size.TheVariants.{OfVersion, Large}
-use Rattle.wire_script.specs.Limits.{file_bytes}
-use Rattle.wire_script.specs.Statements.{statements}
-use Rattle.wire_script.specs.FirstPass.{Name, Started, Declared, nothing, number_or_count, FirstPass}
-use Rattle.wire_script.specs.Reads.{Reads, is_proc, proc_number, seen_in, process_of, scripts_of, first_fault, second_pass}
-use Rattle.wire_script.proofs.Recut.{numbered_lines, said_again}
-use Rattle.wire_script.proofs.Once.{second_ok}
-use Rattle.wire_script.proofs.Ranked.{IsGood, run_good, number_at, one_process}
-use Rattle.wire_script.proofs.Numbered.{ranked}
+use Rattle.wire_scripts.specs.Process.{Process}
+use Rattle.wire_scripts.specs.Map as content
+use Rattle.wire_scripts.specs.Scripts.{Scripts, text_at}
+use Rattle.wire_scripts.specs.Canonical.{keep_said, line_text}
+use Rattle.wire_reader.specs.declared.limits.Size.{Size}
+use Rattle.wire_reader.specs.declared.limits.Size.TheVariants.{OfVersion, Large}
+use Rattle.wire_reader.specs.Limits.{file_bytes}
+use Rattle.wire_reader.specs.Statements.{statements}
+use Rattle.wire_reader.specs.FirstPass.{Name, Started, Declared, nothing, number_or_count, FirstPass}
+use Rattle.wire_reader.specs.Reads.{Reads, is_proc, proc_number, seen_in, process_of, scripts_of, first_fault, second_pass}
+use Rattle.wire_reader.proofs.Recut.{numbered_lines, said_again}
+use Rattle.wire_reader.proofs.Once.{second_ok}
+use Rattle.wire_reader.proofs.Ranked.{IsGood, run_good, number_at, one_process}
+use Rattle.wire_reader.proofs.Numbered.{ranked}
 use Rattle.wire_pattern.specs.Pattern.{JobLine, Pattern}
 use Rattle.wire_pattern.specs.Planned.{steps_in}
 use Rattle.wire_pattern.specs.Instances.{Cast, IsCast, process_count, cast_of, job_in, process_jobs, job_at, rank_at, job_name, steps_said, steps_lines, node_name, nodes_said, jobs_said, instance_said, instance_lines, instance_text}
-use Rattle.wire_pattern.specs.Lawful.{IsSound}
+use Rattle.wire_pattern.specs.Lawful.{IsSoundPattern}
 use Rattle.wire_instance_laws.specs.Lined.{line_in}
 use Rattle.wire_instance_laws.proofs.Made.{Turned, said_by, steps_are_said, number_by, steps_are_numbered}
 use Rattle.wire_instance_laws.proofs.Roles.{RolesRise, count_is, roles_rise, index_at, stands as stands_at}
@@ -125,7 +125,7 @@ pub record IsDeclaredAs (p : Pattern) (cast : Cast) : Type 0 where
   pub seen : view (line_in (instance_lines p cast)) d ≡ expected p cast
   pub few : process_count cast < 10 ^ 9
 
-module _ (p : Pattern) (cast : Cast) (sound : IsSound p) (is_cast : IsCast p cast) where
+module _ (p : Pattern) (cast : Cast) (sound : IsSoundPattern p) (is_cast : IsCast p cast) where
   abbrev after_header : List Said
   after_header = keep_said p.keeps ++ (nodes_said 0 cast.node_count ++ jobs_said p cast 0 (map (λ (j : JobLine). j.name) p.jobs))
 

@@ -9,7 +9,7 @@ use Rattle.wire_runs.proofs.Lists.{slice_get-map_kept}
 use Rattle.wire_lines.proofs.Colon.{and_left, and_right}
 use Rattle.wire_pattern.specs.Pattern.{Role, JobLine, Pattern}
 use Rattle.wire_pattern.specs.Instances.{Cast, IsCast, process_count, cast_of, job_in, process_jobs, job_at, rank_at, job_name}
-use Rattle.wire_pattern.specs.Lawful.{is_plain_name, IsSound}
+use Rattle.wire_pattern.specs.Lawful.{is_plain_name, IsSoundPattern}
 use Rattle.wire_instance_laws.proofs.Roles.{count_is, roles_rise, role_below, stands, index_at, counted_low}
 
 pub all_at : {A : Type 0} (f : A → Bool) (xs : List A) (n : ℕ) (x : A) → list_all f xs ≡ true → slice_get xs n ≡ Some x → f x ≡ true
@@ -35,7 +35,7 @@ module _ (p : Pattern) (cast : Cast) where
   pub rank_low : (q : ℕ) → rank_at p cast q ≤ q
   rank_low q = counted_low (λ (job : ℕ). job == job_at p cast q) q (process_jobs p cast)
 
-  module _ (sound : IsSound p) (is_cast : IsCast p cast) where
+  module _ (sound : IsSoundPattern p) (is_cast : IsCast p cast) where
     pub role_at : (q : ℕ) → q < process_count cast → (r : ℕ) × (slice_get (cast_of cast).roles q ≡ Some r)
     role_at q low = stands (cast_of cast).roles q (subst (λ n. q < n) (sym (count_is cast)) low)
 

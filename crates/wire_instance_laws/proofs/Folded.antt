@@ -6,9 +6,9 @@ use Rattle.wire_types.specs.Said.{Call, Said, Header, Keep, Node, Job, Rank, Cal
 use Rattle.wire_types.specs.declared.Fault.{Fault}
 use Rattle.wire_types.specs.declared.Fault.TheVariants.{TooLong, BadLine, UnknownName, Twice, TooMany}
 use Rattle.wire_lines.proofs.SaysOnce.{says_once}
-use Rattle.wire_script.specs.FirstPass.{Name, Started, Declared, number_or_count, after, with_call, judged, Judges, JudgesAll, is_in_place, is_short, is_known, is_again, has_room}
-use Rattle.wire_script.proofs.Recut.{AllLawful, numbered_lines}
-use Rattle.wire_script.proofs.Changed.{IsTaken, Runs}
+use Rattle.wire_reader.specs.FirstPass.{Name, Started, Declared, number_or_count, after, with_call, judged, Judges, JudgesAll, is_in_place, is_short, is_known, is_again, has_room}
+use Rattle.wire_reader.proofs.Recut.{AllLawful, numbered_lines}
+use Rattle.wire_reader.proofs.Changed.{IsTaken, Runs}
 
 abbrev pub numbered : ℕ → List Said → List (ℕ × Said)
 numbered n [] = []

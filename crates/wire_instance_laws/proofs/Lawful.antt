@@ -8,16 +8,16 @@ use Rattle.std.proofs.lemmas.Fmt.{decimal_by_steps}
 use Rattle.std.proofs.lemmas.Slice.Eq.{bytes_eq-Decides}
 use borrow.Author.Tests.{ltb-true, eqb-true, le-leb, ne_eqb}
 use Rattle.wire_types.specs.Said as said
-use Rattle.wire_types.specs.Said.{is_name, is_name_byte, is_word, is_word_byte, is_key, IsLawful, IsLawfulCall, IsLawfulItem, IsLawfulSet, AreLawful}
+use Rattle.wire_types.specs.Said.{is_name, is_name_byte, is_word, is_word_byte, is_key, IsLawfulLine, IsLawfulCall, IsLawfulItem, IsLawfulSet, AreLawful}
 use Rattle.wire_runs.specs.Fences.{is_member}
 use Rattle.wire_runs.specs.Patterns.{Who, group, who}
 use Rattle.wire_lines.proofs.Colon.{and_left, and_right}
-use Rattle.wire_script.proofs.Recut.{AllLawful, all_append, proc_word}
-use Rattle.wire_content.specs.Canonical.{keep_said}
+use Rattle.wire_reader.proofs.Recut.{AllLawful, all_append, proc_word}
+use Rattle.wire_scripts.specs.Canonical.{keep_said}
 use Rattle.wire_pattern.specs.Pattern.{Indexed, Item, One, Group, Job, Call, Put, Commit, Fence, Get, GetNow, Publish, Lookup, LookupWait, Unpublish, UnpublishAll, JobLine, Pattern}
 use Rattle.wire_pattern.specs.Planned.{steps_in}
 use Rattle.wire_pattern.specs.Instances.{Cast, IsCast, process_count, cast_of, job_in, job_at, rank_at, job_name, process_text, indexed_text, word_text, process_item, items_said, call_said, node_name, nodes_said, process_said, members_said, jobs_said}
-use Rattle.wire_pattern.specs.Lawful.{is_plain_name, is_base, has_words, is_known, is_known_item, is_known_who, whos_in, has_caller, is_sound_call, IsSound}
+use Rattle.wire_pattern.specs.Lawful.{is_plain_name, is_base, has_words, names_known, is_known_item, is_known_who, whos_in, has_caller, is_sound_call, IsSoundPattern}
 use Rattle.wire_instance_laws.proofs.Roles.{EachOf, count_is, stands, there, who_low, group_low, role_member}
 use Rattle.wire_instance_laws.proofs.Made.{Turned, in_steps, said_by, steps_are_said, IsGoodCall, steps_good}
 use Rattle.wire_instance_laws.proofs.Facts.{index_low, rank_low, role_low, job_low, name_lawful}
@@ -81,7 +81,7 @@ lines_both : (xs ys : List said.Said) → AllLawful xs → AllLawful ys → AllL
 lines_both [] ys h k = k
 lines_both (x ∷ xs) ys h k = (h.0, lines_both xs ys h.1 k)
 
-module _ (p : Pattern) (cast : Cast) (sound : IsSound p) (is_cast : IsCast p cast) (small : process_count cast < 10 ^ 9) where
+module _ (p : Pattern) (cast : Cast) (sound : IsSoundPattern p) (is_cast : IsCast p cast) (small : process_count cast < 10 ^ 9) where
   abbrev roles : List ℕ
   roles = (cast_of cast).roles
 
@@ -165,7 +165,7 @@ module _ (p : Pattern) (cast : Cast) (sound : IsSound p) (is_cast : IsCast p cas
       call_lawful Commit h = tt
       call_lawful (Fence items collect) h =
           let rest = and_right (has_words (Fence items collect)) _ h in (
-            some_items caller items at (and_right (is_known (length p.jobs) p.roles (Fence items collect)) _ rest),
+            some_items caller items at (and_right (names_known (length p.jobs) p.roles (Fence items collect)) _ rest),
             items_lawful items (and_right (list_all (is_known_who p.roles) (whos_in (Fence items collect))) _ (and_left _ _ rest)),
           )
       call_lawful (Get owner key) h =

@@ -2,11 +2,11 @@
 use Rattle.std.proofs.Common.{◌≡◌, ◌∙◌, ap, ◌≤◌, [], length, map, Ok, slice_index_or, inl, inr}
 use Rattle.std.proofs.lemmas.List.{length-map}
 use Rattle.wire_runs.proofs.Lists.{slice_get-map_kept}
-use Rattle.wire_content.specs.Scripts.{Scripts}
-use Rattle.wire_script.specs.declared.limits.Size.{Size}
-use Rattle.wire_script.specs.Limits.{file_bytes}
-use Rattle.wire_script.specs.Reads.{Reads}
-use Rattle.wire_script.specs.Located.{lines_of_calls, lines_in}
+use Rattle.wire_scripts.specs.Scripts.{Scripts}
+use Rattle.wire_reader.specs.declared.limits.Size.{Size}
+use Rattle.wire_reader.specs.Limits.{file_bytes}
+use Rattle.wire_reader.specs.Reads.{Reads}
+use Rattle.wire_reader.specs.Located.{lines_of_calls, lines_in}
 use Rattle.wire_lines.specs.Text.{lines_of}
 use Rattle.wire_pattern.specs.Pattern.{Pattern}
 use Rattle.wire_pattern.specs.Instances.{Cast, instance_lines, instance_text}

@@ -13,16 +13,16 @@ use Rattle.wire_runs.specs.Restrictions.{on_nodes}
 use Rattle.wire_runs.proofs.PlacingCalls.{without_said}
 use Rattle.wire_runs.proofs.Lists.{slice_get-map_back, slice_get-map_kept}
 use Rattle.wire_lines.proofs.Colon.{and_left, and_right}
-use Rattle.wire_content.specs.Scripts.{text_at}
-use Rattle.wire_content.specs.Planned as content
-use Rattle.wire_content.specs.Planned.{planned_call, reply_of_key}
-use Rattle.wire_script.specs.FirstPass.{Started, Declared, is_among, number_or_count}
-use Rattle.wire_script.specs.Reads.{proc_number, set_members, keys_in, names_in, sets_in, in_calls, first_seen, seen_in, numbered, scripts_of}
-use Rattle.wire_script.proofs.Seen.{seen_among, among_flat, text_at_number, alone}
+use Rattle.wire_scripts.specs.Scripts.{text_at}
+use Rattle.wire_scripts.specs.Planned as content
+use Rattle.wire_scripts.specs.Planned.{planned_call, reply_of_key}
+use Rattle.wire_reader.specs.FirstPass.{Started, Declared, is_among, number_or_count}
+use Rattle.wire_reader.specs.Reads.{proc_number, set_members, keys_in, names_in, sets_in, in_calls, first_seen, seen_in, numbered, scripts_of}
+use Rattle.wire_reader.proofs.Seen.{seen_among, among_flat, text_at_number, alone}
 use Rattle.wire_pattern.specs.Pattern.{Indexed, Call, Put, Commit, Fence, Get, GetNow, Publish, Lookup, LookupWait, Unpublish, UnpublishAll, Pattern}
 use Rattle.wire_pattern.specs.Planned.{unless_reserved, text_number, word_of, line_of, steps_in}
 use Rattle.wire_pattern.specs.Instances.{Cast, IsCast, cast_of, job_at, rank_at, job_name, process_text, indexed_text, word_text, items_said, call_said}
-use Rattle.wire_pattern.specs.Lawful.{is_base, has_words, is_known_who, whos_in, is_sound_call, IsSound}
+use Rattle.wire_pattern.specs.Lawful.{is_base, has_words, is_known_who, whos_in, is_sound_call, IsSoundPattern}
 use Rattle.wire_instance_laws.proofs.Roles.{EachOf, each_by_place, count_is, who_low}
 use Rattle.wire_instance_laws.proofs.Made.{Turned, said_by, call_by, IsGoodCall, in_steps, steps_are_said}
 use Rattle.wire_instance_laws.proofs.Digits.{text_by_number, text_back}
@@ -66,7 +66,7 @@ text_here table text h = (text_at_number table text h).1
 pub base_bytes : (base : List ℕ) → is_base base ≡ true → list_all said.is_word_byte base ≡ true
 base_bytes base h = and_right _ _ (and_left (is_word base) _ (and_left (is_key base) _ h))
 
-module _ (p : Pattern) (cast : Cast) (sound : IsSound p) (is_cast : IsCast p cast) (a : IsDeclaredAs p cast) (coding : Coding) (nodes : ℕ → ℕ) where
+module _ (p : Pattern) (cast : Cast) (sound : IsSoundPattern p) (is_cast : IsCast p cast) (a : IsDeclaredAs p cast) (coding : Coding) (nodes : ℕ → ℕ) where
   abbrev pub on : plan.Cast
   on = on_nodes nodes (cast_of cast)
 

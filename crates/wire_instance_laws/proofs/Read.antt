@@ -15,15 +15,15 @@ use Rattle.wire_runs.specs.Renamed.{IsRenumbered}
 use Rattle.wire_runs.specs.Restrictions.{on_nodes}
 use Rattle.wire_runs.proofs.Lists.{slice_get-map_back, slice_get-map_kept}
 use Rattle.wire_runs.proofs.PlacingCalls.{without_said, placing_by_calls}
-use Rattle.wire_content.specs.Scripts.{Scripts, calls_in}
-use Rattle.wire_content.specs.Planned.{planned_call, planned_process, plan_of}
-use Rattle.wire_content.proofs.PlannedCalls.{calls_are}
-use Rattle.wire_script.specs.FirstPass.{Started}
-use Rattle.wire_script.specs.Reads.{seen_in, numbered, process_of, scripts_of}
+use Rattle.wire_scripts.specs.Scripts.{Scripts, calls_in}
+use Rattle.wire_scripts.specs.Planned.{planned_call, planned_process, plan_of}
+use Rattle.wire_scripts.proofs.PlannedCalls.{calls_are}
+use Rattle.wire_reader.specs.FirstPass.{Started}
+use Rattle.wire_reader.specs.Reads.{seen_in, numbered, process_of, scripts_of}
 use Rattle.wire_pattern.specs.Pattern.{Step, Once, Loop, Pattern}
 use Rattle.wire_pattern.specs.Planned.{pattern_of, step_of, steps_in}
 use Rattle.wire_pattern.specs.Instances.{Cast, IsCast, process_count, cast_of, steps_said}
-use Rattle.wire_pattern.specs.Lawful.{IsSound}
+use Rattle.wire_pattern.specs.Lawful.{IsSoundPattern}
 use Rattle.wire_instance_laws.specs.Reading.{IsInstance, IsOfCast, InstancesRead}
 use Rattle.wire_instance_laws.proofs.Roles.{each_at, count_is}
 use Rattle.wire_instance_laws.proofs.Made.{Turned, in_turns, in_step, in_steps, said_by, steps_are_said, call_by, steps_are_called}
@@ -44,7 +44,7 @@ none_past plan v past = ap process_calls (slice_get_past plan.processes v past)
 none_in : (f : runs.Call → Option ℕ) (n : ℕ) → HasOne f [] n → ⊥
 none_in f n h = none-some h.call h.is
 
-module _ (p : Pattern) (cast : Cast) (sound : IsSound p) (is_cast : IsCast p cast) (a : IsDeclaredAs p cast) where
+module _ (p : Pattern) (cast : Cast) (sound : IsSoundPattern p) (is_cast : IsCast p cast) (a : IsDeclaredAs p cast) where
   abbrev roles : List ℕ
   roles = (cast_of cast).roles
 

@@ -6,8 +6,8 @@ use Rattle.std.proofs.lemmas.List.{length-map, map-append}
 use Rattle.std.proofs.lemmas.Option.{none-some, same_Some}
 use borrow.Author.Tests.{eqb-true, eq-eqb, ne_eqb}
 use Rattle.wire_types.specs.Said.{Call, Said, Keep, Node, Job, Rank, Calls}
-use Rattle.wire_content.specs.Canonical.{keep_said}
-use Rattle.wire_script.specs.FirstPass.{Name, number_or_count}
+use Rattle.wire_scripts.specs.Canonical.{keep_said}
+use Rattle.wire_reader.specs.FirstPass.{Name, number_or_count}
 use Rattle.wire_pattern.specs.Pattern.{JobLine, Pattern}
 use Rattle.wire_pattern.specs.Planned.{steps_in}
 use Rattle.wire_pattern.specs.Instances.{Cast, cast_of, job_in, number_in, node_name, nodes_said, process_said, members_said, jobs_said, steps_lines, members_lines, jobs_lines, node_line, nodes_lines, instance_lines}

@@ -13,13 +13,13 @@ use Rattle.wire_runs.specs.Patterns as plan
 use Rattle.wire_runs.specs.Patterns.{Who, group, who, item_members, members_in}
 use Rattle.wire_runs.specs.Restrictions.{on_nodes}
 use Rattle.wire_runs.proofs.WholeSets.{plays, group_member, member_set, same_set, rises_set}
-use Rattle.wire_script.specs.FirstPass.{Started}
-use Rattle.wire_script.specs.Reads.{names_it, is_in, places_from, set_members}
-use Rattle.wire_script.proofs.Places.{places_canonical, places_within}
+use Rattle.wire_reader.specs.FirstPass.{Started}
+use Rattle.wire_reader.specs.Reads.{names_it, is_in, places_from, set_members}
+use Rattle.wire_reader.proofs.Places.{places_canonical, places_within}
 use Rattle.wire_pattern.specs.Pattern.{Item, One, Group, Job, Role, Pattern}
 use Rattle.wire_pattern.specs.Planned.{roles_of, items_of}
 use Rattle.wire_pattern.specs.Instances.{Cast, IsCast, process_count, cast_of, job_in, job_name, process_item, items_said}
-use Rattle.wire_pattern.specs.Lawful.{is_known_item, IsSound}
+use Rattle.wire_pattern.specs.Lawful.{is_known_item, IsSoundPattern}
 use Rattle.wire_lines.proofs.Colon.{and_left, and_right}
 use Rattle.wire_instance_laws.proofs.Roles.{EachOf, each_both, count_is, stands, there, who_low, group_low}
 use Rattle.wire_instance_laws.proofs.Facts.{job_is, role_at, role_low}
@@ -111,7 +111,7 @@ every_member c v e (r ∷ rs) q role at =
     list_any-append (λ x. x == q) (group r c.roles) (members_in c v e (map plan.Every rs))
     ∙ (λ i. (group_member r c.roles q ∙ ap (λ o. plays o r) at) i || every_member c v e rs q role at i)
 
-module _ (p : Pattern) (cast : Cast) (sound : IsSound p) (is_cast : IsCast p cast) (a : IsDeclaredAs p cast) (nodes : ℕ → ℕ) (v e : ℕ) (low : v < length (cast_of cast).roles) (low_e : e < length (cast_of cast).roles) where
+module _ (p : Pattern) (cast : Cast) (sound : IsSoundPattern p) (is_cast : IsCast p cast) (a : IsDeclaredAs p cast) (nodes : ℕ → ℕ) (v e : ℕ) (low : v < length (cast_of cast).roles) (low_e : e < length (cast_of cast).roles) where
   abbrev on : plan.Cast
   on = on_nodes nodes (cast_of cast)
 

@@ -4,7 +4,7 @@ use Rattle.std.specs.Prelude.{◌==◌, ◌&&◌, ◌||◌, not}
 use Rattle.std.specs.List.{list_all, join_with_byte}
 use Rattle.std.specs.Str.{bytes_eq}
 use Rattle.wire_types.specs.Said as said
-use Rattle.wire_types.specs.Said.{begins_with, is_reserved, is_word, is_key, spelled_item, spelled_set, AreLawful, Calls, first_word, other_words, IsLawful}
+use Rattle.wire_types.specs.Said.{begins_with, is_reserved, is_word, is_key, spelled_item, spelled_set, AreLawful, Calls, first_word, other_words, IsLawfulLine}
 use Rattle.wire_lines.proofs.Colon.{and_left, and_right}
 use Rattle.wire_lines.proofs.SaysOnce.{says_once}
 use Rattle.wire_pattern.specs.Instances.{indexed_text}

@@ -1,13 +1,13 @@
 -- The calls of an instance's text come from the lines of the pattern.
 use Rattle.std.specs.Prelude.{◌≡◌, ℕ, ◌-◌, List, [], map, length, Some, Ok, slice_get, slice_index_or}
-use Rattle.wire_content.specs.Scripts.{Scripts}
-use Rattle.wire_script.specs.declared.limits.Size.{Size}
-use Rattle.wire_script.specs.Reads.{Reads}
-use Rattle.wire_script.specs.Located.{AreCallLines}
+use Rattle.wire_scripts.specs.Scripts.{Scripts}
+use Rattle.wire_reader.specs.declared.limits.Size.{Size}
+use Rattle.wire_reader.specs.Reads.{Reads}
+use Rattle.wire_reader.specs.Located.{AreCallLines}
 use Rattle.wire_pattern.specs.Pattern.{Pattern}
 use Rattle.wire_pattern.specs.Planned.{steps_in}
 use Rattle.wire_pattern.specs.Instances.{Cast, IsCast, process_count, cast_of, steps_lines, instance_lines, instance_text}
-use Rattle.wire_pattern.specs.Lawful.{IsSound}
+use Rattle.wire_pattern.specs.Lawful.{IsSoundPattern}
 
 -- of the line n of a text, counted from 1, the number in this list; 0 past its end
 abbrev pub line_in : List ℕ → ℕ → ℕ
@@ -22,5 +22,5 @@ pub record AreOfRoles (p : Pattern) (cast : Cast) (rows : List (List ℕ)) : Typ
 
 -- the lines of the calls of an instance's text lead to those of the pattern
 abbrev pub LinesLead : Type 0
-LinesLead = (p : Pattern) (cast : Cast) (size : Size) (s : Scripts) (rows : List (List ℕ)) → IsSound p → IsCast p cast
+LinesLead = (p : Pattern) (cast : Cast) (size : Size) (s : Scripts) (rows : List (List ℕ)) → IsSoundPattern p → IsCast p cast
     → Reads size (instance_text p cast) (Ok s) → AreCallLines size (instance_text p cast) rows → AreOfRoles p cast rows

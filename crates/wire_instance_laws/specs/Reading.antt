@@ -5,15 +5,15 @@ use Rattle.wire_runs.specs.Placings.{IsPlacing}
 use Rattle.wire_runs.specs.Renamed.{IsRenumbered}
 use Rattle.wire_runs.specs.Patterns.{Coding, instance_of}
 use Rattle.wire_runs.specs.Restrictions.{on_nodes}
-use Rattle.wire_content.specs.Scripts.{Scripts, calls_in}
-use Rattle.wire_content.specs.Planned.{plan_of}
-use Rattle.wire_script.specs.declared.limits.Size.{Size}
-use Rattle.wire_script.specs.Reads.{Reads}
+use Rattle.wire_scripts.specs.Scripts.{Scripts, calls_in}
+use Rattle.wire_scripts.specs.Planned.{plan_of}
+use Rattle.wire_reader.specs.declared.limits.Size.{Size}
+use Rattle.wire_reader.specs.Reads.{Reads}
 use Rattle.wire_pattern.specs.Pattern.{Pattern}
 use Rattle.wire_pattern.specs.Planned.{pattern_of, steps_in}
 use Rattle.wire_pattern.specs.Instances as text
 use Rattle.wire_pattern.specs.Instances.{Cast, IsCast, cast_of, steps_said, instance_text}
-use Rattle.wire_pattern.specs.Lawful.{IsSound}
+use Rattle.wire_pattern.specs.Lawful.{IsSoundPattern}
 
 -- the scripts' plan is, but for replies of reserved keys and names, the instance on these nodes, under other numbers of
 -- keys and names
@@ -36,5 +36,5 @@ pub record IsOfCast (p : Pattern) (cast : Cast) (s : Scripts) : Type 0 where
 
 -- the text of an instance, if it reads as scripts at all, reads as these
 abbrev pub InstancesRead : Type 0
-InstancesRead = (p : Pattern) (cast : Cast) (size : Size) (s : Scripts) → IsSound p → IsCast p cast
+InstancesRead = (p : Pattern) (cast : Cast) (size : Size) (s : Scripts) → IsSoundPattern p → IsCast p cast
     → Reads size (instance_text p cast) (Ok s) → IsOfCast p cast s

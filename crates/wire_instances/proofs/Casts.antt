@@ -5,7 +5,7 @@ use Rattle.wire_pattern.specs.Pattern.{Pattern, Role}
 use Rattle.wire_pattern.specs.Planned.{single_in}
 use Rattle.wire_pattern.specs.Instances.{IsCast}
 use Rattle.wire_instances.specs.declared.cast.Cast.{Cast}
-use Rattle.wire_instances.specs.Shown.{cast_by}
+use Rattle.wire_instances.specs.Views.{cast_by}
 use Rattle.wire_instances.specs.Nodes.{AreNodes}
 use Rattle.wire_instances.specs.Tables.{AreSizes}
 

@@ -7,8 +7,8 @@ use Rattle.std.proofs.lemmas.Bool.Decides.{nat_tests}
 use Rattle.std.proofs.lemmas.List.{get_or-map, length-map}
 use Rattle.wire_pattern.specs.declared.pattern.Job.{Job as CodeJob}
 use Rattle.wire_pattern.specs.Pattern.{Pattern, Role}
-use Rattle.wire_pattern.specs.Lawful.{IsSound}
-use Rattle.wire_pattern.specs.Shown.{job_by}
+use Rattle.wire_pattern.specs.Lawful.{IsSoundPattern}
+use Rattle.wire_pattern.specs.Views.{job_by}
 use Rattle.wire_pattern.specs.Instances.{Cast, IsCast, process_count, job_at, job_in, job_name, roles_from}
 use Rattle.wire_instances.proofs.Groups.{length_roles}
 use Rattle.wire_instances.proofs.Takes.{all_append}
@@ -62,7 +62,7 @@ job_below jobs (x ∷ xs) (suc r) h l = job_below jobs xs r (and_parts (nat_lt x
 job_below jobs [] r h l = absurd (omega (arith, l))
 
 -- the job of each process is there
-pub jobs_there : (p : Pattern) (sizes numbers : List ℕ) (roles : List Role) (jobs : ℕ) → IsSound p → length sizes ≡ length p.roles → roles ≡ p.roles → numbers ≡ roles_from 0 sizes
+pub jobs_there : (p : Pattern) (sizes numbers : List ℕ) (roles : List Role) (jobs : ℕ) → IsSoundPattern p → length sizes ≡ length p.roles → roles ≡ p.roles → numbers ≡ roles_from 0 sizes
     → jobs ≡ length p.jobs → (v : ℕ) → v < length numbers → job_in (slice_get roles (slice_index_or numbers v 0)) < jobs
 jobs_there p sizes numbers roles jobs sound sized r n j v h =
     let low : slice_index_or numbers v 0 < length sizes =
@@ -78,7 +78,7 @@ pub few_processes : (sizes numbers : List ℕ) → numbers ≡ roles_from 0 size
 few_processes sizes numbers is few = omega (arith, few, ap length is, length_roles 0 sizes)
 
 -- the tables of an instance
-pub tables : (p : Pattern) (cast : Cast) (sizes others numbers firsts roles ranks : List ℕ) (declared : List Role) → IsCast p cast → IsSound p → sizes ≡ cast.sizes → others ≡ cast.sizes
+pub tables : (p : Pattern) (cast : Cast) (sizes others numbers firsts roles ranks : List ℕ) (declared : List Role) → IsCast p cast → IsSoundPattern p → sizes ≡ cast.sizes → others ≡ cast.sizes
     → declared ≡ p.roles → length firsts ≡ length sizes + 1 → ((role : ℕ) → role ≤ length sizes → slice_index_or firsts role 0 ≡ first_of sizes role) → roles ≡ roles_from 0 others
     → numbers ≡ roles → length ranks ≡ length numbers → ((v : ℕ) → v < length numbers → slice_index_or ranks v 0 ≡ rank_in (jobs_by declared numbers) v)
     → AreTables p cast firsts roles ranks

@@ -8,11 +8,11 @@ use Rattle.std.proofs.lemmas.List.{length-map}
 use Rattle.std.proofs.lemmas.Option.{same_Some, slice_get_within, get_or_from_slice_get}
 use Rattle.std.proofs.lemmas.Slice.Eq.{bytes_eq-Decides}
 use Rattle.wire_runs.proofs.Lists.{slice_get-map_kept}
-use Rattle.wire_content.specs.Apart.{AreApart}
-use Rattle.wire_content.specs.Scripts.{text_at}
+use Rattle.wire_scripts.specs.Apart.{AreDistinct}
+use Rattle.wire_scripts.specs.Scripts.{text_at}
 use Rattle.wire_pattern.specs.Pattern.{Pattern, Role}
 use Rattle.wire_pattern.specs.Instances.{HaveLeast}
-use Rattle.wire_pattern.specs.Lawful.{IsSound}
+use Rattle.wire_pattern.specs.Lawful.{IsSoundPattern}
 use Rattle.wire_instances.specs.Asked.{Asked, fits_role, fits, is_named, are_fit, group_size, size_asked}
 
 abbrev name_of : Role → List ℕ
@@ -32,7 +32,7 @@ fitting (r ∷ roles) a h =
     ] refl h
 
 -- roles of one name are one role
-same_role : (roles : List Role) (k r : ℕ) (a b : Role) → AreApart (names roles) → slice_get roles k ≡ Some a → slice_get roles r ≡ Some b → a.name ≡ b.name → a ≡ b
+same_role : (roles : List Role) (k r : ℕ) (a b : Role) → AreDistinct (names roles) → slice_get roles k ≡ Some a → slice_get roles r ≡ Some b → a.name ≡ b.name → a ≡ b
 same_role roles k r a b apart at here same =
     let one : text_at (names roles) k ≡ a.name = get_or_from_slice_get (names roles) k a.name [] (slice_get-map_kept name_of roles k a at) in
     let two : text_at (names roles) r ≡ b.name = get_or_from_slice_get (names roles) r b.name [] (slice_get-map_kept name_of roles r b here) in
@@ -43,7 +43,7 @@ same_role roles k r a b apart at here same =
     same_Some a b (sym at ∙ ap (slice_get roles) e ∙ here)
 
 -- a group that is named has no fewer than its least number
-named_least : (roles : List Role) (a : Asked) (r : ℕ) (role : Role) → AreApart (names roles) → fits roles a ≡ true → slice_get roles r ≡ Some role → a.name ≡ role.name → role.least ≤ a.count
+named_least : (roles : List Role) (a : Asked) (r : ℕ) (role : Role) → AreDistinct (names roles) → fits roles a ≡ true → slice_get roles r ≡ Some role → a.name ≡ role.name → role.least ≤ a.count
 named_least roles a r role apart fit here same =
     let its = fitting roles a fit in
     let parts = and_parts (bytes_eq a.name its.1.name) _ its.3 in
@@ -52,7 +52,7 @@ named_least roles a r role apart fit here same =
     let one : its.1 ≡ role = same_role roles its.0 r its.1 role apart its.2 here (sym found ∙ same) in
     subst (λ (x : Role). x.least ≤ a.count) one (leb-true its.1.least a.count more.1)
 
-group_least : (roles : List Role) (asked : List Asked) (r : ℕ) (role : Role) → AreApart (names roles) → are_fit roles asked ≡ true → slice_get roles r ≡ Some role → role.least ≤ group_size asked role
+group_least : (roles : List Role) (asked : List Asked) (r : ℕ) (role : Role) → AreDistinct (names roles) → are_fit roles asked ≡ true → slice_get roles r ≡ Some role → role.least ≤ group_size asked role
 group_least roles [] r role apart fit here = omega arith
 group_least roles (a ∷ asked) r role apart fit here =
     let parts = and_parts (fits roles a) (not (is_named asked a.name) && are_fit roles asked) fit in
@@ -63,7 +63,7 @@ group_least roles (a ∷ asked) r role apart fit here =
     ] refl
 
 -- so no size that is asked for is lower
-pub least_asked : (p : Pattern) (asked : List Asked) → IsSound p → are_fit p.roles asked ≡ true → HaveLeast p.roles (map (size_asked asked) p.roles)
+pub least_asked : (p : Pattern) (asked : List Asked) → IsSoundPattern p → are_fit p.roles asked ≡ true → HaveLeast p.roles (map (size_asked asked) p.roles)
 least_asked p asked sound fit r role size here at =
     let is : size_asked asked role ≡ size = same_Some _ _ (sym (slice_get-map_kept (size_asked asked) p.roles r role here) ∙ at) in
     subst (λ n. role.least ≤ n) is
@@ -73,7 +73,7 @@ least_asked p asked sound fit r role size here at =
     ] refl)
 
 -- the sizes that are made
-pub made_least : (p : Pattern) (asked : List Asked) (roles : List Role) (sizes : List ℕ) → IsSound p → roles ≡ p.roles → are_fit roles asked ≡ true → sizes ≡ map (size_asked asked) roles
+pub made_least : (p : Pattern) (asked : List Asked) (roles : List Role) (sizes : List ℕ) → IsSoundPattern p → roles ≡ p.roles → are_fit roles asked ≡ true → sizes ≡ map (size_asked asked) roles
     → HaveLeast p.roles sizes
 made_least p asked roles sizes sound r fit s =
     subst (HaveLeast p.roles) (sym (s ∙ ap (map (size_asked asked)) r)) (least_asked p asked sound (ap (λ rs. are_fit rs asked) (sym r) ∙ fit))

@@ -8,7 +8,7 @@ use Rattle.std.proofs.lemmas.List.{get_or-map, length-map}
 use Rattle.std.proofs.lemmas.Bool.{eq-eqb, ne_eqb}
 use Rattle.std.proofs.lemmas.Option.{slice_get-get_or}
 use Rattle.wire_types.specs.Said as said
-use Rattle.wire_content.specs.Canonical.{line_text, items_text}
+use Rattle.wire_scripts.specs.Canonical.{line_text, items_text}
 use Rattle.wire_pattern.specs.declared.step.Line.{Line}
 use Rattle.wire_pattern.specs.declared.step.Step.{Step}
 use Rattle.wire_pattern.specs.declared.pattern.Role.{Role}
@@ -17,7 +17,7 @@ use Rattle.wire_pattern.specs.declared.call.Item.{Item}
 use Rattle.wire_pattern.specs.Pattern as spec
 use Rattle.wire_pattern.specs.Pattern.{Pattern}
 use Rattle.wire_pattern.specs.Planned.{steps_in}
-use Rattle.wire_pattern.specs.Shown.{line_by, step_by, role_by, job_by, item_by}
+use Rattle.wire_pattern.specs.Views.{line_by, step_by, role_by, job_by, view_item}
 use Rattle.wire_pattern.specs.Instances.{Cast, cast_of, call_said, turns_said, steps_said, step_said, process_said, members_said, jobs_said, nodes_said, node_name, job_in}
 use Rattle.wire_pattern.specs.Instances.{step_lines, steps_lines, members_lines, jobs_lines, number_in, roles_from, process_item, process_text, items_said}
 use Rattle.wire_instances.specs.declared.search.LineSearch.{LineSearch}
@@ -168,14 +168,14 @@ member_step p cast v end n old now all h more inv =
 
 pub item_step : (p : Pattern) (cast : Cast) (v e : ℕ) (items : List Item) (i : ℕ) (d : Item) (n : ℕ) (old now all : List ℕ) → i < length items
     → d ≡ get_or items i d
-    → AgreeOn n now (old ++ items_text (items_said p cast v e (item_by d)))
-    → AgreeOn n (old ++ items_text (flat_map (items_said p cast v e) (map item_by (drop i items)))) all
-    → AgreeOn n (now ++ items_text (flat_map (items_said p cast v e) (map item_by (drop (i + 1) items)))) all
+    → AgreeOn n now (old ++ items_text (items_said p cast v e (view_item d)))
+    → AgreeOn n (old ++ items_text (flat_map (items_said p cast v e) (map view_item (drop i items)))) all
+    → AgreeOn n (now ++ items_text (flat_map (items_said p cast v e) (map view_item (drop (i + 1) items)))) all
 item_step p cast v e items i d n old now all h at more inv =
-    moved_front n old now (items_text (items_said p cast v e (item_by d))) (items_text (flat_map (items_said p cast v e) (map item_by (drop (i + 1) items)))) _
+    moved_front n old now (items_text (items_said p cast v e (view_item d))) (items_text (flat_map (items_said p cast v e) (map view_item (drop (i + 1) items)))) _
     all more
-    (ap (λ ks. items_text (flat_map (items_said p cast v e) ks)) (opened_map item_by items i d h at)
-    ∙ items_append (items_said p cast v e (item_by d)) (flat_map (items_said p cast v e) (map item_by (drop (i + 1) items)))) inv
+    (ap (λ ks. items_text (flat_map (items_said p cast v e) ks)) (opened_map view_item items i d h at)
+    ∙ items_append (items_said p cast v e (view_item d)) (flat_map (items_said p cast v e) (map view_item (drop (i + 1) items)))) inv
 
 -- numbers of lines
 

@@ -5,7 +5,7 @@ use Rattle.std.specs.Prelude.{slice_index_or, IsSome}
 use Rattle.std.proofs.lemmas.Bool.{eqb-true}
 use Rattle.wire_pattern.specs.declared.step.Line.{Line}
 use Rattle.wire_pattern.specs.Pattern.{Pattern}
-use Rattle.wire_pattern.specs.Shown.{line_by}
+use Rattle.wire_pattern.specs.Views.{line_by}
 use Rattle.wire_pattern.specs.Instances.{Cast, nodes_lines, jobs_lines, instance_lines}
 use Rattle.wire_instances.specs.Faults.{line_in}
 use Rattle.wire_instances.specs.declared.search.LineSearch.{LineSearch}

@@ -6,8 +6,8 @@ use Rattle.std.specs.List.{join_with_byte}
 use Rattle.std.proofs.lemmas.Bool.{cases_lt}
 use Rattle.std.proofs.lemmas.List.{take-append-le, take-take, take_more, length-take, length-take-le}
 use Rattle.wire_types.specs.Said.{Item, spelled_item}
-use Rattle.wire_content.specs.Canonical.{items_text}
-use Rattle.wire_content.proofs.Listed.{without_last}
+use Rattle.wire_scripts.specs.Canonical.{items_text}
+use Rattle.wire_scripts.proofs.Listed.{without_last}
 use Rattle.wire_instances.specs.Written.{AgreeOn, rest_text}
 use Rattle.wire_instances.proofs.Fronts.{same_behind, same_grow}
 

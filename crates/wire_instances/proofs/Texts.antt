@@ -3,7 +3,7 @@ use Rattle.std.proofs.Common.{◌≡◌, ◌∙◌, ap, sym, refl, ℕ, zero, su
 use Rattle.std.specs.List.{join_with_byte}
 use Rattle.std.proofs.lemmas.Grind.{flat_map-append}
 use Rattle.wire_types.specs.Said as said
-use Rattle.wire_content.specs.Canonical.{line_text, words_text, items_text}
+use Rattle.wire_scripts.specs.Canonical.{line_text, words_text, items_text}
 use Rattle.wire_pattern.specs.Pattern.{Pattern, Call, Put, Commit, Fence, Get, GetNow, Publish}
 use Rattle.wire_pattern.specs.Pattern.{Lookup, LookupWait, Unpublish, UnpublishAll}
 use Rattle.wire_pattern.specs.Instances.{Cast, call_said, indexed_text}

@@ -4,7 +4,7 @@ use Rattle.std.proofs.Common.{append_assoc, append-nil, add-one}
 use Rattle.std.proofs.lemmas.Grind.{flat_map-append}
 use Rattle.wire_types.specs.Said as said
 use Rattle.wire_types.specs.declared.Version.TheVariants.{Two}
-use Rattle.wire_content.specs.Canonical.{line_text, keep_said}
+use Rattle.wire_scripts.specs.Canonical.{line_text, keep_said}
 use Rattle.wire_pattern.specs.Pattern.{Pattern, JobLine}
 use Rattle.wire_pattern.specs.Instances.{Cast, nodes_said, jobs_said, instance_text, roles_from}
 use Rattle.wire_instances.specs.Tables.{Scene}

@@ -1,4 +1,4 @@
-pub mod Shown
+pub mod Views
 pub mod Nodes
 pub mod Tables
 pub mod Written

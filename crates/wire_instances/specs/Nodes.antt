@@ -16,7 +16,7 @@ pub record AreNodes (processes : ℕ) (nodes : Nodes) : Type 0 where
   pub few : nodes.count < 2 ^ 31
 
 -- each process is alone, on the node that has its number
-pub record AreAlone (processes : ℕ) (nodes : Nodes) : Type 0 where
+pub record HaveOwnNodes (processes : ℕ) (nodes : Nodes) : Type 0 where
   pub count : nodes.count ≡ processes
   pub node : (v : ℕ) → v < processes → node_of nodes v ≡ v
 

@@ -4,7 +4,7 @@ use Rattle.std.specs.Prelude.{length, take, sum_by, map, count_by}
 use Rattle.std.specs.Prelude.{slice_get, slice_index_or, Some}
 use Rattle.wire_runs.specs.Patterns.{Cast, Turns, Round, Chosen}
 use Rattle.wire_pattern.specs.Pattern.{Pattern, Role}
-use Rattle.wire_pattern.specs.Lawful.{IsSound}
+use Rattle.wire_pattern.specs.Lawful.{IsSoundPattern}
 use Rattle.wire_pattern.specs.Planned.{single_in}
 use Rattle.wire_pattern.specs.Instances as spec
 use Rattle.wire_pattern.specs.Instances.{IsCast, process_count, roles_from, job_in, rank_at}
@@ -34,7 +34,7 @@ rank_in jobs v = count_by (λ job. job == slice_index_or jobs v 0) (take v jobs)
 -- of each role its first process, and of each process its role and its rank in its job
 pub record AreTables (p : Pattern) (cast : spec.Cast) (firsts roles ranks : List ℕ) : Type 0 where
   pub is_cast : IsCast p cast
-  pub is_sound : IsSound p
+  pub is_sound : IsSoundPattern p
   pub first_count : length firsts ≡ suc (length cast.sizes)
   pub are_firsts : (role : ℕ) → role ≤ length cast.sizes → slice_index_or firsts role 0 ≡ first_of cast.sizes role
   pub are_roles : roles ≡ roles_from 0 cast.sizes

@@ -2,7 +2,7 @@
 use Rattle.std.specs.Prelude.{◌≡◌, take, ℕ, zero, suc, List, [], ◌∷◌, ◌++◌, map, flat_map, codes, slice_get}
 use Rattle.wire_types.specs.Said as said
 use Rattle.wire_types.specs.Said.{spelled_scope, spelled_set, spelled_proc, collect_words}
-use Rattle.wire_content.specs.Canonical.{line_text}
+use Rattle.wire_scripts.specs.Canonical.{line_text}
 use Rattle.wire_pattern.specs.Pattern.{Pattern, Call, Put, Commit, Fence, Get, GetNow, Publish}
 use Rattle.wire_pattern.specs.Pattern.{Lookup, LookupWait, Unpublish, UnpublishAll}
 use Rattle.wire_pattern.specs.Instances.{Cast, process_said, number_in, steps_lines}

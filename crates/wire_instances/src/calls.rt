@@ -4,9 +4,9 @@ ghost use Rattle.std.specs.Prelude.{◌≡◌, ◌<◌, ◌++◌, ◌∷◌, [],
 ghost use Rattle.wire_runs.specs.Patterns as plan;
 ghost use Rattle.wire_types.specs.Said as said;
 ghost use Rattle.wire_types.specs.Said.{spelled_scope, spelled_set, collect_words};
-ghost use Rattle.wire_content.specs.Canonical.{line_text};
+ghost use Rattle.wire_scripts.specs.Canonical.{line_text};
 ghost use Rattle.wire_pattern.specs.Instances.{process_count, cast_of, process_text, word_text, items_said, call_said};
-ghost use Rattle.wire_pattern.specs.Shown.{who_by, indexed_by, item_by, call_by};
+ghost use Rattle.wire_pattern.specs.Views.{who_by, indexed_by, view_item, view_call};
 ghost use Rattle.wire_instances.specs.Written.{AgreeOn, rest_text, front_words, operands_text};
 
 use crate::excerpt::Excerpt;
@@ -106,7 +106,7 @@ fn write_set(
     requires each { calling.each < process_count excerpt.now.frame.cast }
     ensures { OnOk result (AgreeOn excerpt.now.wanted out.new.items (out.old.items ++ rest_text (spelled_set (said.Listed
         (flat_map (items_said excerpt.now.frame.pattern excerpt.now.frame.cast calling.caller calling.each)
-        (map item_by items.now.items))) ∷ collect_words collect))) }
+        (map view_item items.now.items))) ∷ collect_words collect))) }
 {
     let word = set_word(excerpt, calling, items)?;
     write_set_word(out, word.as_slice(), collect)
@@ -125,7 +125,7 @@ fn put_words(scope: Scope) -> &'static [u8]
 
 /// The first word of a call, and of a put the second.
 fn verb_words(call: &Call) -> &'static [u8]
-    ensures { result.now ≡ front_words (call_by call.now) }
+    ensures { result.now ≡ front_words (view_call call.now) }
 {
     match call {
         Call::Put { scope, .. } => put_words(*scope),
@@ -151,7 +151,7 @@ fn write_operands(
     requires caller { calling.caller < process_count excerpt.now.frame.cast }
     requires each { calling.each < process_count excerpt.now.frame.cast }
     ensures { OnOk result (AgreeOn excerpt.now.wanted out.new.items (out.old.items ++ operands_text (call_said
-        excerpt.now.frame.pattern excerpt.now.frame.cast calling.caller calling.each (call_by call.now)))) }
+        excerpt.now.frame.pattern excerpt.now.frame.cast calling.caller calling.each (view_call call.now)))) }
 {
     let frame = &excerpt.frame;
     match call {
@@ -184,7 +184,7 @@ pub(crate) fn write_call(
     requires caller { calling.caller < process_count excerpt.now.frame.cast }
     requires each { calling.each < process_count excerpt.now.frame.cast }
     ensures { OnOk result (AgreeOn excerpt.now.wanted out.new.items (out.old.items ++ line_text (said.Calls (call_said
-        excerpt.now.frame.pattern excerpt.now.frame.cast calling.caller calling.each (call_by call.now))))) }
+        excerpt.now.frame.pattern excerpt.now.frame.cast calling.caller calling.each (view_call call.now))))) }
 {
     if excerpt.is_past(out) {
         return Ok(());

@@ -2,8 +2,8 @@
 
 ghost use Rattle.std.specs.Prelude.{◌≡◌, ◌≤◌, ◌<◌, ◌^◌, ◌↔◌, IsTrue, MatchOption, sum_by, ℕ, map, true};
 ghost use Rattle.wire_pattern.specs.Instances.{IsCast};
-ghost use Rattle.wire_pattern.specs.Shown.{role_by};
-ghost use Rattle.wire_instances.specs.Shown.{cast_by};
+ghost use Rattle.wire_pattern.specs.Views.{role_by};
+ghost use Rattle.wire_instances.specs.Views.{cast_by};
 ghost use Rattle.wire_instances.specs.Nodes.{AreNodes};
 ghost use Rattle.wire_instances.specs.Tables.{AreSizes};
 

@@ -7,8 +7,8 @@ ghost use Rattle.wire_runs.specs.Patterns as plan;
 ghost use Rattle.wire_runs.specs.Patterns.{group};
 ghost use Rattle.wire_pattern.specs.Instances as spec;
 ghost use Rattle.wire_pattern.specs.Instances.{IsCast, process_count, cast_of, job_at, rank_at};
-ghost use Rattle.wire_pattern.specs.Shown.{who_by, turns_by};
-ghost use Rattle.wire_instances.specs.Shown.{turn_by, choice_by, cast_by};
+ghost use Rattle.wire_pattern.specs.Views.{who_by, turns_by};
+ghost use Rattle.wire_instances.specs.Views.{turn_by, choice_by, cast_by};
 ghost use Rattle.wire_instances.specs.Tables.{takes, goes_round, first_of};
 
 use crate::cast::{Cast, Choice, Turn};
@@ -26,7 +26,7 @@ pub(crate) struct Calling {
 
 /// A loop: its caller, the number of the step in the caller's script, and its turns.
 #[derive(Clone, Copy)]
-pub struct Round {
+pub struct LoopTurns {
     pub caller: u32,
     pub step: usize,
     pub turns: Turns,
@@ -55,7 +55,7 @@ impl Drop for Frame<'_> {
 }
 
 impl<'a> Model for Frame<'a> {
-    ghost use Rattle.wire_instances.specs.Shown.{cast_by};
+    ghost use Rattle.wire_instances.specs.Views.{cast_by};
     ghost use Rattle.wire_instances.specs.Tables.{Scene, AreTables};
 
     ghost Value = { Scene };
@@ -78,7 +78,7 @@ fn is_taken(chosen: &[Choice], turn: Turn) -> bool
 }
 
 /// Whether a loop goes round these processes: it is `cyclic`, and its caller is one of them.
-fn goes_round(round: Round, first: u32, end: u32) -> bool
+fn goes_round(round: LoopTurns, first: u32, end: u32) -> bool
     ensures { result ≡ goes_round (turns_by round.turns) first end round.caller }
 {
     match round.turns {
@@ -185,7 +185,7 @@ impl<'a> Frame<'a> {
     }
 
     /// Whether a loop that isn't `cyclic` takes a turn for a process.
-    fn takes(&self, round: Round, each: u32) -> bool
+    fn takes(&self, round: LoopTurns, each: u32) -> bool
         ensures { result ≡ takes (cast_of self.now.cast) round.caller round.step (turns_by round.turns) each }
     {
         if each == round.caller {
@@ -208,7 +208,7 @@ impl<'a> Frame<'a> {
     fn add_turns(
         &self,
         out: &mut Vec<u32>,
-        round: Round,
+        round: LoopTurns,
         from: u32,
         to: u32,
     ) -> Result<(), AllocError>
@@ -224,7 +224,7 @@ impl<'a> Frame<'a> {
     }
 
     /// The processes for which a loop over a role takes a turn, in order.
-    pub(crate) fn turns(&self, round: Round, role: u32) -> Result<Vec<u32>, AllocError>
+    pub(crate) fn turns(&self, round: LoopTurns, role: u32) -> Result<Vec<u32>, AllocError>
         ensures turns { IfOk result (λ v. v.items
             ≡ plan.turns (cast_of self.now.cast) round.caller round.step role (turns_by round.turns)) }
         ensures there { IfOk result (λ v. list_all (λ e. nat_lt e (process_count self.now.cast)) v.items ≡ true) }
@@ -246,7 +246,7 @@ pub fn turns_of(
     alloc: Global,
     pattern: &Pattern,
     cast: &Cast,
-    round: Round,
+    round: LoopTurns,
     group: u32,
 ) -> Result<Vec<u32>, AllocError>
     requires { IsCast pattern.now (cast_by cast.now) }

@@ -14,7 +14,7 @@ mod text;
 mod words;
 
 pub use cast::{Cast, Choice, Nodes, Turn, is_cast, process_total};
-pub use frame::{Round, turns_of};
+pub use frame::{LoopTurns, turns_of};
 pub use nodes::{all_alone, dealt, paired, per_node};
 pub use numbers::pattern_fault;
 pub use sizes::{Asked, processes_within, sizes_asked};

@@ -2,7 +2,7 @@
 
 ghost use Rattle.std.specs.Prelude.{◌≡◌, ◌<◌, ◌^◌, ◌≤◌, ◌*◌, ◌/◌, ℕ, IfOk};
 ghost use Rattle.wire_instances.specs.Nodes as spec;
-ghost use Rattle.wire_instances.specs.Nodes.{AreNodes, AreAlone, ArePaired, ArePerNode, AreDealt};
+ghost use Rattle.wire_instances.specs.Nodes.{AreNodes, HaveOwnNodes, ArePaired, ArePerNode, AreDealt};
 
 use crate::cast::Nodes;
 use std::alloc::{AllocError, Global};
@@ -11,7 +11,7 @@ use std::alloc::{AllocError, Global};
 pub fn all_alone(alloc: Global, processes: u32) -> Result<Nodes, AllocError>
     requires { processes < 2 ^ 31 }
     ensures nodes { IfOk result (λ nodes. AreNodes processes nodes) }
-    ensures alone { IfOk result (λ nodes. AreAlone processes nodes) }
+    ensures alone { IfOk result (λ nodes. HaveOwnNodes processes nodes) }
 {
     let mut of = Vec::with_capacity(alloc, processes as usize)?;
     for process in 0..processes {

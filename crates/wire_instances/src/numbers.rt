@@ -5,8 +5,8 @@ ghost use Rattle.std.specs.Prelude.{length, slice_get, slice_index_or};
 ghost use Rattle.wire_runs.specs.Patterns as plan;
 ghost use Rattle.wire_pattern.specs.Instances as spec;
 ghost use Rattle.wire_pattern.specs.Instances.{IsCast, process_count, cast_of};
-ghost use Rattle.wire_pattern.specs.Shown.{line_by, step_by, role_by, turns_by};
-ghost use Rattle.wire_instances.specs.Shown.{cast_by};
+ghost use Rattle.wire_pattern.specs.Views.{line_by, step_by, role_by, turns_by};
+ghost use Rattle.wire_instances.specs.Views.{cast_by};
 ghost use Rattle.wire_instances.specs.Faults as faults;
 ghost use Rattle.wire_instances.specs.Faults.{at_line, fault_by, line_in};
 ghost use Rattle.wire_instances.specs.Search.{past};
@@ -14,7 +14,7 @@ ghost use Rattle.wire_instances.specs.Tables.{first_of};
 ghost use Rattle.wire_instances.specs.Written.{role_lines};
 
 use crate::cast::Cast;
-use crate::frame::{Frame, Round};
+use crate::frame::{Frame, LoopTurns};
 use crate::search::LineSearch;
 use std::alloc::{AllocError, Global};
 use wire_pattern::{Line, Pattern, Role, Step};
@@ -111,7 +111,7 @@ fn pass_turns(search: &mut LineSearch, turns: &[u32], lines: &[Line])
 fn pass_loop(
     search: &mut LineSearch,
     frame: &Frame,
-    round: Round,
+    round: LoopTurns,
     group: u32,
     lines: &[Line],
 ) -> Result<(), AllocError>
@@ -151,7 +151,7 @@ fn pass_step(
             turns,
             lines,
         } => {
-            let round = Round {
+            let round = LoopTurns {
                 caller,
                 step: number,
                 turns: *turns,

@@ -4,7 +4,7 @@ ghost use Rattle.std.specs.Prelude.{◌≡◌, ◌≤◌, ◌<◌, ◌^◌, ℕ,
 ghost use Rattle.std.specs.Prelude.{MatchOption};
 ghost use Rattle.std.specs.Str.{bytes_eq};
 ghost use Rattle.wire_pattern.specs.Instances.{HaveLeast};
-ghost use Rattle.wire_pattern.specs.Shown.{role_by};
+ghost use Rattle.wire_pattern.specs.Views.{role_by};
 ghost use Rattle.wire_instances.specs.Asked as spec;
 ghost use Rattle.wire_instances.specs.Asked.{asked_by, IsPassed};
 ghost use Rattle.wire_instances.specs.Tables.{AreSizes};

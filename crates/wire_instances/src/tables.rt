@@ -4,7 +4,7 @@ ghost use Rattle.std.specs.Prelude.{◌≡◌, ◌≤◌, ◌<◌, ◌^◌, ◌+
 ghost use Rattle.std.specs.Prelude.{replicate};
 ghost use Rattle.std.specs.Prelude.{slice_get, slice_index_or};
 ghost use Rattle.wire_pattern.specs.Instances.{roles_from, job_in};
-ghost use Rattle.wire_pattern.specs.Shown.{role_by};
+ghost use Rattle.wire_pattern.specs.Views.{role_by};
 ghost use Rattle.wire_instances.specs.Tables.{first_of, jobs_by, rank_in};
 
 use std::alloc::{AllocError, Global};

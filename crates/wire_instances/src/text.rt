@@ -5,19 +5,19 @@ ghost use Rattle.std.specs.Prelude.{length, nat_lt, slice_get, slice_index_or, t
 ghost use Rattle.std.specs.List.{list_all};
 ghost use Rattle.wire_types.specs.Said as said;
 ghost use Rattle.wire_types.specs.declared.Version.TheVariants.{Two};
-ghost use Rattle.wire_content.specs.Canonical.{line_text, keep_said};
+ghost use Rattle.wire_scripts.specs.Canonical.{line_text, keep_said};
 ghost use Rattle.wire_runs.specs.Patterns as plan;
 ghost use Rattle.wire_pattern.specs.Instances as spec;
 ghost use Rattle.wire_pattern.specs.Instances.{IsCast, process_count, cast_of, call_said, instance_text};
-ghost use Rattle.wire_pattern.specs.Shown.{call_by, line_by, step_by, role_by, turns_by};
-ghost use Rattle.wire_instances.specs.Shown.{cast_by};
+ghost use Rattle.wire_pattern.specs.Views.{view_call, line_by, step_by, role_by, turns_by};
+ghost use Rattle.wire_instances.specs.Views.{cast_by};
 ghost use Rattle.wire_instances.specs.Tables.{first_of};
 ghost use Rattle.wire_instances.specs.Written.{AgreeOn, calls_text, role_said};
 
 use crate::calls::write_call;
 use crate::cast::Cast;
 use crate::excerpt::Excerpt;
-use crate::frame::{Calling, Frame, Round};
+use crate::frame::{Calling, Frame, LoopTurns};
 use crate::words::write_node;
 use std::alloc::{AllocError, Global};
 use wire_pattern::{Line, Pattern, Role, Step};
@@ -70,7 +70,7 @@ fn write_turns(
 fn write_loop(
     out: &mut Vec<u8>,
     excerpt: &Excerpt,
-    round: Round,
+    round: LoopTurns,
     group: u32,
     lines: &[Line],
 ) -> Result<(), AllocError>
@@ -115,7 +115,7 @@ fn write_step(
             turns,
             lines,
         } => {
-            let round = Round {
+            let round = LoopTurns {
                 caller,
                 step: number,
                 turns: *turns,

@@ -8,8 +8,8 @@ ghost use Rattle.wire_types.specs.Said.{spelled_set};
 ghost use Rattle.wire_pattern.specs.Instances as spec;
 ghost use Rattle.wire_pattern.specs.Instances.{process_count, cast_of, process_text, process_item, word_text};
 ghost use Rattle.wire_pattern.specs.Instances.{items_said, node_name};
-ghost use Rattle.wire_pattern.specs.Shown.{who_by, indexed_by, item_by};
-ghost use Rattle.wire_content.specs.Canonical.{items_text};
+ghost use Rattle.wire_pattern.specs.Views.{who_by, indexed_by, view_item};
+ghost use Rattle.wire_scripts.specs.Canonical.{items_text};
 ghost use Rattle.wire_instances.specs.Written.{AgreeOn, ended_text};
 
 use crate::excerpt::Excerpt;
@@ -145,7 +145,7 @@ fn write_item(
     requires caller { calling.caller < process_count excerpt.now.frame.cast }
     requires each { calling.each < process_count excerpt.now.frame.cast }
     ensures { OnOk result (AgreeOn (excerpt.now.wanted + 1) out.new.items (out.old.items ++ items_text (items_said
-        excerpt.now.frame.pattern excerpt.now.frame.cast calling.caller calling.each (item_by item)))) }
+        excerpt.now.frame.pattern excerpt.now.frame.cast calling.caller calling.each (view_item item)))) }
 {
     if excerpt.is_past(out) {
         return Ok(());
@@ -166,7 +166,7 @@ pub(crate) fn set_word(
     requires caller { calling.caller < process_count excerpt.now.frame.cast }
     requires each { calling.each < process_count excerpt.now.frame.cast }
     ensures { IfOk result (λ word. AgreeOn excerpt.now.wanted word.items (spelled_set (said.Listed (flat_map (items_said
-        excerpt.now.frame.pattern excerpt.now.frame.cast calling.caller calling.each) (map item_by items.now.items))))) }
+        excerpt.now.frame.pattern excerpt.now.frame.cast calling.caller calling.each) (map view_item items.now.items))))) }
 {
     let mut word = Vec::new(*items.allocator());
     for item in items {

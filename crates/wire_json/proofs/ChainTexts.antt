@@ -7,7 +7,7 @@ use Rattle.serde_json.specs.View.{items_of}
 use Rattle.serde_json.specs.Written.{compact_text, has_float, items_have_float}
 use Rattle.serde_json.proofs.OnLiterals.{serde_json_on_literals}
 use Rattle.wire_types.specs.declared.CallAt.{CallAt}
-use Rattle.wire_content.specs.Scripts.{Scripts, call_at}
+use Rattle.wire_scripts.specs.Scripts.{Scripts, call_at}
 use Rattle.wire_words.specs.Words.{name_of, verb_text_in}
 use Rattle.wire_json.specs.declared.chains.ChainStep.{ChainStep}
 use Rattle.wire_json.specs.declared.chains.Half.{Half}

@@ -4,7 +4,7 @@ use Rattle.std.proofs.lemmas.List.{map_push, at_drop_more}
 use Rattle.serde_json.specs.Data.{Data}
 use Rattle.wire_types.specs.declared.Call.{Call}
 use Rattle.wire_types.specs.declared.CallEnd.{CallEnd}
-use Rattle.wire_content.specs.Scripts.{Scripts, Process}
+use Rattle.wire_scripts.specs.Scripts.{Scripts, Process}
 use Rattle.wire_types.specs.declared.CallAt.{CallAt}
 use Rattle.wire_json.specs.Trees.{calls_data, ranks_data}
 use Rattle.wire_json.specs.WitnessTrees.{tried_data}

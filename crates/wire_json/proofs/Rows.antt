@@ -9,7 +9,7 @@ use Rattle.wire_types.specs.declared.Status.TheVariants.{Success}
 use Rattle.wire_types.specs.declared.Value.TheVariants as value
 use Rattle.wire_types.specs.Outcome.{Ends}
 use Rattle.wire_types.specs.declared.Version.TheVariants.{One}
-use Rattle.wire_content.specs.Scripts.{Scripts}
+use Rattle.wire_scripts.specs.Scripts.{Scripts}
 use Rattle.wire_json.specs.Json.{json_report, json_findings, json_unsettled}
 
 -- the job app: a put and a commit, and a get of that key; the value has a quote and a backslash

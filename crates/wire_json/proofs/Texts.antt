@@ -12,8 +12,8 @@ use Rattle.wire_types.specs.declared.CallEnd.{CallEnd}
 use Rattle.wire_types.specs.declared.Value.{Value}
 use Rattle.wire_types.specs.declared.Value.TheVariants as value
 use Rattle.wire_types.specs.Outcome.{Ends}
-use Rattle.wire_content.specs.Scripts.{Scripts, Process}
-use Rattle.wire_content.specs.Canonical.{process_text}
+use Rattle.wire_scripts.specs.Scripts.{Scripts, Process}
+use Rattle.wire_scripts.specs.Canonical.{process_text}
 use Rattle.wire_words.specs.Words.{end_word, replied_value, value_text, verb_text, name_of}
 use Rattle.wire_json.specs.Json as json
 use Rattle.wire_json.specs.Json.{quoted, bracketed, printed}

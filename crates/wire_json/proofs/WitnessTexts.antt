@@ -10,7 +10,7 @@ use Rattle.wire_types.specs.declared.CallAt.{CallAt}
 use Rattle.wire_types.specs.declared.CallEnd.{CallEnd}
 use Rattle.wire_types.specs.declared.Value.{Value}
 use Rattle.wire_types.specs.declared.Value.TheVariants as value
-use Rattle.wire_content.specs.Scripts.{Scripts}
+use Rattle.wire_scripts.specs.Scripts.{Scripts}
 use Rattle.wire_words.specs.Words.{end_word, replied_value, value_text, name_of}
 use Rattle.wire_json.specs.declared.chains.Half.TheVariants.{Whole}
 use Rattle.wire_json.specs.declared.witnesses.RaceCounts.{RaceCounts}

@@ -1,7 +1,7 @@
 -- Parts of JSON forms, as bytes, that tell on which line of a file a call stands.
 use Rattle.std.specs.Prelude.{ℕ, List, ◌++◌, codes, decimal}
 use Rattle.wire_types.specs.declared.CallAt.{CallAt}
-use Rattle.wire_content.specs.Scripts.{Scripts}
+use Rattle.wire_scripts.specs.Scripts.{Scripts}
 use Rattle.wire_json.specs.declared.chains.ChainStep.{ChainStep}
 use Rattle.wire_json.specs.Chains.{call_member, half_member, proc_member, verb_member}
 

@@ -10,7 +10,7 @@ use crate::objects::Object;
 use crate::places::{call_names, named_call, place_trees};
 use serde_json::Value;
 use std::alloc::{AllocError, Global};
-use wire_content::Scripts;
+use wire_scripts::Scripts;
 use wire_types::CallAt;
 
 /// What is meant of a call in a chain.

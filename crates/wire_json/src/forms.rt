@@ -6,7 +6,7 @@ ghost use Rattle.serde_json.specs.View.{view};
 ghost use Rattle.serde_json.specs.Written.{compact_text, has_float};
 ghost use Rattle.wire_types.specs.Outcome.{ends_of};
 ghost use Rattle.wire_types.specs.Texts.{lists_of};
-ghost use Rattle.wire_content.specs.Scripts.{numbers_of};
+ghost use Rattle.wire_scripts.specs.Scripts.{numbers_of};
 ghost use Rattle.wire_words.specs.Words.{name_of};
 ghost use Rattle.wire_json.specs.Json as spec;
 ghost use Rattle.wire_json.specs.Trees as trees;
@@ -17,7 +17,7 @@ use crate::strings::string_trees;
 use crate::trees::rank_trees;
 use serde_json::Value;
 use std::alloc::{AllocError, Global};
-use wire_content::Scripts;
+use wire_scripts::Scripts;
 use wire_types::{Outcome, Proc};
 use wire_words::push_proc;
 

@@ -9,7 +9,7 @@ ghost use Rattle.wire_json.specs.Lined as lined;
 use crate::chains::{ChainStep, Half};
 use crate::strings::printable_byte;
 use std::alloc::{AllocError, Global};
-use wire_content::Scripts;
+use wire_scripts::Scripts;
 use wire_types::CallAt;
 use wire_words::{push_number, push_proc, verb_at};
 

@@ -8,7 +8,7 @@ use crate::objects::Object;
 use crate::strings::printable_text;
 use serde_json::Value;
 use std::alloc::{AllocError, Global};
-use wire_content::Scripts;
+use wire_scripts::Scripts;
 use wire_types::CallAt;
 use wire_words::{push_proc, verb_at};
 

@@ -4,7 +4,7 @@ ghost use Rattle.std.specs.Prelude.{◌≡◌, codes, map, string_bytes, IfOk};
 ghost use Rattle.serde_json.specs.Data.{member, no_members, object, string};
 ghost use Rattle.serde_json.specs.View.{view};
 ghost use Rattle.wire_types.specs.Texts.{lists_of};
-ghost use Rattle.wire_content.specs.Canonical.{process_text};
+ghost use Rattle.wire_scripts.specs.Canonical.{process_text};
 ghost use Rattle.wire_json.specs.Json.{printed};
 ghost use Rattle.wire_json.specs.Trees as spec;
 
@@ -12,7 +12,7 @@ use crate::objects::Object;
 use crate::strings::printable_text;
 use serde_json::Value;
 use std::alloc::{AllocError, Global};
-use wire_content::{Process, Scripts};
+use wire_scripts::{Process, Scripts};
 use wire_types::{Call, CallEnd, Value as ReplyValue};
 use wire_words::{end_word, push_process, push_value, replied_value, verb};
 

@@ -3,7 +3,7 @@
 ghost use Rattle.std.specs.Prelude.{◌≡◌, map, IfOk};
 ghost use Rattle.serde_json.specs.View.{view};
 ghost use Rattle.wire_types.specs.Texts.{lists_of};
-ghost use Rattle.wire_content.specs.Scripts.{numbers_of};
+ghost use Rattle.wire_scripts.specs.Scripts.{numbers_of};
 ghost use Rattle.wire_json.specs.Json.{printed};
 ghost use Rattle.wire_words.specs.Words.{end_word, replied_value};
 ghost use Rattle.wire_json.specs.Witnesses as spec;
@@ -16,7 +16,7 @@ use crate::places::place_tree;
 use crate::strings::printable_text;
 use serde_json::Value;
 use std::alloc::{AllocError, Global};
-use wire_content::Scripts;
+use wire_scripts::Scripts;
 use wire_types::{CallAt, CallEnd, Proc, Value as ReplyValue};
 use wire_words::{end_word, push_value, replied_value};
 

@@ -193,8 +193,8 @@ abbrev pub KeepsName : Family → Plan → ℕ → List Moment → Type 0
 KeepsName family plan name past = (family.names ≡ true) × IsClean family plan name past
 
 -- p's fence over these members is plain, by the calls that have been made
-abbrev pub IsPlainSoFar : Words → Plan → List Moment → ℕ → List ℕ → Type 0
-IsPlainSoFar words plan past p members =
+abbrev pub IsPlainFenceSoFar : Words → Plan → List Moment → ℕ → List ℕ → Type 0
+IsPlainFenceSoFar words plan past p members =
     IsPlainFence words plan (IsDone (told plan past)) members (arrivals plan p members ((told plan past).done p))
 
 -- what may be answered to p's next event, of this kind, which it made right after `before`. Puts and commits succeed
@@ -207,7 +207,7 @@ MaySay family words plan before past p a (Put key scope) = a ≡ Success
 MaySay family words plan before past p a Commit = a ≡ Success
 MaySay family words plan before past p a (Arrive members collect) = a ≡ Silent
 MaySay family words plan before past p a (Leave members) =
-    IsPlainSoFar words plan past p members
+    IsPlainFenceSoFar words plan past p members
     → (is_complete plan (told plan past).done members (arrivals plan p members ((told plan past).done p)) ≡ true) × (a ≡ Success)
 MaySay family words plan before past p a (Get owner key) = GetSays family plan before past p owner key a
 MaySay family words plan before past p a (GetNow owner key) = NowSays family words plan past p owner key a
@@ -251,7 +251,7 @@ pub data OwesGet (plan : Plan) (h : List Moment) (p owner key : ℕ) : Type 0 wh
 abbrev pub Owes : Family → Words → Plan → List Moment → ℕ → Kind → Type 0
 Owes family words plan h p (Get owner key) = OwesGet plan h p owner key
 Owes family words plan h p (Leave members) =
-    IsPlainSoFar words plan h p members × (is_complete plan (told plan h).done members (arrivals plan p members ((told plan h).done p)) ≡ true)
+    IsPlainFenceSoFar words plan h p members × (is_complete plan (told plan h).done members (arrivals plan p members ((told plan h).done p)) ≡ true)
 Owes family words plan h p (LookupWait name) = KeepsName family plan name h × (is_some ((told plan h).names name) ≡ true)
 Owes family words plan h p (Fixed r) = words.known (next_event (told plan h) p) ≡ true
 Owes family words plan h p _ = Unit {0}

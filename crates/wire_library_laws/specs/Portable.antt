@@ -14,19 +14,19 @@ use Rattle.wire_runs.specs.Races.{IsRewrite, Delivery, ByFence, ByGet, IsOf, Fen
 use Rattle.wire_library_laws.specs.Library.{Family, Words, IsMate, IsPlainFence}
 
 -- y is the event right before g in its process
-pub record IsLast (y g : Event) : Type 0 where
+pub record IsRightBefore (y g : Event) : Type 0 where
   pub same : y.proc ≡ g.proc
   pub next : suc y.at ≡ g.at
 
 -- x has ended when g is asked: it is the event right before g in its process, or before that one
 pub record EndsFirst (plan : Plan) (x g : Event) : Type 0 where
   pub last : Event
-  pub is : IsLast last g
+  pub is : IsRightBefore last g
   pub leads : (x ≡ last) ⊎ Before plan x last
 
 -- the call comes to be made
 abbrev pub IsAsked : Plan → Event → Type 0
-IsAsked plan g = (y : Event) → IsLast y g → Live plan y
+IsAsked plan g = (y : Event) → IsRightBefore y g → Live plan y
 
 -- a live commit of p after which the key isn't there
 pub record Lacks (plan : Plan) (p key : ℕ) (commit : Event) : Type 0 where

@@ -5,7 +5,7 @@ use Rattle.std.proofs.lemmas.Fmt.{decimal_injective}
 use Rattle.std.specs.List.{slice_split}
 use Rattle.wire_types.specs.Said.{Item, One, Every, Set, Own, Listed, Call, Put, Commit, Fence, Get, GetNow, Publish, Lookup}
 use Rattle.wire_types.specs.Said.{LookupWait, Unpublish, UnpublishAll, Said, Header, Keep, Node, Job, Rank, Calls}
-use Rattle.wire_types.specs.Said.{IsLawful, IsLawfulCall, IsLawfulSet, IsLawfulItem, AreLawful, first_word, other_words, first_of_call}
+use Rattle.wire_types.specs.Said.{IsLawfulLine, IsLawfulCall, IsLawfulSet, IsLawfulItem, AreLawful, first_word, other_words, first_of_call}
 use Rattle.wire_types.specs.Said.{others_of_call, collect_words, spelled_proc, spelled_scope, spelled_version}
 use Rattle.wire_types.specs.Said.{spelled_item, spelled_set, is_name, is_key}
 use Rattle.wire_types.specs.declared.Scope.{Scope}
@@ -192,7 +192,7 @@ version_once v w e = sym (shows_version v) ∙ ap shown_version e ∙ shows_vers
     shows_version version.One = refl
     shows_version version.Two = refl
 
-once : (a b : Said) → kind a ≡ kind b → (kind_of : first_word a ≡ first_word b) → other_words a ≡ other_words b → IsLawful a → IsLawful b → a ≡ b
+once : (a b : Said) → kind a ≡ kind b → (kind_of : first_word a ≡ first_word b) → other_words a ≡ other_words b → IsLawfulLine a → IsLawfulLine b → a ≡ b
 once (Header v) (Header w) h f e la lb = let spelled : spelled_version v ≡ spelled_version w = cc in ap Header (version_once v w spelled)
 once Keep Keep h f e la lb = refl
 once (Node x) (Node y) h f e la lb = cc

@@ -7,7 +7,7 @@ ghost use Rattle.wire_types.specs.Said as spec;
 ghost use Rattle.wire_types.specs.Said.{spelled_proc, spelled_scope, spelled_set, collect_words, IsLawfulSet};
 ghost use Rattle.wire_types.specs.Said.{IsLawfulCall};
 ghost use Rattle.wire_types.specs.Said.{first_of_call, others_of_call};
-ghost use Rattle.wire_lines.specs.Shown.{call_by};
+ghost use Rattle.wire_lines.specs.Views.{view_call};
 ghost use Rattle.wire_types.specs.Verbs.{text_of_verb};
 ghost use Rattle.wire_types.specs.declared.verb.Verb.{Verb};
 ghost use Rattle.wire_types.specs.Texts.{texts_of};
@@ -149,8 +149,8 @@ fn pair_of<'a>(words: &[&'a [u8]]) -> Option<(&'a [u8], &'a [u8])>
 
 /// The put, by the words after its verb.
 fn put_of<'a>(words: &[&'a [u8]]) -> Option<CallLine<'a>>
-    ensures found { IfSome result (λ c. (first_of_call (call_by c) ≡ codes "put")
-        × (texts_of words.now ≡ others_of_call (call_by c)) × IsLawfulCall (call_by c)) }
+    ensures found { IfSome result (λ c. (first_of_call (view_call c) ≡ codes "put")
+        × (texts_of words.now ≡ others_of_call (view_call c)) × IsLawfulCall (view_call c)) }
     ensures none { IfNone result ((scope : Scope) (key value : List ℕ) → IsTrue (spec.is_key key)
         → IsTrue (spec.is_word value)
         → texts_of words.now ≢ spelled_scope scope ∷ key ∷ value ∷ []) }
@@ -212,8 +212,8 @@ pub fn is_star_alone(words: &[&[u8]]) -> bool
 
 /// The fence, by the words after its verb.
 fn fence_of<'a>(alloc: Global, words: &[&'a [u8]]) -> Result<Option<CallLine<'a>>, AllocError>
-    ensures found { IfOk result (λ o. IfSome o (λ c. (first_of_call (call_by c) ≡ codes "fence")
-        × (texts_of words.now ≡ others_of_call (call_by c)) × IsLawfulCall (call_by c))) }
+    ensures found { IfOk result (λ o. IfSome o (λ c. (first_of_call (view_call c) ≡ codes "fence")
+        × (texts_of words.now ≡ others_of_call (view_call c)) × IsLawfulCall (view_call c))) }
     ensures none { IfOk result (λ o. IfNone o ((set : spec.Set) (collect : Bool) → IsLawfulSet set
         → texts_of words.now ≢ spelled_set set ∷ collect_words collect)) }
 {
@@ -231,8 +231,8 @@ fn fence_of<'a>(alloc: Global, words: &[&'a [u8]]) -> Result<Option<CallLine<'a>
 
 /// The end of one publish, or of all, by the words after its verb.
 fn unpublish_of<'a>(words: &[&'a [u8]]) -> Option<CallLine<'a>>
-    ensures found { IfSome result (λ c. (first_of_call (call_by c) ≡ codes "unpublish")
-        × (texts_of words.now ≡ others_of_call (call_by c)) × IsLawfulCall (call_by c)) }
+    ensures found { IfSome result (λ c. (first_of_call (view_call c) ≡ codes "unpublish")
+        × (texts_of words.now ≡ others_of_call (view_call c)) × IsLawfulCall (view_call c)) }
     ensures none { IfNone result ((call : spec.Call) → first_of_call call ≡ codes "unpublish"
         → IsLawfulCall call → texts_of words.now ≢ others_of_call call) }
 {
@@ -251,8 +251,8 @@ pub fn call_of<'a>(
     verb: Verb,
     words: &[&'a [u8]],
 ) -> Result<Option<CallLine<'a>>, AllocError>
-    ensures found { IfOk result (λ o. IfSome o (λ c. (first_of_call (call_by c) ≡ text_of_verb verb)
-        × (texts_of words.now ≡ others_of_call (call_by c)) × IsLawfulCall (call_by c))) }
+    ensures found { IfOk result (λ o. IfSome o (λ c. (first_of_call (view_call c) ≡ text_of_verb verb)
+        × (texts_of words.now ≡ others_of_call (view_call c)) × IsLawfulCall (view_call c))) }
     ensures none { IfOk result (λ o. IfNone o ((call : spec.Call) → first_of_call call ≡ text_of_verb verb
         → IsLawfulCall call
         → texts_of words.now ≢ others_of_call call)) }

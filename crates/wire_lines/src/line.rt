@@ -2,9 +2,9 @@
 
 ghost use Rattle.std.specs.Prelude.{[], ◌≡◌, ◌≢◌, ℕ, List, ◌∷◌, IsTrue, map, IfOk, IfSome, IfNone};
 ghost use Rattle.wire_types.specs.Said as spec;
-ghost use Rattle.wire_types.specs.Said.{Said, Header, Says, IsLawful, first_word, other_words};
+ghost use Rattle.wire_types.specs.Said.{Said, Header, Says, IsLawfulLine, first_word, other_words};
 ghost use Rattle.wire_types.specs.Verbs.{text_of_verb};
-ghost use Rattle.wire_lines.specs.Shown.{said_by};
+ghost use Rattle.wire_lines.specs.Views.{said_by};
 ghost use Rattle.wire_lines.specs.Kind.{text_of};
 ghost use Rattle.wire_lines.specs.Once.{SaysOnce};
 ghost use Rattle.wire_lines.specs.declared.line.Kind.{Kind};
@@ -135,9 +135,9 @@ fn call_in<'a>(
     words: &[&'a [u8]],
 ) -> Result<Option<Line<'a>>, AllocError>
     ensures found { IfOk result (λ o. IfSome o (λ l. (first_word (said_by l) ≡ text_of_verb verb)
-        × (texts_of words.now ≡ other_words (said_by l)) × IsLawful (said_by l))) }
+        × (texts_of words.now ≡ other_words (said_by l)) × IsLawfulLine (said_by l))) }
     ensures none { IfOk result (λ o. IfNone o ((said : Said) → first_word said ≡ text_of_verb verb
-        → IsLawful said → texts_of words.now ≢ other_words said)) }
+        → IsLawfulLine said → texts_of words.now ≢ other_words said)) }
 {
     match call_of(alloc, verb, words)? {
         Some(call) => Ok(Some(Line::Calls(call))),
@@ -152,9 +152,9 @@ fn line_of<'a>(
     words: &[&'a [u8]],
 ) -> Result<Option<Line<'a>>, AllocError>
     ensures found { IfOk result (λ o. IfSome o (λ l. (first_word (said_by l) ≡ text_of kind)
-        × (texts_of words.now ≡ other_words (said_by l)) × IsLawful (said_by l))) }
+        × (texts_of words.now ≡ other_words (said_by l)) × IsLawfulLine (said_by l))) }
     ensures none { IfOk result (λ o. IfNone o ((said : Said) → first_word said ≡ text_of kind
-        → IsLawful said → texts_of words.now ≢ other_words said)) }
+        → IsLawfulLine said → texts_of words.now ≢ other_words said)) }
 {
     match kind {
         Kind::Header => match version_in(words) {

@@ -5,7 +5,7 @@ ghost use Rattle.std.specs.List.{slice_split};
 ghost use Rattle.wire_types.specs.Said as spec;
 ghost use Rattle.wire_types.specs.Said.{spelled_item, spelled_set, IsLawfulItem, AreLawful, IsLawfulSet};
 ghost use Rattle.wire_types.specs.Texts.{texts_of};
-ghost use Rattle.wire_lines.specs.Shown.{item_by, set_by};
+ghost use Rattle.wire_lines.specs.Views.{view_item, set_by};
 
 use crate::word::{ProcName, cut_at_colon, is_name, is_text, number_of};
 use std::alloc::{AllocError, Global};
@@ -38,7 +38,7 @@ impl Drop for Set<'_> {
 
 /// What an item names: a job and a rank, or a job and a star.
 fn item_of(word: &[u8]) -> Option<Item<'_>>
-    ensures found { IfSome result (λ i. (word.now ≡ spelled_item (item_by i)) × IsLawfulItem (item_by i)) }
+    ensures found { IfSome result (λ i. (word.now ≡ spelled_item (view_item i)) × IsLawfulItem (view_item i)) }
     ensures none { IfNone result ((i : spec.Item) → IsLawfulItem i → word.now ≢ spelled_item i) }
 {
     let Some((job, rank)) = cut_at_colon(word) else {
@@ -70,9 +70,9 @@ pub fn cut_parts(alloc: Global, word: &[u8]) -> Result<Vec<&[u8]>, AllocError>
 
 /// The items that the parts are, where each is one.
 fn items_of<'a>(alloc: Global, parts: &[&'a [u8]]) -> Result<Option<Vec<Item<'a>>>, AllocError>
-    ensures found { IfOk result (λ o. IfSome o (λ v. (map spelled_item (map item_by v.items)
+    ensures found { IfOk result (λ o. IfSome o (λ v. (map spelled_item (map view_item v.items)
         ≡ texts_of parts.now)
-        × AreLawful (map item_by v.items))) }
+        × AreLawful (map view_item v.items))) }
     ensures none { IfOk result (λ o. IfNone o
         ((items : List spec.Item) → AreLawful items → texts_of parts.now ≢ map spelled_item items)) }
 {

@@ -2,8 +2,8 @@
 //! for all processes.
 #![tactic(auto)]
 
-mod law;
+mod laws;
 mod names;
 
-pub use law::names_follow;
+pub use laws::names_follow;
 pub use names::Names;

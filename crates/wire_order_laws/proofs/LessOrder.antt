@@ -10,7 +10,7 @@ use Rattle.wire_runs.specs.Fences.{collects}
 use Rattle.wire_runs.specs.Names.{publishes, takes_name, writes_name, calls_name}
 use Rattle.wire_runs.specs.Order.{IsArrival, PublishesOnce}
 use Rattle.wire_runs.specs.Races.{Delivery, ByFence, ByGet, FenceDelivers, GetDelivers, Delivers, IsRewrite, IsNodeRace, IsDeliveryRace, IsNameRace, IsSettled}
-use Rattle.wire_runs.specs.Embeddings.{Renaming, image, image_kind, IsNameOf, IsSetOf, IsEmbedding, KeepsFindings, IsKept}
+use Rattle.wire_runs.specs.Embeddings.{Renaming, image, image_kind, IsNameOf, IsSetOf, IsEmbedding, KeepsFindings, IsKeptDelivery}
 use Rattle.wire_runs.specs.Parts.{Piece, Kept, Left, kept_kinds, all_kinds, place_in, Fits, IsPartEach, IsPart, in_place}
 use Rattle.wire_runs.proofs.Basics.{event_within, stores_commit}
 use Rattle.wire_runs.proofs.Arrivals.{mate_on}
@@ -139,7 +139,7 @@ module _ (small large : Plan) (pieces : ℕ → List Piece) (less : HasLessOrder
       go (Some k) is h = absurd (true≢false (sym (ap (takes_name large name z) is ∙ h) ∙ once.stays z))
 
   -- of a delivery the small plan has what brings it
-  kept : (g : Event) (owner key : ℕ) (d : Delivery) → Delivers large owner key (node_of large g.proc) d → IsKept to small large owner (node_of small g.proc) d
+  kept : (g : Event) (owner key : ℕ) (d : Delivery) → Delivers large owner key (node_of large g.proc) d → IsKeptDelivery to small large owner (node_of small g.proc) d
   kept g owner key (ByFence members j) delivers =
       let d : FenceDelivers large owner key (node_of large g.proc) members j = delivers.brings_it in
       let mine : Event = record { proc = owner; at = d.away.at } in

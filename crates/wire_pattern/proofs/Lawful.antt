@@ -7,12 +7,12 @@ use borrow.Author.Tests.{ne_eqb}
 use Rattle.wire_types.specs.Said.{is_reserved}
 use Rattle.wire_types.specs.declared.Reply.{Reply}
 use Rattle.wire_runs.specs.Patterns as plan
-use Rattle.wire_runs.specs.Patterns.{Who, Only, Self, Each, Turns, InOrder, Round, Chosen, KnowsWho, KnowsAll, KnowsItem, KnowsItems, KnowsLine, IsLoopLine, IsOptional, IsTurnLine, AreLoopLines, IsStep, AreSteps, IsLawful}
+use Rattle.wire_runs.specs.Patterns.{Who, Only, Self, Each, Turns, InOrder, Round, Chosen, KnowsWho, KnowsAll, KnowsItem, KnowsItems, KnowsLine, IsLoopLine, IsOptional, IsTurnLine, AreLoopLines, IsLawfulStep, AreSteps, IsLawful}
 use Rattle.wire_pattern.specs.Pattern.{Indexed, Item, One, Group, Job, Call, Put, Commit, Fence, Get, GetNow, Publish}
 use Rattle.wire_pattern.specs.Pattern.{Lookup, LookupWait, Unpublish, UnpublishAll, Line, Step, Once, Loop, Role}
 use Rattle.wire_pattern.specs.Planned.{word_of, roles_of, items_of, unless_reserved, line_of, step_of, steps_in, single_in}
 use Rattle.wire_pattern.specs.Instances.{job_in}
-use Rattle.wire_pattern.specs.Lawful.{whos_in_item, is_each, names_each, is_known_who, is_known_item, is_known, has_role, items_in, is_optional, is_turn_call, is_commit, is_loop_call, waits_after, waits_after_all, has_commit, waits_after_step, is_sound_call, is_sound_step, are_sound_steps, has_words, is_member_call}
+use Rattle.wire_pattern.specs.Lawful.{whos_in_item, is_each, names_each, is_known_who, is_known_item, names_known, has_role, items_in, is_optional, is_turn_call, is_commit, is_loop_call, waits_after, waits_after_all, has_commit, waits_after_step, is_sound_call, is_sound_step, are_sound_steps, has_words, is_member_call}
 use Rattle.wire_pattern.specs.Sound.{SoundIsLawful}
 
 -- what holds of a line whose reply is fixed, and of a line, holds of either
@@ -47,7 +47,7 @@ module _ (jobs : ℕ) (roles : List Role) where
   know_items [] h = tt
   know_items (i ∷ is) h = know_append (items_of roles i) (flat_map (items_of roles) is) (know_item i ((and_parts _ _ h).0)) (know_items is ((and_parts _ _ h).1))
 
-  know_line : (call : Call) → is_known jobs roles call ≡ true → KnowsLine (λ role. single_in (slice_get roles role)) (line_of roles call)
+  know_line : (call : Call) → names_known jobs roles call ≡ true → KnowsLine (λ role. single_in (slice_get roles role)) (line_of roles call)
   know_line (Put s k v) h = either (KnowsLine (λ role. single_in (slice_get roles role))) k _ (plan.LinePut (word_of k) s) tt (know_all k.indices ((and_parts _ _ h).0))
   know_line Commit h = tt
   know_line (Fence items c) h = know_items items ((and_parts _ _ h).1)
@@ -158,7 +158,7 @@ module _ (jobs : ℕ) (roles : List Role) where
       let first = (and_parts _ _ h).0 in
       let sound = (and_parts (is_sound_call jobs roles caller l.call) (is_loop_call roles group turns l.call) first).0 in
       let loop = (and_parts (is_sound_call jobs roles caller l.call) (is_loop_call roles group turns l.call) first).1 in
-      let known = (and_parts (is_known jobs roles l.call) (is_member_call roles caller l.call) ((and_parts (has_words l.call) _ sound).1)).0 in
+      let known = (and_parts (names_known jobs roles l.call) (is_member_call roles caller l.call) ((and_parts (has_words l.call) _ sound).1)).0 in
       let fits = (and_parts (is_commit l.call || names_each l.call) _ loop).1 in (
         (know_line l.call known, (loop_line group l.call ((and_parts _ _ loop).0) (not_true _ ((and_parts _ _ fits).0)), turn_line turns l.call ((and_parts _ _ fits).1))),
         loop_lines caller group turns ls ((and_parts _ _ h).1),
@@ -217,9 +217,9 @@ module _ (jobs : ℕ) (roles : List Role) where
   or_split true b h e = h
   or_split false b h e = absurd (true≢false (sym e))
 
-  is_step : (caller : ℕ) (u w : Bool) (step : Step) → (u ≡ true → w ≡ true) → is_sound_step jobs roles caller w step ≡ true → IsStep (λ role. single_in (slice_get roles role)) u (step_of roles step)
+  is_step : (caller : ℕ) (u w : Bool) (step : Step) → (u ≡ true → w ≡ true) → is_sound_step jobs roles caller w step ≡ true → IsLawfulStep (λ role. single_in (slice_get roles role)) u (step_of roles step)
   is_step caller u w (Once line) up h =
-      know_line line.call ((and_parts (is_known jobs roles line.call) (is_member_call roles caller line.call) ((and_parts (has_words line.call) _ ((and_parts (is_sound_call jobs roles caller line.call) _ h).0)).1)).0)
+      know_line line.call ((and_parts (names_known jobs roles line.call) (is_member_call roles caller line.call) ((and_parts (has_words line.call) _ ((and_parts (is_sound_call jobs roles caller line.call) _ h).0)).1)).0)
   is_step caller u w (Loop n group turns lines) up h =
       let body = (and_parts _ _ h).1 in (
         loop_lines caller group turns lines ((and_parts _ _ body).0),

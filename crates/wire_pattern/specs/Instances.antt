@@ -5,7 +5,7 @@ use Rattle.std.specs.List.{join_with_byte, list_all}
 use Rattle.wire_types.specs.Said as said
 use Rattle.wire_types.specs.Said.{spelled_proc}
 use Rattle.wire_types.specs.declared.Version.TheVariants.{Two}
-use Rattle.wire_content.specs.Canonical.{keep_said, line_text}
+use Rattle.wire_scripts.specs.Canonical.{keep_said, line_text}
 use Rattle.wire_runs.specs.Patterns as plan
 use Rattle.wire_runs.specs.Patterns.{Who, Turns, who, group, turns}
 use Rattle.wire_pattern.specs.Pattern.{Indexed, Item, One, Group, Job, Call, Put, Commit, Fence, Get, GetNow, Publish}

@@ -4,7 +4,7 @@ use Rattle.std.specs.Prelude.{◌≡◌, ◌^◌, ℕ, ◌<◌, ◌≤◌, ◌==
 use Rattle.std.specs.Prelude.{map, flat_map, length, Some, slice_get}
 use Rattle.std.specs.List.{list_all, list_any}
 use Rattle.wire_types.specs.Said.{is_name, is_key, is_word}
-use Rattle.wire_content.specs.Apart.{AreApart}
+use Rattle.wire_scripts.specs.Apart.{AreDistinct}
 use Rattle.wire_runs.specs.Patterns.{Who, Only, Self, Each, Turns, Chosen}
 use Rattle.wire_pattern.specs.Pattern.{Indexed, Item, One, Group, Job, Call, Put, Commit, Fence, Get, GetNow, Publish}
 use Rattle.wire_pattern.specs.Pattern.{Lookup, LookupWait, Unpublish, UnpublishAll, Line, Step, Once, Loop, Role, Pattern}
@@ -65,8 +65,8 @@ items_in (Fence items collect) = items
 items_in _ = []
 
 -- whether all that a call names is there, where there are so many jobs
-abbrev pub is_known : ℕ → List Role → Call → Bool
-is_known jobs roles call = list_all (is_known_who roles) (whos_in call) && list_all (is_known_item jobs roles) (items_in call)
+abbrev pub names_known : ℕ → List Role → Call → Bool
+names_known jobs roles call = list_all (is_known_who roles) (whos_in call) && list_all (is_known_item jobs roles) (items_in call)
 
 -- whether an item has all processes of the role
 abbrev pub has_role : List Role → ℕ → Item → Bool
@@ -148,7 +148,7 @@ waits_after_step waits (Loop number group turns lines) = waits || waits_after_al
 
 -- a line of a script of this role, by itself
 abbrev pub is_sound_call : ℕ → List Role → ℕ → Call → Bool
-is_sound_call jobs roles caller call = has_words call && (is_known jobs roles call && is_member_call roles caller call)
+is_sound_call jobs roles caller call = has_words call && (names_known jobs roles call && is_member_call roles caller call)
 
 -- outside loops no line names `each`; a loop is over a role that is there, and where it commits, no put waits where it
 -- begins, nor where a turn ends
@@ -166,17 +166,17 @@ are_sound_steps jobs roles caller waits (step ∷ steps) =
     is_sound_step jobs roles caller waits step && are_sound_steps jobs roles caller (waits_after_step waits step) steps
 
 -- the least number of a single role is 1, that of a group at most 9
-abbrev pub HasLeast : Role → Type 0
-HasLeast role = (role.single ≡ true → role.least ≡ 1) × (role.least ≤ 9)
+abbrev pub HasLawfulLeast : Role → Type 0
+HasLawfulLeast role = (role.single ≡ true → role.least ≡ 1) × (role.least ≤ 9)
 
-pub record IsSound (p : Pattern) : Type 0 where
+pub record IsSoundPattern (p : Pattern) : Type 0 where
   pub job_names : list_all (λ j. is_plain_name j.name) p.jobs ≡ true
-  pub jobs_apart : AreApart (map (λ j. j.name) p.jobs)
+  pub jobs_apart : AreDistinct (map (λ j. j.name) p.jobs)
   pub role_names : list_all (λ r. is_plain_name r.name) p.roles ≡ true
-  pub roles_apart : AreApart (map (λ r. r.name) p.roles)
+  pub roles_apart : AreDistinct (map (λ r. r.name) p.roles)
   pub in_jobs : list_all (λ r. nat_lt r.job (length p.jobs)) p.roles ≡ true
   pub together : (r s : ℕ) → r ≤ s → s < length p.roles → job_in (slice_get p.roles r) ≤ job_in (slice_get p.roles s)
-  pub least : (r : ℕ) (role : Role) → slice_get p.roles r ≡ Some role → HasLeast role
+  pub least : (r : ℕ) (role : Role) → slice_get p.roles r ≡ Some role → HasLawfulLeast role
   pub steps : (r : ℕ) (role : Role) → slice_get p.roles r ≡ Some role
       → are_sound_steps (length p.jobs) p.roles r false role.steps ≡ true
   pub few_jobs : length p.jobs < 2 ^ 31

@@ -1,6 +1,6 @@
 pub mod Pattern
 pub mod Planned
 pub mod Instances
-pub mod Shown
+pub mod Views
 pub mod Lawful
 pub mod Sound

@@ -2,7 +2,7 @@
 use Rattle.wire_runs.specs.Patterns.{IsLawful}
 use Rattle.wire_pattern.specs.Pattern.{Pattern}
 use Rattle.wire_pattern.specs.Planned.{pattern_of}
-use Rattle.wire_pattern.specs.Lawful.{IsSound}
+use Rattle.wire_pattern.specs.Lawful.{IsSoundPattern}
 
 abbrev pub SoundIsLawful : Type 0
-SoundIsLawful = (p : Pattern) → IsSound p → IsLawful (pattern_of p)
+SoundIsLawful = (p : Pattern) → IsSoundPattern p → IsLawful (pattern_of p)

@@ -1,8 +1,8 @@
 //! A pattern: jobs, and roles with their scripts.
 
 ghost use Rattle.std.specs.Prelude.{◌≡◌, map};
-ghost use Rattle.wire_pattern.specs.Lawful.{IsSound};
-ghost use Rattle.wire_pattern.specs.Shown.{job_by, role_by};
+ghost use Rattle.wire_pattern.specs.Lawful.{IsSoundPattern};
+ghost use Rattle.wire_pattern.specs.Views.{job_by, role_by};
 
 use crate::step::Step;
 use std::marker::Model;
@@ -65,20 +65,20 @@ impl Drop for Pattern {
 impl Model for Pattern {
     ghost use Rattle.std.specs.Prelude.{map};
     ghost use Rattle.wire_pattern.specs.Pattern as spec;
-    ghost use Rattle.wire_pattern.specs.Lawful.{IsSound};
-    ghost use Rattle.wire_pattern.specs.Shown.{job_by, role_by};
+    ghost use Rattle.wire_pattern.specs.Lawful.{IsSoundPattern};
+    ghost use Rattle.wire_pattern.specs.Views.{job_by, role_by};
 
     ghost Value = { spec.Pattern };
 
     ghost view = { λ p. record { keeps = p.keeps; jobs = map job_by p.jobs.items; roles = map role_by p.roles.items } };
 
-    ghost invariant = { λ p. IsSound (record { keeps = p.keeps; jobs = map job_by p.jobs.items; roles = map role_by p.roles.items }) };
+    ghost invariant = { λ p. IsSoundPattern (record { keeps = p.keeps; jobs = map job_by p.jobs.items; roles = map role_by p.roles.items }) };
 }
 
 impl Pattern {
     /// A pattern of these jobs and roles.
     pub fn new(keeps: bool, jobs: Vec<Job>, roles: Vec<Role>) -> Pattern
-        requires { IsSound (record { keeps = keeps; jobs = map job_by jobs.items; roles = map role_by roles.items }) }
+        requires { IsSoundPattern (record { keeps = keeps; jobs = map job_by jobs.items; roles = map role_by roles.items }) }
         ensures { result ≡ record { keeps = keeps; jobs = map job_by jobs.items; roles = map role_by roles.items } }
     {
         Pattern { keeps, jobs, roles }
@@ -101,7 +101,7 @@ impl Pattern {
     /// Its roles, by number. They are sound.
     pub fn roles(&self) -> &[Role]
         ensures roles { map role_by result.now ≡ self.now.roles }
-        ensures sound { IsSound self.now }
+        ensures sound { IsSoundPattern self.now }
     {
         self.roles.as_slice()
     }

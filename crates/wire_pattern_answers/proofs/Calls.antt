@@ -9,12 +9,12 @@ use Rattle.wire_types.specs.declared.Reply.{Reply}
 use Rattle.wire_types.specs.Said.{is_reserved}
 use Rattle.wire_runs.specs.Plan.{Call, CallPut, CallCommit, CallFence, CallGet, CallGetNow, CallPublish, CallLookup, CallLookupWait, CallUnpublish, CallUnpublishAll, CallFixed, Kind, kinds_of}
 use Rattle.wire_runs.specs.Ends.{calls_of}
-use Rattle.wire_content.specs.Process.{Process}
-use Rattle.wire_content.specs.Scripts.{Scripts, calls_in, call_at}
-use Rattle.wire_content.specs.Planned.{unless_reserved, planned_call, plan_of}
-use Rattle.wire_content.specs.Placed.{moved}
-use Rattle.wire_content.proofs.Moved.{on_node, moved_get}
-use Rattle.wire_content.proofs.PlannedCalls.{calls_are}
+use Rattle.wire_scripts.specs.Process.{Process}
+use Rattle.wire_scripts.specs.Scripts.{Scripts, calls_in, call_at}
+use Rattle.wire_scripts.specs.Planned.{unless_reserved, planned_call, plan_of}
+use Rattle.wire_scripts.specs.Placed.{moved}
+use Rattle.wire_scripts.proofs.Moved.{on_node, moved_get}
+use Rattle.wire_scripts.proofs.PlannedCalls.{calls_are}
 use Rattle.wire_pattern_answers.proofs.Rows.{place}
 
 -- the kind of a call's first event

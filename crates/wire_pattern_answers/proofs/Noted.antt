@@ -11,7 +11,7 @@ use Rattle.wire_types.specs.declared.CallEnd.TheVariants.{Replied, Waiting, Read
 use Rattle.wire_types.specs.declared.Reply.{Reply}
 use Rattle.wire_types.specs.declared.Status.{Status}
 use Rattle.wire_types.specs.declared.Status.TheVariants.{Success, NotFound, ExistsOutsideScope, DuplicateKey, BadParam}
-use Rattle.wire_content.specs.Scripts.{Scripts, calls_in}
+use Rattle.wire_scripts.specs.Scripts.{Scripts, calls_in}
 use Rattle.wire_core.specs.EndsAfter.{plain_ends}
 use Rattle.wire_pattern.specs.Pattern.{Pattern}
 use Rattle.wire_pattern.specs.Planned.{steps_in}
@@ -20,8 +20,8 @@ use Rattle.wire_pattern_waits.specs.Places.{steps_places}
 use Rattle.wire_pattern_waits.proofs.Noted.{or_either, or_left, or_right}
 use Rattle.wire_pattern_answers.specs.declared.notes.Note.{Note}
 use Rattle.wire_pattern_answers.specs.FewPlacings.{asks_now}
-use Rattle.wire_pattern_answers.specs.Answers.{IsAnswered}
-use Rattle.wire_pattern_answers.specs.Notes.{place_of, is_at, is_noted, note_for, process_notes, notes_from, AreNoted}
+use Rattle.wire_pattern_answers.specs.Answers.{IsAnsweredAtLine}
+use Rattle.wire_pattern_answers.specs.Notes.{place_of, is_at, is_noted, note_for, process_notes, notes_from, NotesAre}
 
 -- a place is that of one status
 abbrev at_place : ℕ → Status
@@ -213,13 +213,13 @@ module _ (p : Pattern) (cast : Cast) (s : Scripts) where
       (ap (λ m. slice_get (own_places p cast m role) call) on ∙ at))
 
   -- of scripts exactly the statuses are noted with which their get-nows are answered
-  scripts_noted : AreNoted (notes_from p cast s 0 (cast_of cast).roles (plain_ends s).rows) (IsAnswered p cast s)
+  scripts_noted : NotesAre (notes_from p cast s 0 (cast_of cast).roles (plain_ends s).rows) (IsAnsweredAtLine p cast s)
   scripts_noted role line status = (to, from)
     where
       rows : List (List CallEnd)
       rows = (plain_ends s).rows
 
-      to : is_noted (notes_from p cast s 0 (cast_of cast).roles rows) role line status ≡ true → IsAnswered p cast s role line status
+      to : is_noted (notes_from p cast s 0 (cast_of cast).roles rows) role line status ≡ true → IsAnsweredAtLine p cast s role line status
       to h =
           let t = there_noted 0 (cast_of cast).roles rows role line status h in
           record {
@@ -231,7 +231,7 @@ module _ (p : Pattern) (cast : Cast) (s : Scripts) where
             answered = record { reply = t.reply; is = t.replied; has = t.has };
           }
 
-      from : IsAnswered p cast s role line status → is_noted (notes_from p cast s 0 (cast_of cast).roles rows) role line status ≡ true
+      from : IsAnsweredAtLine p cast s role line status → is_noted (notes_from p cast s 0 (cast_of cast).roles rows) role line status ≡ true
       from a =
           subst (λ t. is_noted (notes_from p cast s 0 (cast_of cast).roles rows) role line t ≡ true) a.answered.has
           (noted_there 0 (cast_of cast).roles rows role line a.process a.call a.answered.reply a.has_role a.answered.is
@@ -239,6 +239,6 @@ module _ (p : Pattern) (cast : Cast) (s : Scripts) where
           (ap (λ m. slice_get (own_places p cast m role) a.call) (zero-add a.process) ∙ a.of_line))
 
   pub scripts_told : (notes : List Note) (rows : List (List CallEnd)) → notes ≡ notes_from p cast s 0 (cast_of cast).roles rows → rows ≡ (plain_ends s).rows
-      → AreNoted notes (IsAnswered p cast s)
+      → NotesAre notes (IsAnsweredAtLine p cast s)
   scripts_told notes rows are by =
-      subst (λ ns. AreNoted ns (IsAnswered p cast s)) (sym (are ∙ ap (notes_from p cast s 0 (cast_of cast).roles) by)) scripts_noted
+      subst (λ ns. NotesAre ns (IsAnsweredAtLine p cast s)) (sym (are ∙ ap (notes_from p cast s 0 (cast_of cast).roles) by)) scripts_noted

@@ -7,7 +7,7 @@ use Rattle.wire_runs.proofs.Lists.{slice_get-map_back}
 use Rattle.wire_pattern.specs.Pattern.{Pattern}
 use Rattle.wire_pattern_waits.specs.declared.CallLine.{CallLine}
 use Rattle.wire_pattern_answers.specs.declared.answers.LineAnswers.{LineAnswers}
-use Rattle.wire_pattern_answers.specs.declared.told.Told.{Told}
+use Rattle.wire_pattern_answers.specs.declared.told.StatusesByLine.{StatusesByLine}
 use Rattle.wire_pattern_answers.specs.FewPlacings.{IsOfThree}
 use Rattle.wire_pattern_answers.specs.Answers.{Answers, AreOfLine, AreAnswers}
 use Rattle.wire_pattern_answers.specs.Lines.{get_now_lines}
@@ -25,11 +25,11 @@ none_are p none = record { lines = none; each = λ n answers at. none_there n an
     none_there : (n : ℕ) (answers : LineAnswers) → slice_get [] n ≡ Some answers → AreOfLine p answers
     none_there n answers at = cc
 
-lines_kept : (told : Told) (lines : List CallLine) → map (λ (answers : LineAnswers). answers.line) (map (told_of told) lines) ≡ lines
+lines_kept : (told : StatusesByLine) (lines : List CallLine) → map (λ (answers : LineAnswers). answers.line) (map (told_of told) lines) ≡ lines
 lines_kept told [] = refl
 lines_kept told (line ∷ lines) = ap (λ ls. line ∷ ls) (lines_kept told lines)
 
-pub answers_are : (p : Pattern) (told : Told) (lines : List CallLine) (all : List LineAnswers) → all ≡ map (told_of told) lines → lines ≡ get_now_lines p
+pub answers_are : (p : Pattern) (told : StatusesByLine) (lines : List CallLine) (all : List LineAnswers) → all ≡ map (told_of told) lines → lines ≡ get_now_lines p
     → AreTold told (Answers p) → ((role line : ℕ) (status : Status) → Answers p role line status → IsOfThree status) → AreAnswers p all
 answers_are p told lines all by are those three = record {
   lines = ap (map (λ (answers : LineAnswers). answers.line)) by ∙ lines_kept told lines ∙ are;

@@ -29,12 +29,12 @@ use Rattle.wire_runs.proofs.Anywhere.{no_node, settled_there, to_process, owner_
 use Rattle.wire_runs.proofs.Ends.{gives}
 use Rattle.wire_runs.proofs.FindingsAnywhere.{placings_are}
 use Rattle.wire_runs.proofs.PlacingRuns.{done_alike}
-use Rattle.wire_content.specs.Process.{Process}
-use Rattle.wire_content.specs.Reserved.{reserved_reply}
-use Rattle.wire_content.specs.Scripts.{Scripts, text_at, call_at, calls_in}
-use Rattle.wire_content.specs.Planned.{reply_of_key, planned_call, planned_process, plan_of}
-use Rattle.wire_content.specs.Placed.{moved_from, moved, with_second, node_beside, placed}
-use Rattle.wire_content.proofs.Moved.{on_node, moved_length, as_placing, node_moved, placed_alone}
+use Rattle.wire_scripts.specs.Process.{Process}
+use Rattle.wire_scripts.specs.Reserved.{reserved_reply}
+use Rattle.wire_scripts.specs.Scripts.{Scripts, text_at, call_at, calls_in}
+use Rattle.wire_scripts.specs.Planned.{reply_of_key, planned_call, planned_process, plan_of}
+use Rattle.wire_scripts.specs.Placed.{moved_from, moved, with_second, node_beside, placed}
+use Rattle.wire_scripts.proofs.Moved.{on_node, moved_length, as_placing, node_moved, placed_alone}
 use Rattle.wire_pattern_laws.specs.Finds.{status_of, found_status, shown_status, FindsNear, near_nothing, near_value, Finds, from_own, from_near, from_far, far_nothing, far_value, SaysWhatItFinds}
 use Rattle.wire_pattern_laws.proofs.FindsByOrder.{absent}
 use Rattle.wire_pattern_laws.proofs.SmallFinds.{finds_are_said}

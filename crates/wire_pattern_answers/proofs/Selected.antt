@@ -3,29 +3,29 @@ use Rattle.std.proofs.Common.{◌≡◌, ◌∙◌, ap, sym, subst, refl, ℕ, s
 use Rattle.std.proofs.lemmas.List.{length-map, length-append, length-replicate}
 use Rattle.std.proofs.lemmas.List.FromFn.{get_or-range_with_len}
 use Rattle.std.proofs.lemmas.List.Sums.{sum_by-cons}
-use Rattle.wire_sweep_laws.specs.Sizes.{total_of}
+use Rattle.wire_cutoff_laws.specs.Sizes.{total_of}
 use Rattle.wire_types.specs.declared.Status.{Status}
 use Rattle.wire_types.specs.declared.Status.TheVariants.{Success, ExistsOutsideScope}
 use Rattle.wire_runs.specs.Plan.{process_count, node_of}
 use Rattle.wire_runs.specs.Placings.{IsSettledAnywhere}
 use Rattle.wire_runs.specs.PlacingLaws.{IsOneANode}
-use Rattle.wire_content.specs.Scripts.{Scripts, call_at}
-use Rattle.wire_content.specs.Planned.{planned_process, plan_of}
-use Rattle.wire_content.specs.Placed.{moved, placed, with_second, node_beside}
-use Rattle.wire_script.specs.declared.Size.TheVariants.{OfVersion}
-use Rattle.wire_script.specs.Reads.{Reads}
+use Rattle.wire_scripts.specs.Scripts.{Scripts, call_at}
+use Rattle.wire_scripts.specs.Planned.{planned_process, plan_of}
+use Rattle.wire_scripts.specs.Placed.{moved, placed, with_second, node_beside}
+use Rattle.wire_reader.specs.declared.Size.TheVariants.{OfVersion}
+use Rattle.wire_reader.specs.Reads.{Reads}
 use Rattle.wire_pattern.specs.Pattern.{Pattern}
-use Rattle.wire_pattern.specs.Lawful.{IsSound}
+use Rattle.wire_pattern.specs.Lawful.{IsSoundPattern}
 use Rattle.wire_pattern.specs.Instances as text
 use Rattle.wire_pattern.specs.Instances.{Cast, cast_of, roles_from, instance_text}
 use Rattle.wire_instance_laws.specs.Reading.{InstancesRead, IsOfCast}
-use Rattle.wire_sweep_laws.specs.Promised.{IsSettledForAll}
-use Rattle.wire_sweep.specs.Judged.{IsFewCast}
-use Rattle.wire_sweep.specs.Selections.{Selection}
+use Rattle.wire_cutoff_laws.specs.Promised.{IsSettledForAll}
+use Rattle.wire_cutoff.specs.Judged.{IsFewCast}
+use Rattle.wire_cutoff.specs.Selections.{Selection}
 use Rattle.wire_pattern_waits.specs.Waits.{alone}
-use Rattle.wire_pattern_answers.specs.declared.told.Told.{Told}
+use Rattle.wire_pattern_answers.specs.declared.told.StatusesByLine.{StatusesByLine}
 use Rattle.wire_pattern_answers.specs.FewPlacings.{asks_now, IsAnsweredWith, IsFoundOutside, IsOfThree, FewPlacingsTell}
-use Rattle.wire_pattern_answers.specs.Answers.{IsAnswered, AnswersIn}
+use Rattle.wire_pattern_answers.specs.Answers.{IsAnsweredAtLine, AnswersIn}
 use Rattle.wire_pattern_answers.specs.Notes.{IsAnsweredThere, IsAnsweredApart, is_told, AreToldToo, AreToldByFew}
 use Rattle.wire_pattern_answers.proofs.Calls.{same_call}
 use Rattle.wire_pattern_answers.proofs.Placed.{own_nodes, itself}
@@ -48,7 +48,7 @@ is_apart p selection cast s is of a b low_a low_b ne = ne_eqb _ _ (λ e. ne (sym
         let count = of.count in
         of.nodes v (omega (arith, low, count)) ∙ ap (λ (c : Cast). get_or c.nodes v 0) is ∙ get_or-range_with_len 0 (total_of selection.sizes) v 0 (omega (arith, low, count, total)) ∙ zero-add v
 
-module _ (p : Pattern) (selection : Selection) (cast : Cast) (sound : IsSound p) (settled : IsSettledForAll p) (few : IsFewCast p cast) (is : cast ≡ alone p selection)
+module _ (p : Pattern) (selection : Selection) (cast : Cast) (sound : IsSoundPattern p) (settled : IsSettledForAll p) (few : IsFewCast p cast) (is : cast ≡ alone p selection)
     (read : InstancesRead) (tell : FewPlacingsTell) where
   count : length (cast_of cast).roles ≡ text.process_count cast
   count = roles_count 0 cast.sizes
@@ -59,8 +59,8 @@ module _ (p : Pattern) (selection : Selection) (cast : Cast) (sound : IsSound p)
     reads = subst (λ c. Reads OfVersion (instance_text p c) (Ok x.scripts)) is x.reads;
     names = x.scripts.nodes;
     nodes = own_nodes x.scripts;
-    answered = subst (λ c. IsAnswered p c (moved x.scripts x.scripts.nodes (own_nodes x.scripts)) role line status) is
-        (subst (λ s. IsAnswered p cast s role line status) (itself x.scripts) x.answered);
+    answered = subst (λ c. IsAnsweredAtLine p c (moved x.scripts x.scripts.nodes (own_nodes x.scripts)) role line status) is
+        (subst (λ s. IsAnsweredAtLine p cast s role line status) (itself x.scripts) x.answered);
   }
 
   from_apart : (ranks : List ℕ) (role line : ℕ) (status : Status) → IsAnsweredApart p cast ranks role line status → AnswersIn p selection role line status
@@ -69,10 +69,10 @@ module _ (p : Pattern) (selection : Selection) (cast : Cast) (sound : IsSound p)
     reads = subst (λ c. Reads OfVersion (instance_text p c) (Ok x.scripts)) is x.reads;
     names = with_second x.scripts.nodes;
     nodes = node_beside ranks;
-    answered = subst (λ c. IsAnswered p c (placed x.scripts ranks) role line status) is x.answered;
+    answered = subst (λ c. IsAnsweredAtLine p c (placed x.scripts ranks) role line status) is x.answered;
   }
 
-  module _ (before after : Told) (by : AreToldByFew p cast before after) (role line : ℕ) (status : Status) (three : IsOfThree status) where
+  module _ (before after : StatusesByLine) (by : AreToldByFew p cast before after) (role line : ℕ) (status : Status) (three : IsOfThree status) where
     to_all : is_told after role line status ≡ true → (is_told before role line status ≡ true) ⊎ AnswersIn p selection role line status
     to_all h = go (by.together.only role line status three h)
       where
@@ -94,8 +94,8 @@ module _ (p : Pattern) (selection : Selection) (cast : Cast) (sound : IsSound p)
         reads : Reads OfVersion (instance_text p cast) (Ok s)
         reads = subst (λ c. Reads OfVersion (instance_text p c) (Ok s)) (sym is) x.reads
 
-        a : IsAnswered p cast (moved s x.names x.nodes) role line status
-        a = subst (λ c. IsAnswered p c (moved s x.names x.nodes) role line status) (sym is) x.answered
+        a : IsAnsweredAtLine p cast (moved s x.names x.nodes) role line status
+        a = subst (λ c. IsAnsweredAtLine p c (moved s x.names x.nodes) role line status) (sym is) x.answered
 
         of : IsOfCast p cast s
         of = read p cast OfVersion s sound few.cast_is reads
@@ -145,5 +145,5 @@ module _ (p : Pattern) (selection : Selection) (cast : Cast) (sound : IsSound p)
     told_back (inl h) = by.together.stays role line status three ((by.there role line status three).1 (inl h))
     told_back (inr x) = to_few x
 
-  pub selection_told : (before after : Told) → AreToldByFew p cast before after → AreToldToo before after (AnswersIn p selection)
+  pub selection_told : (before after : StatusesByLine) → AreToldByFew p cast before after → AreToldToo before after (AnswersIn p selection)
   selection_told before after by role line status three = (to_all before after by role line status three, told_back before after by role line status three)

@@ -11,19 +11,19 @@ use Rattle.wire_runs.proofs.FindingsAnywhere.{placings_are}
 use Rattle.wire_runs.proofs.PlacingKeeps.{placing_keeps}
 use Rattle.wire_runs.proofs.Families.{placing_tells}
 use Rattle.wire_runs.proofs.RestrictedWhole.{instance_node}
-use Rattle.wire_content.specs.Scripts.{Scripts}
-use Rattle.wire_content.specs.Planned.{plan_of}
+use Rattle.wire_scripts.specs.Scripts.{Scripts}
+use Rattle.wire_scripts.specs.Planned.{plan_of}
 use Rattle.wire_pattern.specs.Pattern.{Pattern, Role}
 use Rattle.wire_pattern.specs.Planned.{pattern_of}
 use Rattle.wire_pattern.specs.Instances as text
 use Rattle.wire_pattern.specs.Instances.{Cast, IsCast, cast_of}
 use Rattle.wire_pattern_laws.proofs.NumbersBack.{renumbered_both}
 use Rattle.wire_instance_laws.specs.Reading.{IsInstance, IsOfCast}
-use Rattle.wire_sweep_laws.specs.Sizes.{AreFewSizes}
-use Rattle.wire_sweep_laws.specs.Promised.{IsSettledForAll}
-use Rattle.wire_sweep.specs.Texts.{HaveLeast}
-use Rattle.wire_sweep.proofs.Alike.{settled_alike}
-use Rattle.wire_sweep.proofs.Texts.{there_is, any_cast, same_nodes}
+use Rattle.wire_cutoff_laws.specs.Sizes.{AreFewSizes}
+use Rattle.wire_cutoff_laws.specs.Promised.{IsSettledForAll}
+use Rattle.wire_cutoff.specs.Texts.{HaveLeast}
+use Rattle.wire_cutoff.proofs.Alike.{settled_alike}
+use Rattle.wire_cutoff.proofs.Texts.{there_is, any_cast, same_nodes}
 
 pub have_least : (roles : List Role) (sizes : List ℕ) → AreFewSizes roles sizes → HaveLeast roles sizes
 have_least [] sizes are r role size is at = cc

@@ -4,7 +4,7 @@ use Rattle.wire_types.specs.declared.Status.{Status}
 use Rattle.wire_types.specs.declared.Status.TheVariants.{Success, NotFound, ExistsOutsideScope, DuplicateKey, BadParam}
 use Rattle.wire_pattern_waits.specs.LineSets.{has_line}
 use Rattle.wire_pattern_answers.specs.declared.notes.Note.{Note}
-use Rattle.wire_pattern_answers.specs.declared.told.Told.{Told}
+use Rattle.wire_pattern_answers.specs.declared.told.StatusesByLine.{StatusesByLine}
 use Rattle.wire_pattern_answers.specs.FewPlacings.{IsOfThree}
 use Rattle.wire_pattern_answers.specs.Notes.{place_of, is_at, is_told}
 
@@ -42,7 +42,7 @@ module _ (note : Note) (role line : ℕ) where
       or_none x (note.role == role) (note.line == line)
       ∙ ap (λ b. x || ((note.role == role) && ((note.line == line) && b))) (sym (ap (λ s. place_of s == place_of status) is ∙ ne))
 
-module _ (before : Told) (rows : List (List Bool)) (note : Note) where
+module _ (before : StatusesByLine) (rows : List (List Bool)) (note : Note) where
   pub success_more : note.status ≡ Success → ((r l : ℕ) → has_line rows r l ≡ (has_line before.success r l || ((note.role == r) && (note.line == l))))
       → (role line : ℕ) (status : Status) → IsOfThree status → is_told (record before { success = rows }) role line status ≡ (is_told before role line status || is_at role line status note)
   success_more is more role line Success three = own note role line (has_line before.success role line) (has_line rows role line) Success is (more role line)
@@ -68,7 +68,7 @@ module _ (before : Told) (rows : List (List Bool)) (note : Note) where
   outside_more is more role line BadParam three = absurd (not_bad three)
 
 -- the other two are told nowhere
-pub duplicate_more : (told : Told) (note : Note) → note.status ≡ DuplicateKey → (role line : ℕ) (status : Status) → IsOfThree status
+pub duplicate_more : (told : StatusesByLine) (note : Note) → note.status ≡ DuplicateKey → (role line : ℕ) (status : Status) → IsOfThree status
     → is_told told role line status ≡ (is_told told role line status || is_at role line status note)
 duplicate_more told note is role line Success three = other note role line _ Success DuplicateKey is refl
 duplicate_more told note is role line NotFound three = other note role line _ NotFound DuplicateKey is refl
@@ -76,7 +76,7 @@ duplicate_more told note is role line ExistsOutsideScope three = other note role
 duplicate_more told note is role line DuplicateKey three = absurd (not_duplicate three)
 duplicate_more told note is role line BadParam three = absurd (not_bad three)
 
-pub bad_more : (told : Told) (note : Note) → note.status ≡ BadParam → (role line : ℕ) (status : Status) → IsOfThree status
+pub bad_more : (told : StatusesByLine) (note : Note) → note.status ≡ BadParam → (role line : ℕ) (status : Status) → IsOfThree status
     → is_told told role line status ≡ (is_told told role line status || is_at role line status note)
 bad_more told note is role line Success three = other note role line _ Success BadParam is refl
 bad_more told note is role line NotFound three = other note role line _ NotFound BadParam is refl

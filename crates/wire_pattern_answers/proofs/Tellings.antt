@@ -9,12 +9,12 @@ use Rattle.wire_pattern_waits.specs.LineSets.{has_line}
 use Rattle.wire_pattern_waits.proofs.Judged.{told_more}
 use Rattle.wire_pattern_waits.proofs.Noted.{or_either}
 use Rattle.wire_pattern_answers.specs.declared.notes.Note.{Note}
-use Rattle.wire_pattern_answers.specs.declared.told.Told.{Told}
+use Rattle.wire_pattern_answers.specs.declared.told.StatusesByLine.{StatusesByLine}
 use Rattle.wire_pattern_answers.specs.FewPlacings.{IsOfThree}
-use Rattle.wire_pattern_answers.specs.Notes.{place_of, is_at, is_noted, AreNoted, IsAnsweredApart, IsAnsweredByOne, is_told, AreToldToo, is_outside, is_open, AreToldTogether}
+use Rattle.wire_pattern_answers.specs.Notes.{place_of, is_at, is_noted, NotesAre, IsAnsweredApart, IsAnsweredByOne, is_told, AreToldToo, is_outside, is_open, AreToldTogether}
 
 -- notes of these are told too
-pub told_too : (before after : Told) (notes : List Note) (those : ℕ → ℕ → Status → Type 0) → AreNoted notes those
+pub told_too : (before after : StatusesByLine) (notes : List Note) (those : ℕ → ℕ → Status → Type 0) → NotesAre notes those
     → ((role line : ℕ) (status : Status) → IsOfThree status → is_told after role line status ≡ (is_told before role line status || is_noted notes role line status))
     → AreToldToo before after those
 told_too before after notes those noted more role line status three =
@@ -41,7 +41,7 @@ or_parts true b h = absurd (true≢false h)
 or_parts false b h = (refl, h)
 
 -- where no note is open, success is told of each line with a key outside its scope
-success_told : (told : Told) (role line : ℕ) (notes : List Note) → is_open told notes ≡ false → is_noted notes role line ExistsOutsideScope ≡ true → has_line told.success role line ≡ true
+success_told : (told : StatusesByLine) (role line : ℕ) (notes : List Note) → is_open told notes ≡ false → is_noted notes role line ExistsOutsideScope ≡ true → has_line told.success role line ≡ true
 success_told told role line [] closed at = absurd (true≢false (sym at))
 success_told told role line (note ∷ notes) closed at = go (success_told told role line notes (or_parts _ _ closed).1) (or_either _ _ at)
   where
@@ -55,14 +55,14 @@ success_told told role line (note ∷ notes) closed at = go (success_told told r
 
 module _ (p : Pattern) (cast : Cast) where
   -- of no rank nothing is said
-  pub by_none : (told : Told) → AreToldToo told told (IsAnsweredByOne p cast 0)
+  pub by_none : (told : StatusesByLine) → AreToldToo told told (IsAnsweredByOne p cast 0)
   by_none told role line status three = ((λ h. inl h), back)
     where
       back : (is_told told role line status ≡ true) ⊎ IsAnsweredByOne p cast 0 role line status → is_told told role line status ≡ true
       back (inl h) = h
       back (inr x) = absurd (let lt = x.1 in omega (arith, lt))
 
-  pub by_one_more : (n : ℕ) (before between after : Told) → AreToldToo before between (IsAnsweredByOne p cast n) → AreToldToo between after (IsAnsweredApart p cast (n ∷ []))
+  pub by_one_more : (n : ℕ) (before between after : StatusesByLine) → AreToldToo before between (IsAnsweredByOne p cast n) → AreToldToo between after (IsAnsweredApart p cast (n ∷ []))
       → AreToldToo before after (IsAnsweredByOne p cast (n + 1))
   by_one_more n before between after told more role line status three = ((λ h. to ((more role line status three).0 h)), from)
     where
@@ -81,7 +81,7 @@ module _ (p : Pattern) (cast : Cast) where
         | inr ne ↦ inl ((told role line status three).1 (inr (x.0, (let lt = x.1 in omega (arith, lt, ne)), x.2)))
       ])
 
-  module _ (before between : Told) (notes : List Note) (told : AreToldToo before between (IsAnsweredApart p cast [])) (noted : AreNoted notes (IsAnsweredApart p cast [])) where
+  module _ (before between : StatusesByLine) (notes : List Note) (told : AreToldToo before between (IsAnsweredApart p cast [])) (noted : NotesAre notes (IsAnsweredApart p cast [])) where
     only_together : (role line : ℕ) (status : Status) → IsOfThree status → is_told between role line status ≡ true
         → (is_told before role line status ≡ true) ⊎ ((ranks : List ℕ) × IsAnsweredApart p cast ranks role line status)
     only_together role line status three h = go ((told role line status three).0 h)
@@ -100,7 +100,7 @@ module _ (p : Pattern) (cast : Cast) where
     }
 
     -- and where each rank is on a node of its own too
-    pub together_each : (after : Told) → AreToldToo between after (IsAnsweredByOne p cast (length (cast_of cast).roles)) → AreToldTogether p cast before after
+    pub together_each : (after : StatusesByLine) → AreToldToo between after (IsAnsweredByOne p cast (length (cast_of cast).roles)) → AreToldTogether p cast before after
     together_each after each = record {
       stays = λ role line status three h. (each role line status three).1 (inl ((told role line status three).1 (inl h)));
       together = λ role line status three x. (each role line status three).1 (inl ((told role line status three).1 (inr x)));

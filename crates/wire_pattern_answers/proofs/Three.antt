@@ -1,17 +1,17 @@
 -- A get-now line is answered with three statuses alone.
 use Rattle.std.proofs.Common.{◌≡◌, ◌∙◌, ap, sym, ℕ, ◌<◌, ◌^◌, true}
 use Rattle.wire_types.specs.declared.Status.{Status}
-use Rattle.wire_content.specs.Scripts.{Scripts}
-use Rattle.wire_script.specs.declared.Size.TheVariants.{OfVersion}
+use Rattle.wire_scripts.specs.Scripts.{Scripts}
+use Rattle.wire_reader.specs.declared.Size.TheVariants.{OfVersion}
 use Rattle.wire_pattern.specs.Pattern.{Pattern}
-use Rattle.wire_pattern.specs.Lawful.{IsSound}
+use Rattle.wire_pattern.specs.Lawful.{IsSoundPattern}
 use Rattle.wire_pattern.specs.Instances.{Cast, IsCast}
 use Rattle.wire_instances.proofs.Groups.{length_roles}
 use Rattle.wire_instance_laws.specs.Reading.{InstancesRead, IsOfCast}
-use Rattle.wire_sweep_laws.specs.Promised.{IsSettledForAll}
-use Rattle.wire_sweep_laws.specs.Sizes.{AreFewSizes, total_of}
-use Rattle.wire_sweep.specs.Selections.{most_sizes}
-use Rattle.wire_sweep.proofs.Selected.{selections_are, selections_few}
+use Rattle.wire_cutoff_laws.specs.Promised.{IsSettledForAll}
+use Rattle.wire_cutoff_laws.specs.Sizes.{AreFewSizes, total_of}
+use Rattle.wire_cutoff.specs.Selections.{most_sizes}
+use Rattle.wire_cutoff.proofs.Selected.{selections_are, selections_few}
 use Rattle.wire_pattern_waits.specs.Waits.{alone}
 use Rattle.wire_pattern_waits.proofs.Replied.{alone_cast}
 use Rattle.wire_pattern_answers.specs.FewPlacings.{asks_now, IsOfThree, ThreeStatuses}
@@ -19,7 +19,7 @@ use Rattle.wire_pattern_answers.specs.Answers.{Answers}
 use Rattle.wire_pattern_answers.proofs.Calls.{same_call}
 use Rattle.wire_pattern_answers.proofs.Settled.{have_least, settled_on_all}
 
-pub answers_three : (p : Pattern) → IsSound p → InstancesRead → ThreeStatuses → IsSettledForAll p → total_of (most_sizes p.roles) < 2 ^ 31
+pub answers_three : (p : Pattern) → IsSoundPattern p → InstancesRead → ThreeStatuses → IsSettledForAll p → total_of (most_sizes p.roles) < 2 ^ 31
     → (role line : ℕ) (status : Status) → Answers p role line status → IsOfThree status
 answers_three p sound read three settled few role line status x =
     let a = x.answers in

@@ -6,8 +6,8 @@ use Rattle.std.proofs.lemmas.Option.{slice_get_within, slice_get_past, get_or_fr
 use Rattle.wire_types.specs.Texts.{lists_of}
 use Rattle.wire_types.specs.declared.Call.{Call}
 use Rattle.wire_types.specs.declared.CallEnd.{CallEnd}
-use Rattle.wire_content.specs.Process.{Process}
-use Rattle.wire_content.specs.Scripts.{Scripts, calls_in}
+use Rattle.wire_scripts.specs.Process.{Process}
+use Rattle.wire_scripts.specs.Scripts.{Scripts, calls_in}
 use Rattle.wire_pattern.specs.Pattern.{Pattern}
 use Rattle.wire_pattern.specs.Planned.{steps_in}
 use Rattle.wire_pattern.specs.Instances.{Cast}

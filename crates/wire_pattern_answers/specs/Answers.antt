@@ -3,14 +3,14 @@
 use Rattle.std.specs.Prelude.{◌≡◌, ◌↔◌, ℕ, true, List, Some, Ok, map, slice_get}
 use Rattle.wire_types.specs.declared.Status.{Status}
 use Rattle.wire_types.specs.declared.Status.TheVariants.{Success, NotFound, ExistsOutsideScope}
-use Rattle.wire_content.specs.Scripts.{Scripts, call_at}
-use Rattle.wire_content.specs.Placed.{moved}
-use Rattle.wire_script.specs.declared.Size.TheVariants.{OfVersion}
-use Rattle.wire_script.specs.Reads.{Reads}
+use Rattle.wire_scripts.specs.Scripts.{Scripts, call_at}
+use Rattle.wire_scripts.specs.Placed.{moved}
+use Rattle.wire_reader.specs.declared.Size.TheVariants.{OfVersion}
+use Rattle.wire_reader.specs.Reads.{Reads}
 use Rattle.wire_pattern.specs.Pattern.{Pattern}
 use Rattle.wire_pattern.specs.Planned.{steps_in}
 use Rattle.wire_pattern.specs.Instances.{Cast, cast_of, instance_text}
-use Rattle.wire_sweep.specs.Selections.{Selection, selections}
+use Rattle.wire_cutoff.specs.Selections.{Selection, selections}
 use Rattle.wire_pattern_waits.specs.Places.{steps_places}
 use Rattle.wire_pattern_waits.specs.Waits.{alone}
 use Rattle.wire_pattern_answers.specs.declared.answers.LineAnswers.{LineAnswers}
@@ -19,7 +19,7 @@ use Rattle.wire_pattern_answers.specs.Lines.{get_now_lines}
 
 -- in the plain run of these scripts a process of the role is answered with this status at a get-now that comes from the
 -- line of this number of the role's script
-pub record IsAnswered (p : Pattern) (cast : Cast) (scripts : Scripts) (role line : ℕ) (status : Status) : Type 0 where
+pub record IsAnsweredAtLine (p : Pattern) (cast : Cast) (scripts : Scripts) (role line : ℕ) (status : Status) : Type 0 where
   pub process : ℕ
   pub call : ℕ
   pub has_role : slice_get (cast_of cast).roles process ≡ Some role
@@ -33,7 +33,7 @@ pub record AnswersIn (p : Pattern) (selection : Selection) (role line : ℕ) (st
   pub reads : Reads OfVersion (instance_text p (alone p selection)) (Ok scripts)
   pub names : List (List ℕ)
   pub nodes : ℕ → ℕ
-  pub answered : IsAnswered p (alone p selection) (moved scripts names nodes) role line status
+  pub answered : IsAnsweredAtLine p (alone p selection) (moved scripts names nodes) role line status
 
 -- so it is in the instance of some selection that is judged, on some nodes
 pub record Answers (p : Pattern) (role line : ℕ) (status : Status) : Type 0 where

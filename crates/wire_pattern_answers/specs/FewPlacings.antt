@@ -8,9 +8,9 @@ use Rattle.wire_types.specs.declared.Status.{Status}
 use Rattle.wire_types.specs.declared.Status.TheVariants.{Success, NotFound, ExistsOutsideScope}
 use Rattle.wire_runs.specs.Placings.{IsSettledAnywhere}
 use Rattle.wire_runs.specs.PlacingLaws.{IsOneANode}
-use Rattle.wire_content.specs.Scripts.{Scripts, call_at}
-use Rattle.wire_content.specs.Planned.{plan_of}
-use Rattle.wire_content.specs.Placed.{moved, placed}
+use Rattle.wire_scripts.specs.Scripts.{Scripts, call_at}
+use Rattle.wire_scripts.specs.Planned.{plan_of}
+use Rattle.wire_scripts.specs.Placed.{moved, placed}
 use Rattle.wire_core.specs.EndsAfter.{plain_ends}
 
 -- whether there is a call, and it is a get-now

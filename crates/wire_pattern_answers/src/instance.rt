@@ -3,29 +3,29 @@
 ghost use Rattle.std.specs.Prelude.{◌≡◌, ◌<◌, ◌^◌, ◌++◌, [], ◌∷◌, OnOk, IfOk, IfErr, length, slice_get};
 ghost use Rattle.wire_types.specs.declared.Fault.TheVariants.{Memory};
 ghost use Rattle.wire_types.specs.Texts.{lists_of};
-ghost use Rattle.wire_content.specs.Scripts.{calls_in, numbers_of};
+ghost use Rattle.wire_scripts.specs.Scripts.{calls_in, numbers_of};
 ghost use Rattle.wire_core.specs.EndsAfter.{plain_ends};
 ghost use Rattle.wire_pattern.specs.Instances.{IsCast, cast_of};
 ghost use Rattle.wire_pattern.specs.Planned.{steps_in};
-ghost use Rattle.wire_instances.specs.Shown.{cast_by};
-ghost use Rattle.wire_sweep.specs.Judged.{IsFewCast, IsJudgeFault};
+ghost use Rattle.wire_instances.specs.Views.{cast_by};
+ghost use Rattle.wire_cutoff.specs.Judged.{IsFewCast, IsJudgeFault};
 ghost use Rattle.wire_pattern_waits.specs.Places.{steps_places};
-ghost use Rattle.wire_pattern_answers.specs.Answers.{IsAnswered};
+ghost use Rattle.wire_pattern_answers.specs.Answers.{IsAnsweredAtLine};
 ghost use Rattle.wire_pattern_answers.specs.Notes as spec;
-ghost use Rattle.wire_pattern_answers.specs.Notes.{AreNoted, IsAnsweredThere, IsAnsweredApart, IsAnsweredByOne, AreToldToo};
+ghost use Rattle.wire_pattern_answers.specs.Notes.{NotesAre, IsAnsweredThere, IsAnsweredApart, IsAnsweredByOne, AreToldToo};
 ghost use Rattle.wire_pattern_answers.specs.Notes.{AreToldTogether, AreToldByFew};
 
 use crate::notes::{Note, add_notes};
-use crate::told::Told;
+use crate::told::StatusesByLine;
 use std::alloc::{AllocError, Global};
-use wire_content::Scripts;
 use wire_core::plain_outcome;
+use wire_cutoff::instance_scripts;
 use wire_instances::Cast;
 use wire_pattern::Pattern;
 use wire_pattern_waits::{Caller, places_of, process_roles};
 use wire_plan::Plan;
-use wire_script::reads_once;
-use wire_sweep::instance_scripts;
+use wire_reader::reads_once;
+use wire_scripts::Scripts;
 use wire_types::{CallEnd, Fault, Proc};
 
 /// Adds the notes of a process of these scripts, by what became of its calls.
@@ -81,7 +81,7 @@ fn notes_by(
 /// The notes of a plan: these, and no others.
 fn notes_on(alloc: Global, pattern: &Pattern, cast: &Cast, plan: &Plan) -> Result<Vec<Note>, Fault>
     requires { IsCast pattern.now (cast_by cast.now) }
-    ensures ok { IfOk result (λ v. AreNoted v.items (IsAnswered pattern.now (cast_by cast.now) plan.now)) }
+    ensures ok { IfOk result (λ v. NotesAre v.items (IsAnsweredAtLine pattern.now (cast_by cast.now) plan.now)) }
     ensures err { IfErr result (λ e. e ≡ Memory) }
 {
     let outcome = plain_outcome(alloc, plan)?;
@@ -103,7 +103,7 @@ fn notes_of(
     scripts: Scripts,
 ) -> Result<Vec<Note>, Fault>
     requires { IsCast pattern.now (cast_by cast.now) }
-    ensures ok { IfOk result (λ v. AreNoted v.items (IsAnswered pattern.now (cast_by cast.now) scripts)) }
+    ensures ok { IfOk result (λ v. NotesAre v.items (IsAnsweredAtLine pattern.now (cast_by cast.now) scripts)) }
     ensures err { IfErr result (λ e. e ≡ Memory) }
 {
     let plan = Plan::build(alloc, scripts)?;
@@ -115,7 +115,7 @@ fn notes_of(
 /// The notes of an instance with its processes where they stand.
 fn notes_there(alloc: Global, pattern: &Pattern, cast: &Cast) -> Result<Vec<Note>, Fault>
     requires { IsFewCast pattern.now (cast_by cast.now) }
-    ensures ok { IfOk result (λ v. AreNoted v.items (IsAnsweredThere pattern.now (cast_by cast.now))) }
+    ensures ok { IfOk result (λ v. NotesAre v.items (IsAnsweredThere pattern.now (cast_by cast.now))) }
     ensures err { IfErr result (λ e. IsJudgeFault pattern.now e) }
 {
     reads_once();
@@ -133,7 +133,7 @@ fn placed_notes(
     ranks: &[Proc],
 ) -> Result<Vec<Note>, Fault>
     requires { IsFewCast pattern.now (cast_by cast.now) }
-    ensures ok { IfOk result (λ v. AreNoted v.items (IsAnsweredApart pattern.now (cast_by cast.now) (numbers_of ranks.now))) }
+    ensures ok { IfOk result (λ v. NotesAre v.items (IsAnsweredApart pattern.now (cast_by cast.now) (numbers_of ranks.now))) }
     ensures err { IfErr result (λ e. IsJudgeFault pattern.now e) }
 {
     reads_once();
@@ -156,7 +156,7 @@ fn one_rank(alloc: Global, rank: u32) -> Result<Vec<Proc>, AllocError>
 /// The notes of an instance with one rank on a node of its own, and all others on another.
 fn notes_apart(alloc: Global, pattern: &Pattern, cast: &Cast, rank: u32) -> Result<Vec<Note>, Fault>
     requires { IsFewCast pattern.now (cast_by cast.now) }
-    ensures ok { IfOk result (λ v. AreNoted v.items (IsAnsweredApart pattern.now (cast_by cast.now) (rank ∷ []))) }
+    ensures ok { IfOk result (λ v. NotesAre v.items (IsAnsweredApart pattern.now (cast_by cast.now) (rank ∷ []))) }
     ensures err { IfErr result (λ e. IsJudgeFault pattern.now e) }
 {
     let ranks = one_rank(alloc, rank)?;
@@ -166,7 +166,7 @@ fn notes_apart(alloc: Global, pattern: &Pattern, cast: &Cast, rank: u32) -> Resu
 /// The notes of an instance with all ranks on one node.
 fn notes_together(alloc: Global, pattern: &Pattern, cast: &Cast) -> Result<Vec<Note>, Fault>
     requires { IsFewCast pattern.now (cast_by cast.now) }
-    ensures ok { IfOk result (λ v. AreNoted v.items (IsAnsweredApart pattern.now (cast_by cast.now) [])) }
+    ensures ok { IfOk result (λ v. NotesAre v.items (IsAnsweredApart pattern.now (cast_by cast.now) [])) }
     ensures err { IfErr result (λ e. IsJudgeFault pattern.now e) }
 {
     let ranks = Vec::new(alloc);
@@ -184,7 +184,7 @@ fn process_count(alloc: Global, pattern: &Pattern, cast: &Cast) -> Result<u32, A
 
 /// Tells the answers of an instance with each of its first ranks, so many, on a node of its own.
 fn tell_each(
-    told: &mut Told,
+    told: &mut StatusesByLine,
     alloc: Global,
     pattern: &Pattern,
     cast: &Cast,
@@ -202,7 +202,12 @@ fn tell_each(
 }
 
 /// Tells the answers of an instance with each of its ranks on a node of its own.
-fn tell_apart(told: &mut Told, alloc: Global, pattern: &Pattern, cast: &Cast) -> Result<(), Fault>
+fn tell_apart(
+    told: &mut StatusesByLine,
+    alloc: Global,
+    pattern: &Pattern,
+    cast: &Cast,
+) -> Result<(), Fault>
     requires { IsFewCast pattern.now (cast_by cast.now) }
     ensures ok { OnOk result (AreToldToo told.old told.new
         (IsAnsweredByOne pattern.now (cast_by cast.now) (length (cast_of (cast_by cast.now)).roles))) }
@@ -215,7 +220,7 @@ fn tell_apart(told: &mut Told, alloc: Global, pattern: &Pattern, cast: &Cast) ->
 /// Tells the answers of an instance with all ranks on one node. Where that leaves it open whether a key is found
 /// outside its scope, also those with each rank on a node of its own.
 fn tell_together(
-    told: &mut Told,
+    told: &mut StatusesByLine,
     alloc: Global,
     pattern: &Pattern,
     cast: &Cast,
@@ -235,7 +240,7 @@ fn tell_together(
 
 /// Tells the answers of an instance: with its processes where they stand, and with all of them on one node.
 pub(crate) fn tell_instance(
-    told: &mut Told,
+    told: &mut StatusesByLine,
     alloc: Global,
     pattern: &Pattern,
     cast: &Cast,

@@ -2,14 +2,14 @@
 #![tactic(auto)]
 
 mod answers;
+mod cutoff;
 mod instance;
 pub mod laws;
 mod lines;
 mod notes;
-mod sweep;
 mod text;
 mod told;
 
 pub use answers::LineAnswers;
-pub use sweep::find_answers;
+pub use cutoff::find_answers;
 pub use text::write_answers;

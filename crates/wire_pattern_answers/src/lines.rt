@@ -1,7 +1,7 @@
 //! The get-now lines of a pattern.
 
 ghost use Rattle.std.specs.Prelude.{◌≡◌, ◌++◌, ◌∷◌, [], OnOk, IfOk, filter, map};
-ghost use Rattle.wire_pattern.specs.Shown.{step_by};
+ghost use Rattle.wire_pattern.specs.Views.{step_by};
 ghost use Rattle.wire_pattern_waits.specs.Lines.{verbs_in, numbered};
 ghost use Rattle.wire_pattern_answers.specs.Lines as spec;
 ghost use Rattle.wire_pattern_answers.specs.Lines.{get_now_lines};

@@ -14,18 +14,18 @@ use wire_types::Status;
 
 /// Of each of three statuses the call lines with a get-now that is answered with it.
 #[derive(Drop)]
-pub(crate) struct Told {
+pub(crate) struct StatusesByLine {
     success: LineSet,
     not_found: LineSet,
     outside: LineSet,
 }
 
-impl Told {
+impl StatusesByLine {
     /// Nothing is told. Takes no memory.
-    pub(crate) fn new(alloc: Global) -> Told
+    pub(crate) fn new(alloc: Global) -> StatusesByLine
         ensures { (role line : ℕ) (status : StatusSpec) → is_told result role line status ≡ false }
     {
-        Told {
+        StatusesByLine {
             success: LineSet::new(alloc),
             not_found: LineSet::new(alloc),
             outside: LineSet::new(alloc),

@@ -5,13 +5,13 @@ use Rattle.std.specs.Io.KnownBytes.{Appends}
 use Rattle.wire_types.specs.declared.Fault.{Fault}
 use Rattle.wire_types.specs.declared.Fault.TheVariants.{Memory, Read}
 use Rattle.wire_types.specs.Front.{WritesFront}
-use Rattle.wire_script.specs.declared.Size.TheVariants.{OfVersion}
+use Rattle.wire_reader.specs.declared.Size.TheVariants.{OfVersion}
 use Rattle.wire_pattern.specs.Pattern.{Pattern}
 use Rattle.wire_pattern.specs.Instances.{Cast, instance_lines, instance_text}
-use Rattle.wire_pattern.specs.Lawful.{IsSound}
-use Rattle.wire_sweep.specs.Texts.{TextsSettled}
-use Rattle.wire_sweep.specs.Judged.{HasFewTurns, HasManyTurns, IsJudgeFault, IsSweepFault, IsTextFault, IsWithinLimits, largest_cast}
-use Rattle.wire_sweep_laws.specs.Promised.{IsSettledForAll, HasOneEndForAll}
+use Rattle.wire_pattern.specs.Lawful.{IsSoundPattern}
+use Rattle.wire_cutoff.specs.Texts.{TextsSettled}
+use Rattle.wire_cutoff.specs.Judged.{HasFewTurns, HasManyTurns, IsJudgeFault, IsSweepFault, IsTextFault, IsWithinPatternLimits, largest_cast}
+use Rattle.wire_cutoff_laws.specs.Promised.{IsSettledForAll, HasOneEndForAll}
 use Rattle.wire_commands.specs.declared.answer.Answer.{Answer}
 use Rattle.wire_commands.specs.declared.ended.Ended.{Ended}
 use Rattle.wire_commands.specs.declared.ended.Ended.TheVariants.{Clean, Found}
@@ -33,7 +33,7 @@ pub sweep_stops : (coming : Option (List ℕ)) (p : Pattern) (e : Fault) → Rea
 sweep_stops coming p e read why = inr (inr (inr (record { pattern = p; read = read; fault_is = why })))
 
 -- where the pattern is within its limits
-pub judging_stops : {A : Type 0} (p : Pattern) (r : Result A Fault) → IsWithinLimits p → IfErr r (λ e. IsJudgeFault p e) → IfErr r (λ e. IsSweepFault p e)
+pub judging_stops : {A : Type 0} (p : Pattern) (r : Result A Fault) → IsWithinPatternLimits p → IfErr r (λ e. IsJudgeFault p e) → IfErr r (λ e. IsSweepFault p e)
 judging_stops p (Ok x) within is = tt
 judging_stops p (Err e) within (inl memory) = inl memory
 judging_stops p (Err e) within (inr told) = inr (inr (within, told))
@@ -71,7 +71,7 @@ verdict_err coming old new p asked text ended kept failed (Err e) judged tells f
     inr (record { pattern = p; judged = judged; text = text; ended = ended; tells = tells; wrote = front }, count)
 
 -- where nothing is found, each instance has one end, and its text
-pub settled_answer : (p : Pattern) (asked : PatternAsked) (r : Result Answer Fault) → IsSound p → TextsSettled → IsSettledForAll p → HasOneEndForAll p
+pub settled_answer : (p : Pattern) (asked : PatternAsked) (r : Result Answer Fault) → IsSoundPattern p → TextsSettled → IsSettledForAll p → HasOneEndForAll p
     → IfOk r (λ a. IsExplainedSaid p asked a.text.items a.ended) → IfOk r (λ a. IsPatternVerdict p asked a.text.items a.ended)
 settled_answer p asked (Ok answer) sound texts settled one_end said = inl (record {
   settled = settled;

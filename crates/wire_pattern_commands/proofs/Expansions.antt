@@ -2,24 +2,24 @@
 use Rattle.std.proofs.Common.{◌≡◌, ◌∙◌, ap, sym, subst, ℕ, ◌+◌, ◌<◌, ◌^◌, List, [], ◌⊎◌, inl, inr, map, take, sum_by, Some, Ok, Err, ◌≤◌, arith}
 use Rattle.wire_types.specs.declared.Fault.{Fault}
 use Rattle.wire_types.specs.declared.Fault.TheVariants.{Memory}
-use Rattle.wire_content.specs.Scripts.{Scripts}
+use Rattle.wire_scripts.specs.Scripts.{Scripts}
 use Rattle.wire_types.specs.declared.Version.TheVariants.{Two}
-use Rattle.wire_script.specs.declared.Size.{Size}
-use Rattle.wire_script.specs.declared.Size.TheVariants.{OfVersion, Large}
-use Rattle.wire_script.specs.declared.Limits.{Limits}
-use Rattle.wire_script.specs.Limits.{file_bytes, limits_of}
-use Rattle.wire_script.specs.Reads.{Reads}
+use Rattle.wire_reader.specs.declared.Size.{Size}
+use Rattle.wire_reader.specs.declared.Size.TheVariants.{OfVersion, Large}
+use Rattle.wire_reader.specs.declared.Limits.{Limits}
+use Rattle.wire_reader.specs.Limits.{file_bytes, limits_of}
+use Rattle.wire_reader.specs.Reads.{Reads}
 use Rattle.wire_pattern.specs.Pattern.{Pattern}
-use Rattle.wire_pattern.specs.Lawful.{IsSound}
+use Rattle.wire_pattern.specs.Lawful.{IsSoundPattern}
 use Rattle.wire_pattern.specs.Instances as text
 use Rattle.wire_pattern.specs.Instances.{instance_lines, instance_text}
 use Rattle.wire_instances.specs.declared.cast.Cast.{Cast}
 use Rattle.wire_instances.specs.Faults.{fault_by}
 use Rattle.wire_instances.specs.Nodes.{AreNodes}
-use Rattle.wire_instances.specs.Shown.{cast_by, choice_by}
+use Rattle.wire_instances.specs.Views.{cast_by, choice_by}
 use Rattle.wire_instances.specs.Tables.{AreSizes}
 use Rattle.wire_instance_laws.specs.Reading.{InstancesRead}
-use Rattle.wire_script.proofs.Limited.{whole_read}
+use Rattle.wire_reader.proofs.Limited.{whole_read}
 use Rattle.wire_commands.proofs.Came.{read_as, refuses}
 use Rattle.wire_pattern_commands.specs.Expand.{IsCastAsked, IsExpanded, IsExpandFault, word_of}
 use Rattle.wire_pattern_commands.specs.Ranks.{AreSizesAsked}
@@ -49,7 +49,7 @@ cast_made p asked cast processes fit sizes chosen total few within nodes spread 
 }
 
 -- the front of a text reads as scripts: it is all of the text
-pub expanded : (p : Pattern) (asked : Expansion) (cast : text.Cast) (written shown : List ℕ) (s : Scripts) → IsSound p → InstancesRead → IsCastAsked p asked cast
+pub expanded : (p : Pattern) (asked : Expansion) (cast : text.Cast) (written shown : List ℕ) (s : Scripts) → IsSoundPattern p → InstancesRead → IsCastAsked p asked cast
     → written ≡ take (file_bytes asked.size + 1) (instance_text p cast) → shown ≡ written → Reads asked.size shown (Ok s) → IsExpanded p asked written
 expanded p asked cast written shown s sound law its is same reads =
     let read = read_as {size = asked.size} (Some (instance_text p cast)) written shown s same is reads in

@@ -5,22 +5,22 @@ use Rattle.std.specs.declared.alloc.Global.{Global}
 use Rattle.std.proofs.lemmas.Bool.{true≢false, not-true, not-false, eqb-true, eqb-false}
 use Rattle.std.proofs.lemmas.List.{drop_all}
 use Rattle.wire_types.specs.declared.Fault.{Fault}
-use Rattle.wire_content.specs.Scripts.{Scripts}
-use Rattle.wire_script.specs.declared.Size.TheVariants.{OfVersion}
-use Rattle.wire_script.specs.Reads.{Reads}
+use Rattle.wire_scripts.specs.Scripts.{Scripts}
+use Rattle.wire_reader.specs.declared.Size.TheVariants.{OfVersion}
+use Rattle.wire_reader.specs.Reads.{Reads}
 use Rattle.wire_core.specs.EndsAfter.{plain_ends}
 use Rattle.wire_pattern.specs.Pattern.{Role, Pattern}
 use Rattle.wire_pattern.specs.Instances as spec
 use Rattle.wire_pattern.specs.Instances.{instance_text}
 use Rattle.wire_pattern_waits.specs.Waits.{alone}
 use Rattle.wire_pattern_waits.proofs.Judged.{EachBefore, listed_at, each_all}
-use Rattle.wire_sweep.specs.declared.selections.Selection.{Selection as CodeSelection}
-use Rattle.wire_sweep.specs.Selections.{Selection, selections}
-use Rattle.wire_sweep.specs.Shown.{selection_by}
+use Rattle.wire_cutoff.specs.declared.selections.Selection.{Selection as CodeSelection}
+use Rattle.wire_cutoff.specs.Selections.{Selection, selections}
+use Rattle.wire_cutoff.specs.Views.{selection_by}
 use Rattle.wire_pattern_commands.specs.declared.first_wait.FirstWait.{FirstWait}
-use Rattle.wire_pattern_commands.specs.FirstWait.{RunsThrough, StandsAs, AllRunThrough, IsFirstWait, IsWaitOf, IsFirstOf, sizes_words, size_words, first_line}
+use Rattle.wire_pattern_commands.specs.FirstWait.{RunsThrough, StandsAs, AllRunThrough, IsFirstWait, IsWaitOf, IsFirstWaitOf, sizes_words, size_words, first_line}
 use Rattle.wire_pattern_commands.specs.FirstWait.{AddsLines, NoLines, WaitLines, AddsMember, NullMember, WaitMember, without_end, plan_members}
-use Rattle.wire_pattern_commands.specs.FirstWait.{TellsFirst, ListsFirst, LinesOf, MemberOf, Explains}
+use Rattle.wire_pattern_commands.specs.FirstWait.{TellsFirst, ListsFirst, LinesOf, MemberOf, ExplainsFirstWait}
 
 -- the instance of a selection
 pub wait_of_selection : (p : Pattern) (s : Selection) (cast : spec.Cast) (sizes : Vec ℕ Global) (text : Vec ℕ Global) (scripts : Scripts) (found : Option FirstWait)
@@ -44,7 +44,7 @@ wait_of_selection p s cast sizes text scripts (Some it) is sizes_are text_is rea
 
 -- the first of all
 pub first_of : (p : Pattern) (n : ℕ) (s : Selection) (found : Option FirstWait) (it : FirstWait) → slice_get (selections p) n ≡ Some s → EachBefore p (RunsThrough p) n
-    → found ≡ Some it → IsWaitOf p s found → IsFirstOf p (Some it)
+    → found ≡ Some it → IsWaitOf p s found → IsFirstWaitOf p (Some it)
 first_of p n s found it at before is stands =
     record { number = n; selection = s; is = at; stands = subst (IsWaitOf p s) is stands; before = λ i other low there. before i other low there }
 
@@ -105,13 +105,13 @@ pub no_member_told : (p : Pattern) (found : Option FirstWait) (text : List ℕ) 
 no_member_told p found text is none = subst (λ f. MemberOf p f text) (sym is) none
 
 -- what is added to a verdict
-pub lines_added : (p : Pattern) (verdict lines text : List ℕ) (found : Option FirstWait) → IsFirstOf p found → LinesOf p found lines → text ≡ verdict ++ lines
+pub lines_added : (p : Pattern) (verdict lines text : List ℕ) (found : Option FirstWait) → IsFirstWaitOf p found → LinesOf p found lines → text ≡ verdict ++ lines
     → AddsLines p verdict text
 lines_added p verdict lines text None through none is = NoLines through (is ∙ ap (λ xs. verdict ++ xs) none ∙ append-nil verdict)
 lines_added p verdict lines text (Some it) first tells is =
     WaitLines it.sizes.items it.text.items tells.told it.plan first tells.tells (is ∙ ap (λ xs. verdict ++ xs) tells.is)
 
-pub member_added : (p : Pattern) (verdict member text : List ℕ) (found : Option FirstWait) → IsFirstOf p found → MemberOf p found member
+pub member_added : (p : Pattern) (verdict member text : List ℕ) (found : Option FirstWait) → IsFirstWaitOf p found → MemberOf p found member
     → text ≡ without_end verdict ++ member → AddsMember p verdict text
 member_added p verdict member text None through none is = NullMember through (is ∙ ap (λ xs. without_end verdict ++ xs) none)
 member_added p verdict member text (Some it) first lists is =
@@ -119,21 +119,21 @@ member_added p verdict member text (Some it) first lists is =
 
 -- in the form that is asked for
 pub member_explains : (json : Bool) (p : Pattern) (verdict : List ℕ) (r : Result (Vec ℕ Global) Fault) → json ≡ true
-    → IfOk r (λ t. AddsMember p verdict t.items) → IfOk r (λ t. Explains true json p verdict t.items)
+    → IfOk r (λ t. AddsMember p verdict t.items) → IfOk r (λ t. ExplainsFirstWait true json p verdict t.items)
 member_explains true p verdict r is adds = adds
 member_explains false p verdict r is adds = absurd (true≢false (sym is))
 
 pub lines_explain : (json : Bool) (p : Pattern) (verdict : List ℕ) (r : Result (Vec ℕ Global) Fault) → json ≡ false
-    → IfOk r (λ t. AddsLines p verdict t.items) → IfOk r (λ t. Explains true json p verdict t.items)
+    → IfOk r (λ t. AddsLines p verdict t.items) → IfOk r (λ t. ExplainsFirstWait true json p verdict t.items)
 lines_explain false p verdict r is adds = adds
 lines_explain true p verdict r is adds = absurd (true≢false is)
 
 -- where it is to be explained, and where it isn't
-pub explained_by : (explain json : Bool) (p : Pattern) (verdict shown text : List ℕ) → explain ≡ true → shown ≡ verdict → Explains true json p shown text
-    → Explains explain json p verdict text
-explained_by true json p verdict shown text is same explains = subst (λ v. Explains true json p v text) same explains
+pub explained_by : (explain json : Bool) (p : Pattern) (verdict shown text : List ℕ) → explain ≡ true → shown ≡ verdict → ExplainsFirstWait true json p shown text
+    → ExplainsFirstWait explain json p verdict text
+explained_by true json p verdict shown text is same explains = subst (λ v. ExplainsFirstWait true json p v text) same explains
 explained_by false json p verdict shown text is same explains = absurd (true≢false (sym is))
 
-pub unexplained : (explain json : Bool) (p : Pattern) (text : List ℕ) → explain ≡ false → Explains explain json p text text
+pub unexplained : (explain json : Bool) (p : Pattern) (text : List ℕ) → explain ≡ false → ExplainsFirstWait explain json p text text
 unexplained false json p text is = refl
 unexplained true json p text is = absurd (true≢false is)

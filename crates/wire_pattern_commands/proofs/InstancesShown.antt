@@ -7,14 +7,14 @@ use Rattle.wire_types.specs.declared.Scope.{Scope}
 use Rattle.wire_types.specs.declared.Scope.TheVariants.{Local, Remote, Global}
 use Rattle.wire_types.specs.declared.Version.TheVariants as version
 use Rattle.wire_types.specs.Said.{Item, One, Every, Set, Own, Listed, Put, Commit, Fence, Get, GetNow, Publish, Lookup, LookupWait, Unpublish, UnpublishAll}
-use Rattle.wire_types.specs.Said.{Said, Header, Keep, Node, Job, Rank, Calls, IsLawfulItem, AreLawful, IsLawfulSet, IsLawful, first_word, other_words, is_word_byte, is_word, is_name, is_key}
+use Rattle.wire_types.specs.Said.{Said, Header, Keep, Node, Job, Rank, Calls, IsLawfulItem, AreLawful, IsLawfulSet, IsLawfulLine, first_word, other_words, is_word_byte, is_word, is_name, is_key}
 use Rattle.wire_types.specs.Said.{spelled_proc, spelled_scope, spelled_item, spelled_set, collect_words}
 use Rattle.wire_lines.proofs.Colon.{and_left, and_right}
-use Rattle.wire_script.proofs.Recut.{AllLawful, all_append, name_word, proc_word}
-use Rattle.wire_content.specs.Canonical.{line_text}
+use Rattle.wire_reader.proofs.Recut.{AllLawful, all_append, name_word, proc_word}
+use Rattle.wire_scripts.specs.Canonical.{line_text}
 use Rattle.wire_pattern.specs.Instances.{instance_said, instance_text}
 use Rattle.wire_instance_laws.proofs.Lawful.{lines_lawful}
-use Rattle.wire_pattern_commands.specs.Shown.{InstancesReadBack}
+use Rattle.wire_pattern_commands.specs.Views.{InstancesReadBack}
 use Rattle.wire_pattern_commands.specs.Strings.{AreOfLines}
 use Rattle.wire_pattern_commands.proofs.StringsBack.{texts_read_back}
 
@@ -54,7 +54,7 @@ collected : (c : Bool) → AreBytes (collect_words c)
 collected true = (refl, tt)
 collected false = tt
 
-words : (a : Said) → IsLawful a → AreBytes (first_word a ∷ other_words a)
+words : (a : Said) → IsLawfulLine a → AreBytes (first_word a ∷ other_words a)
 words (Header version.One) h = (refl, (refl, tt))
 words (Header version.Two) h = (refl, (refl, tt))
 words Keep h = (refl, tt)
@@ -89,7 +89,7 @@ joined : (w : List ℕ) (ws : List (List ℕ)) → AreBytes (w ∷ ws) → AreOf
 joined w [] h = shown w h.0
 joined w (v ∷ vs) h = both w (32 ∷ join_with_byte 32 (v ∷ vs)) (shown w h.0) (inr (omega arith, omega arith), joined v vs h.1)
 
-line : (a : Said) → IsLawful a → AreOfLines (line_text a)
+line : (a : Said) → IsLawfulLine a → AreOfLines (line_text a)
 line a h = both (join_with_byte 32 (first_word a ∷ other_words a)) (10 ∷ []) (joined (first_word a) (other_words a) (words a h)) (inl refl, tt)
 
 lines : (said : List Said) → AllLawful said → AreOfLines (flat_map line_text said)

@@ -8,12 +8,12 @@ use Rattle.wire_types.specs.Texts.{texts_of}
 use Rattle.wire_types.specs.declared.Fault.TheVariants.{BadOrder}
 use Rattle.wire_pattern.specs.Pattern.{Role}
 use Rattle.wire_instances.specs.Asked.{Asked, are_fit}
-use Rattle.wire_pattern_commands.specs.Ranks.{are_few, asked_text, IsMisfit}
+use Rattle.wire_pattern_commands.specs.Ranks.{are_few, asked_text, IsMisfitPart}
 use Rattle.wire_pattern_commands.proofs.Cut.{asks_once}
 
 pub misfit_at : (roles : List Role) (parts : List (List ℕ)) (asked : List Asked) (n : ℕ) (part : List ℕ) → n < length parts → map asked_text asked ≡ take n parts
     → are_few asked ≡ true → slice_get parts n ≡ Some part → are_fit roles asked ≡ true
-    → ((a : Asked) → a.count < 10 ^ 9 → part ≡ asked_text a → are_fit roles (asked ++ a ∷ []) ≡ false) → IsMisfit roles parts (BadOrder (n + 1))
+    → ((a : Asked) → a.count < 10 ^ 9 → part ≡ asked_text a → are_fit roles (asked ++ a ∷ []) ≡ false) → IsMisfitPart roles parts (BadOrder (n + 1))
 misfit_at roles parts asked n part there says few here fit misfit =
     let long : length asked ≡ n = omega (arith, there, sym (length-map asked asked_text) ∙ ap length says, length-take n parts) in
     record {

@@ -4,8 +4,8 @@ use Rattle.std.specs.Prelude.{is_some, ◌||◌}
 use Rattle.wire_types.specs.declared.Fault.{Fault}
 use Rattle.wire_types.specs.declared.Fault.TheVariants.{Memory, Read, Write, TooLong, BadHeader, BadLine, UnknownName, Twice, NotMember, TooMany, Workers, NotReady, BadOrder}
 use Rattle.wire_lines.specs.Text.{lines_of}
-use Rattle.wire_script.specs.Reads.{first_of}
-use Rattle.wire_script.specs.Statements.{Statement, statements}
+use Rattle.wire_reader.specs.Reads.{first_of}
+use Rattle.wire_reader.specs.Statements.{Statement, statements}
 use Rattle.wire_pattern.specs.Lawful.{waits_after_all, waits_after_step}
 use Rattle.wire_pattern.specs.Pattern.{Line, Step, Once, Loop, Role, Pattern}
 use Rattle.wire_pattern_lines.specs.Said.{Said}

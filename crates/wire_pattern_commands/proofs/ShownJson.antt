@@ -1,6 +1,6 @@
 -- The object of a counterexample, part by part.
 use Rattle.std.proofs.Common.{◌≡◌, ◌∙◌, ap, ℕ, List, [], ◌++◌, append_assoc, map, codes}
-use Rattle.wire_content.specs.Scripts.{Scripts}
+use Rattle.wire_scripts.specs.Scripts.{Scripts}
 use Rattle.wire_findings.specs.declared.finding.Finding.{Finding}
 use Rattle.wire_json.specs.Json.{bracketed}
 use Rattle.wire_pattern_commands.specs.PatternJson.{finding_string, json_counterexample, ranks_end}

@@ -1,7 +1,7 @@
 -- Nodes that are dealt are those that are asked for.
 use Rattle.std.proofs.Common.{◌≡◌, ◌∙◌, sym, ℕ, ◌<◌, ◌%◌, arith, Result, Ok, Err, IfOk}
 use native.Mathlib.Nat.{mod-eq_of_lt}
-use Rattle.wire_script.specs.declared.Size.{Size}
+use Rattle.wire_reader.specs.declared.Size.{Size}
 use Rattle.wire_instances.specs.declared.cast.Nodes.{Nodes}
 use Rattle.wire_instances.specs.Nodes.{AreDealt}
 use Rattle.wire_pattern_commands.specs.Spread.{AreNodesAsked, node_asked}

@@ -2,13 +2,13 @@
 use Rattle.std.proofs.Common.{◌≡◌, ◌∙◌, ap, sym, subst, ℕ, [], ◌&&◌, Bool, false, Ok, Result, Err, Some}
 use Rattle.std.specs.Prelude.{slice_get}
 use Rattle.wire_types.specs.declared.Fault.{Fault}
-use Rattle.wire_content.specs.Placed.{placed}
-use Rattle.wire_content.specs.Scripts.{Scripts}
-use Rattle.wire_script.specs.declared.Size.TheVariants.{OfVersion}
-use Rattle.wire_script.specs.Reads.{Reads, ReadsOnce}
+use Rattle.wire_scripts.specs.Placed.{placed}
+use Rattle.wire_scripts.specs.Scripts.{Scripts}
+use Rattle.wire_reader.specs.declared.Size.TheVariants.{OfVersion}
+use Rattle.wire_reader.specs.Reads.{Reads, ReadsOnce}
 use Rattle.wire_pattern.specs.Pattern.{Pattern}
 use Rattle.wire_pattern.specs.Instances.{Cast, instance_text}
-use Rattle.wire_sweep.specs.Selections.{Selection, selections}
+use Rattle.wire_cutoff.specs.Selections.{Selection, selections}
 use Rattle.wire_pattern_commands.specs.Succeeding.{all_succeed, IsCastTold, IsSelectionTold, SomeFails}
 
 -- the scripts that are read, or others where none are

@@ -1,7 +1,7 @@
 -- What `check --pattern` says of instances that are larger than those that are judged, where no call waits in these.
 use Rattle.std.specs.Prelude.{◌≡◌, ◌≢◌, ◌==◌, ℕ, Bool, true, false, max, min, List, [], ◌∷◌, ◌++◌, codes, decimal, if◌then◌else◌}
 use Rattle.wire_pattern.specs.Pattern.{Role, Pattern}
-use Rattle.wire_sweep_laws.specs.Sizes.{most_of}
+use Rattle.wire_cutoff_laws.specs.Sizes.{most_of}
 use Rattle.wire_reply_laws.specs.Promised.{IsAnsweredForAll, AreTextsAnswered}
 use Rattle.wire_pattern_waits.specs.declared.lines.CallLine.{CallLine}
 use Rattle.wire_pattern_waits.specs.Waits.{AllReplied}

@@ -5,32 +5,32 @@ use Rattle.std.specs.Io.KnownBytes.{Appends}
 use Rattle.wire_types.specs.Front.{WritesFront}
 use Rattle.wire_types.specs.declared.Fault.{Fault}
 use Rattle.wire_types.specs.declared.Fault.TheVariants.{Memory, Read}
-use Rattle.wire_content.specs.Scripts.{Scripts}
-use Rattle.wire_content.specs.Planned.{plan_of}
+use Rattle.wire_scripts.specs.Scripts.{Scripts}
+use Rattle.wire_scripts.specs.Planned.{plan_of}
 use Rattle.wire_runs.specs.Laws.{HasOneEnd}
-use Rattle.wire_script.specs.declared.limits.Size.{Size}
-use Rattle.wire_script.specs.Reads.{Reads}
-use Rattle.wire_sweep.specs.Texts.{HaveLeast}
+use Rattle.wire_reader.specs.declared.limits.Size.{Size}
+use Rattle.wire_reader.specs.Reads.{Reads}
+use Rattle.wire_cutoff.specs.Texts.{HaveLeast}
 use Rattle.wire_findings.specs.declared.finding.Finding.{Finding}
 use Rattle.wire_report.specs.Findings.{finding_line, count_line}
 use Rattle.wire_pattern.specs.Pattern.{Pattern}
-use Rattle.wire_pattern.specs.Lawful.{IsSound}
+use Rattle.wire_pattern.specs.Lawful.{IsSoundPattern}
 use Rattle.wire_pattern.specs.Instances.{Cast, IsCast, instance_text}
-use Rattle.wire_sweep_laws.specs.Promised.{IsSettledForAll, HasOneEndForAll}
+use Rattle.wire_cutoff_laws.specs.Promised.{IsSettledForAll, HasOneEndForAll}
 use Rattle.wire_pattern_waits.specs.declared.lines.CallLine.{CallLine}
 use Rattle.wire_pattern_waits.specs.Lines.{waits_text}
-use Rattle.wire_pattern_waits.specs.Waits.{AreWaiting, AllRead, AllReplied}
+use Rattle.wire_pattern_waits.specs.Waits.{AreWaiting, AllReadAsPlans, AllReplied}
 use Rattle.wire_pattern_answers.specs.declared.answers.LineAnswers.{LineAnswers}
 use Rattle.wire_pattern_answers.specs.Lines.{answers_text}
 use Rattle.wire_pattern_answers.specs.Answers.{AreAnswers}
 use Rattle.wire_pattern_commands.specs.declared.asked.PatternAsked.{PatternAsked}
 use Rattle.wire_commands.specs.Ending.{ended_of}
-use Rattle.wire_sweep.specs.Judged.{IsCounterexample, IsSweepFault, IsWithinLimits}
+use Rattle.wire_cutoff.specs.Judged.{IsCounterexample, IsSweepFault, IsWithinPatternLimits}
 use Rattle.wire_pattern_commands.specs.AtLeast.{least_text}
 use Rattle.wire_pattern_commands.specs.Beyond.{IsBeyond, is_never, beyond_text}
 use Rattle.wire_pattern_commands.specs.declared.beyond.Beyond.{Beyond}
 use Rattle.wire_pattern_commands.specs.Succeeding.{IsSuccessTold}
-use Rattle.wire_pattern_commands.specs.FirstWait.{Explains}
+use Rattle.wire_pattern_commands.specs.FirstWait.{ExplainsFirstWait}
 use Rattle.wire_pattern_commands.specs.PatternJson.{json_counterexample, json_settled}
 use Rattle.wire_pattern_commands.specs.Read.{ReadAsPattern, RefusesPattern}
 use Rattle.wire_commands.specs.declared.ended.Ended.{Ended}
@@ -89,7 +89,7 @@ settled_end asked everywhere succeeding lines answers =
 pub record IsSettledSaid (p : Pattern) (asked : PatternAsked) (text : List ℕ) (ended : Ended) : Type 0 where
   pub lines : List CallLine
   pub waiting : AreWaiting p lines
-  pub read : AllRead p
+  pub read : AllReadAsPlans p
   pub replied : lines ≡ [] → AllReplied p
   pub beyond : Beyond
   pub beyond_is : IsBeyond p lines beyond
@@ -104,7 +104,7 @@ pub record IsSettledSaid (p : Pattern) (asked : PatternAsked) (text : List ℕ) 
 pub record IsExplainedSaid (p : Pattern) (asked : PatternAsked) (text : List ℕ) (ended : Ended) : Type 0 where
   pub verdict : List ℕ
   pub said : IsSettledSaid p asked verdict ended
-  pub explains : Explains asked.explain asked.json p verdict text
+  pub explains : ExplainsFirstWait asked.explain asked.json p verdict text
 
 -- the text of each instance with the least number of each role at least, if it reads as a plan of whatever size, has one
 -- end: every interleaving that can't go on ends in one state
@@ -135,8 +135,8 @@ IsPatternVerdict p asked text ended = IsSettledText p asked text ended ⊎ IsUns
 -- what was to come reads as this pattern, which is sound and within the limits
 pub record IsJudgedPattern (coming : Option (List ℕ)) (pattern : Pattern) : Type 0 where
   pub read : ReadAsPattern coming pattern
-  pub sound : IsSound pattern
-  pub within : IsWithinLimits pattern
+  pub sound : IsSoundPattern pattern
+  pub within : IsWithinPatternLimits pattern
 
 -- all of the verdict of what was to come went out
 pub record WritesPatternVerdict (asked : PatternAsked) (coming : Option (List ℕ)) (ended : Ended) (old new : Option (List ℕ)) : Type 0 where

@@ -5,9 +5,9 @@ use Rattle.wire_types.specs.Front.{WritesFront}
 use Rattle.wire_types.specs.declared.Fault.{Fault}
 use Rattle.wire_types.specs.declared.Fault.TheVariants.{Memory, Read}
 use Rattle.wire_types.specs.declared.Version.TheVariants.{Two}
-use Rattle.wire_content.specs.Scripts.{Scripts}
-use Rattle.wire_script.specs.Limits.{limits_of}
-use Rattle.wire_script.specs.Reads.{Reads}
+use Rattle.wire_scripts.specs.Scripts.{Scripts}
+use Rattle.wire_reader.specs.Limits.{limits_of}
+use Rattle.wire_reader.specs.Reads.{Reads}
 use Rattle.wire_pattern.specs.Pattern.{Pattern}
 use Rattle.wire_pattern.specs.Instances.{Cast, IsCast, process_count, instance_lines, instance_text}
 use Rattle.wire_instances.specs.Asked.{IsPassed}

@@ -1,14 +1,14 @@
 -- The first instance of a pattern in which a rank waits for ever, and what is told of it.
 use Rattle.std.specs.Prelude.{◌≡◌, ◌≢◌, ◌<◌, ◌-◌, ◌==◌, ℕ, Bool, true, false, List, [], ◌∷◌, ◌++◌, Some, Ok, MatchOption, Option, take, length, slice_get, codes, decimal, if◌then◌else◌}
-use Rattle.wire_content.specs.Scripts.{Scripts}
-use Rattle.wire_script.specs.declared.Size.TheVariants.{OfVersion}
-use Rattle.wire_script.specs.Reads.{Reads}
+use Rattle.wire_scripts.specs.Scripts.{Scripts}
+use Rattle.wire_reader.specs.declared.Size.TheVariants.{OfVersion}
+use Rattle.wire_reader.specs.Reads.{Reads}
 use Rattle.wire_core.specs.EndsAfter.{plain_ends}
 use Rattle.wire_pattern.specs.Pattern.{Role, Pattern}
 use Rattle.wire_pattern.specs.Instances.{instance_text}
 use Rattle.wire_pattern_waits.specs.Waits.{alone}
 use Rattle.wire_standstill.specs.Told.{TellsStandstill, ListsStandstill}
-use Rattle.wire_sweep.specs.Selections.{Selection, selections}
+use Rattle.wire_cutoff.specs.Selections.{Selection, selections}
 use Rattle.wire_json.specs.Json.{quoted}
 use Rattle.wire_pattern_commands.specs.Strings.{text_string}
 use Rattle.wire_pattern_commands.specs.declared.first_wait.FirstWait.{FirstWait}
@@ -82,10 +82,10 @@ pub data AddsMember (p : Pattern) (verdict text : List ℕ) : Type 0 where
       → text ≡ without_end verdict ++ (codes ",\"where\":" ++ (members ++ plan_members p sizes plan_text scripts)) → AddsMember p verdict text
 
 -- what becomes of a verdict, in lines or as JSON, where it is to be explained, and where it isn't
-abbrev pub Explains : (explain json : Bool) → Pattern → List ℕ → List ℕ → Type 0
-Explains false json p verdict text = text ≡ verdict
-Explains true false p verdict text = AddsLines p verdict text
-Explains true true p verdict text = AddsMember p verdict text
+abbrev pub ExplainsFirstWait : (explain json : Bool) → Pattern → List ℕ → List ℕ → Type 0
+ExplainsFirstWait false json p verdict text = text ≡ verdict
+ExplainsFirstWait true false p verdict text = AddsLines p verdict text
+ExplainsFirstWait true true p verdict text = AddsMember p verdict text
 
 -- the rest is for private contracts alone
 
@@ -94,8 +94,8 @@ abbrev pub IsWaitOf : Pattern → Selection → Option FirstWait → Type 0
 IsWaitOf p selection found = MatchOption found (RunsThrough p selection) (λ it. StandsAs p selection it.sizes.items it.text.items it.plan)
 
 -- the first instance in which one does, if there is one
-abbrev pub IsFirstOf : Pattern → Option FirstWait → Type 0
-IsFirstOf p found = MatchOption found (AllRunThrough p) (λ it. IsFirstWait p it.sizes.items it.text.items it.plan)
+abbrev pub IsFirstWaitOf : Pattern → Option FirstWait → Type 0
+IsFirstWaitOf p found = MatchOption found (AllRunThrough p) (λ it. IsFirstWait p it.sizes.items it.text.items it.plan)
 
 -- the lines about it
 pub record TellsFirst (p : Pattern) (first : FirstWait) (text : List ℕ) : Type 0 where

@@ -7,7 +7,7 @@ pub mod AtLeast
 pub mod Beyond
 pub mod Found
 pub mod PatternJson
-pub mod Shown
+pub mod Views
 pub mod Succeeding
 pub mod FirstWait
 pub mod CheckPattern

@@ -1,6 +1,6 @@
 -- What `check --pattern` writes as JSON, as bytes: one compact object with its keys in byte order, and a line feed.
 use Rattle.std.specs.Prelude.{ℕ, Bool, List, [], ◌++◌, map, codes, decimal, length, if◌then◌else◌}
-use Rattle.wire_content.specs.Scripts.{Scripts}
+use Rattle.wire_scripts.specs.Scripts.{Scripts}
 use Rattle.wire_findings.specs.declared.finding.Finding.{Finding}
 use Rattle.wire_report.specs.Findings.{finding_words}
 use Rattle.wire_json.specs.Json.{bracketed, quoted}

@@ -40,7 +40,7 @@ pub record AreSizesAsked (p : Pattern) (word : Option (List ℕ)) (sizes : List 
 
 -- the parts before this one ask for what the pattern can have. This one doesn't ask for fewer than 10^9 ranks, or what
 -- it asks for the pattern can't have beside them: no group has the name, its `min` is more, or the name stands before
-pub record IsMisfit (roles : List Role) (parts : List (List ℕ)) (fault : Fault) : Type 0 where
+pub record IsMisfitPart (roles : List Role) (parts : List (List ℕ)) (fault : Fault) : Type 0 where
   pub before : List Asked
   pub part : List ℕ
   pub begin : AskFor (take (length before) parts) before
@@ -53,4 +53,4 @@ pub record IsMisfit (roles : List Role) (parts : List (List ℕ)) (fault : Fault
 pub record HasMisfit (roles : List Role) (word : Option (List ℕ)) (fault : Fault) : Type 0 where
   pub text : List ℕ
   pub given : word ≡ Some text
-  pub wrong : IsMisfit roles (parts_of text) fault
+  pub wrong : IsMisfitPart roles (parts_of text) fault

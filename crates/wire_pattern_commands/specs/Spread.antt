@@ -2,8 +2,8 @@
 use Rattle.std.specs.Prelude.{◌≡◌, ◌<◌, ◌/◌, ◌%◌, ℕ, slice_index_or}
 use Rattle.std.specs.Int.NonZero.{non_zero_u32_get}
 use Rattle.wire_types.specs.declared.Version.TheVariants.{Two}
-use Rattle.wire_script.specs.declared.Size.{Size}
-use Rattle.wire_script.specs.Limits.{limits_of}
+use Rattle.wire_reader.specs.declared.Size.{Size}
+use Rattle.wire_reader.specs.Limits.{limits_of}
 use Rattle.wire_pattern.specs.Instances.{Cast, process_count}
 use Rattle.wire_instances.specs.declared.cast.Nodes.{Nodes}
 use Rattle.wire_instances.specs.Nodes.{node_of}

@@ -1,23 +1,23 @@
 //! What is said of instances that are larger than those that are judged.
 
 ghost use Rattle.std.specs.Prelude.{◌≡◌, ◌≢◌, ◌++◌, ◌<◌, ◌^◌, ◌==◌, [], true, min, map, codes, OnOk, IfOk, IfErr, if◌then◌else◌};
-ghost use Rattle.wire_pattern.specs.Shown.{role_by};
+ghost use Rattle.wire_pattern.specs.Views.{role_by};
 ghost use Rattle.wire_size_laws.specs.Stages.{Stages};
 ghost use Rattle.wire_reply_laws.specs.Promised.{AllStaged};
-ghost use Rattle.wire_sweep.specs.Judged.{IsJudgeFault};
-ghost use Rattle.wire_sweep.specs.Selections.{most_sizes};
-ghost use Rattle.wire_sweep_laws.specs.Sizes.{total_of};
-ghost use Rattle.wire_sweep_laws.specs.Sizes as sizes;
+ghost use Rattle.wire_cutoff.specs.Judged.{IsJudgeFault};
+ghost use Rattle.wire_cutoff.specs.Selections.{most_sizes};
+ghost use Rattle.wire_cutoff_laws.specs.Sizes.{total_of};
+ghost use Rattle.wire_cutoff_laws.specs.Sizes as sizes;
 ghost use Rattle.wire_pattern_commands.specs.Beyond as spec;
 ghost use Rattle.wire_pattern_commands.specs.declared.beyond.Beyond.TheVariants.{Unknown};
 ghost use Rattle.wire_pattern_commands.specs.Found.{IsFoundBeyond};
 
 use std::alloc::{AllocError, Global};
+use wire_cutoff::most_of;
 use wire_pattern::{Pattern, Role};
 use wire_pattern_later::{Later, later_lines, write_later};
 use wire_pattern_stages::stages_of;
 use wire_pattern_waits::CallLine;
-use wire_sweep::most_of;
 use wire_types::Fault;
 use wire_words::push_number;
 

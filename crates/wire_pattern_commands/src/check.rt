@@ -6,11 +6,11 @@ ghost use Rattle.std.specs.List.{flat_map};
 ghost use Rattle.wire_types.specs.declared.Fault.TheVariants.{Memory, Read};
 ghost use Rattle.wire_types.specs.Counting.{one_more};
 ghost use Rattle.wire_commands.specs.declared.ended.Ended.TheVariants.{Clean};
-ghost use Rattle.wire_sweep.specs.Judged.{IsJudgeFault, IsSweepFault, IsWithinLimits};
-ghost use Rattle.wire_sweep.specs.Selections.{most_sizes};
-ghost use Rattle.wire_sweep.specs.Shown.{IsFoundFor};
-ghost use Rattle.wire_sweep_laws.specs.Sizes.{total_of};
-ghost use Rattle.wire_sweep_laws.specs.Promised.{IsSettledForAll};
+ghost use Rattle.wire_cutoff.specs.Judged.{IsJudgeFault, IsSweepFault, IsWithinPatternLimits};
+ghost use Rattle.wire_cutoff.specs.Selections.{most_sizes};
+ghost use Rattle.wire_cutoff.specs.Views.{IsFoundFor};
+ghost use Rattle.wire_cutoff_laws.specs.Sizes.{total_of};
+ghost use Rattle.wire_cutoff_laws.specs.Promised.{IsSettledForAll};
 ghost use Rattle.wire_pattern_answers.specs.Answers.{AreAnswers};
 ghost use Rattle.wire_commands.specs.Ending.{ended_of};
 ghost use Rattle.wire_pattern_commands.specs.CheckPattern as spec;
@@ -28,15 +28,15 @@ use crate::verdict_json::{counterexample_json, settled_json};
 use std::alloc::{AllocError, Global};
 use std::thread::Threads;
 use wire_commands::{Answer, Ended, write_answer};
-use wire_content::Scripts;
+use wire_cutoff::laws::texts_settled;
+use wire_cutoff::{Counterexample, judge_pattern};
 use wire_findings::Finding;
 use wire_pattern::Pattern;
 use wire_pattern_answers::{LineAnswers, find_answers, write_answers};
 use wire_pattern_waits::{CallLine, waiting_lines, write_waits};
 use wire_reply_laws::laws::{all_answered, texts_answered};
 use wire_report::{push_count, push_finding};
-use wire_sweep::laws::texts_settled;
-use wire_sweep::{Counterexample, judge_pattern};
+use wire_scripts::Scripts;
 use wire_types::{Fault, Sink, Source};
 use wire_words::push_number;
 
@@ -310,7 +310,7 @@ fn answer_pattern(
     asked: PatternAsked,
 ) -> Result<Answer, Fault>
     ensures ok { IfOk result (λ answer. IsPatternVerdict pattern.now asked answer.text.items answer.ended) }
-    ensures within { OnOk result (IsWithinLimits pattern.now) }
+    ensures within { OnOk result (IsWithinPatternLimits pattern.now) }
     ensures err { IfErr result (λ e. IsSweepFault pattern.now e) }
 {
     match judge_pattern(rt, alloc, pattern)? {

@@ -4,7 +4,7 @@ ghost use Rattle.std.specs.Prelude.{◌≡◌, ◌≢◌, ◌⊎◌, Err, OnOk, 
 ghost use Rattle.wire_types.specs.declared.Fault.TheVariants.{Memory, Read};
 ghost use Rattle.wire_types.specs.Counting.{one_more};
 ghost use Rattle.wire_pattern.specs.Instances.{instance_text};
-ghost use Rattle.wire_instances.specs.Shown.{cast_by};
+ghost use Rattle.wire_instances.specs.Views.{cast_by};
 ghost use Rattle.wire_pattern_commands.specs.Expand.{BreaksOffExpanded, HasManyRanks, IsCastAsked, IsExpandFault};
 ghost use Rattle.wire_pattern_commands.specs.Expand.{IsExpanded, StopsBeforeExpanded, WritesExpanded, word_of};
 ghost use Rattle.wire_pattern_commands.specs.Ranks.{HasMisfit};
@@ -16,8 +16,8 @@ use std::alloc::Global;
 use wire_instance_laws::laws::instances_read;
 use wire_instances::{Cast, pattern_fault, processes_within, write_front};
 use wire_pattern::Pattern;
+use wire_reader::{Limits, Size, read_sized};
 use wire_report::write_text;
-use wire_script::{Limits, Size, read_sized};
 use wire_types::{Fault, Sink, Source, Version};
 
 /// Which instance of a pattern is asked for.

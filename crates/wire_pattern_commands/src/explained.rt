@@ -2,12 +2,12 @@
 
 ghost use Rattle.std.specs.Prelude.{◌≡◌, ◌++◌, ◌<◌, ◌^◌, ◌==◌, map, true, codes, if◌then◌else◌, OnOk, IfOk, IfErr};
 ghost use Rattle.wire_types.specs.declared.Fault.TheVariants.{Memory};
-ghost use Rattle.wire_pattern.specs.Shown.{role_by};
-ghost use Rattle.wire_sweep.specs.Judged.{IsJudgeFault};
-ghost use Rattle.wire_sweep.specs.Selections.{most_sizes};
-ghost use Rattle.wire_sweep_laws.specs.Sizes.{total_of};
+ghost use Rattle.wire_pattern.specs.Views.{role_by};
+ghost use Rattle.wire_cutoff.specs.Judged.{IsJudgeFault};
+ghost use Rattle.wire_cutoff.specs.Selections.{most_sizes};
+ghost use Rattle.wire_cutoff_laws.specs.Sizes.{total_of};
 ghost use Rattle.wire_pattern_commands.specs.FirstWait as spec;
-ghost use Rattle.wire_pattern_commands.specs.FirstWait.{AddsLines, AddsMember, Explains, IsFirstOf, LinesOf, MemberOf, TellsFirst, ListsFirst};
+ghost use Rattle.wire_pattern_commands.specs.FirstWait.{AddsLines, AddsMember, ExplainsFirstWait, IsFirstWaitOf, LinesOf, MemberOf, TellsFirst, ListsFirst};
 
 use crate::asked::PatternAsked;
 use crate::first_wait::{FirstWait, find_first_wait};
@@ -168,7 +168,7 @@ fn with_lines(
     verdict: &[u8],
     found: &Option<FirstWait>,
 ) -> Result<Vec<u8>, Fault>
-    requires { IsFirstOf pattern.now found.now }
+    requires { IsFirstWaitOf pattern.now found.now }
     ensures ok { IfOk result (λ text. AddsLines pattern.now verdict.now text.items) }
     ensures err { IfErr result (λ e. e ≡ Memory) }
 {
@@ -185,7 +185,7 @@ fn with_member(
     verdict: &[u8],
     found: &Option<FirstWait>,
 ) -> Result<Vec<u8>, Fault>
-    requires { IsFirstOf pattern.now found.now }
+    requires { IsFirstWaitOf pattern.now found.now }
     ensures ok { IfOk result (λ text. AddsMember pattern.now verdict.now text.items) }
     ensures err { IfErr result (λ e. e ≡ Memory) }
 {
@@ -204,8 +204,8 @@ fn with_first(
     verdict: &[u8],
     found: &Option<FirstWait>,
 ) -> Result<Vec<u8>, Fault>
-    requires { IsFirstOf pattern.now found.now }
-    ensures ok { IfOk result (λ text. Explains true json pattern.now verdict.now text.items) }
+    requires { IsFirstWaitOf pattern.now found.now }
+    ensures ok { IfOk result (λ text. ExplainsFirstWait true json pattern.now verdict.now text.items) }
     ensures err { IfErr result (λ e. e ≡ Memory) }
 {
     if json {
@@ -223,7 +223,7 @@ fn explained_text(
     verdict: &[u8],
 ) -> Result<Vec<u8>, Fault>
     requires { total_of (most_sizes pattern.now.roles) < 2 ^ 31 }
-    ensures ok { IfOk result (λ text. Explains true json pattern.now verdict.now text.items) }
+    ensures ok { IfOk result (λ text. ExplainsFirstWait true json pattern.now verdict.now text.items) }
     ensures err { IfErr result (λ e. IsJudgeFault pattern.now e) }
 {
     let found = find_first_wait(alloc, pattern)?;
@@ -243,7 +243,7 @@ pub(crate) fn explain_answer(
 ) -> Result<Answer, Fault>
     requires { total_of (most_sizes pattern.now.roles) < 2 ^ 31 }
     ensures ended { IfOk result (λ it. it.ended ≡ answer.ended) }
-    ensures ok { IfOk result (λ it. Explains asked.explain asked.json pattern.now answer.text.items it.text.items) }
+    ensures ok { IfOk result (λ it. ExplainsFirstWait asked.explain asked.json pattern.now answer.text.items it.text.items) }
     ensures err { IfErr result (λ e. IsJudgeFault pattern.now e) }
 {
     if !asked.explain {

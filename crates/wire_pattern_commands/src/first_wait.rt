@@ -3,18 +3,18 @@
 ghost use Rattle.std.specs.Prelude.{◌≡◌, ◌≢◌, ◌<◌, ◌^◌, ◌==◌, not, map, IfOk, IfErr, MatchOption};
 ghost use Rattle.wire_types.specs.declared.Fault.TheVariants.{Memory};
 ghost use Rattle.wire_core.specs.EndsAfter.{plain_ends};
-ghost use Rattle.wire_sweep.specs.Judged.{IsJudgeFault};
-ghost use Rattle.wire_sweep.specs.Selections.{selections, most_sizes};
-ghost use Rattle.wire_sweep.specs.Shown.{selection_by};
-ghost use Rattle.wire_sweep_laws.specs.Sizes.{AreFewSizes, total_of};
-ghost use Rattle.wire_pattern_commands.specs.FirstWait.{IsWaitOf, IsFirstOf};
+ghost use Rattle.wire_cutoff.specs.Judged.{IsJudgeFault};
+ghost use Rattle.wire_cutoff.specs.Selections.{selections, most_sizes};
+ghost use Rattle.wire_cutoff.specs.Views.{selection_by};
+ghost use Rattle.wire_cutoff_laws.specs.Sizes.{AreFewSizes, total_of};
+ghost use Rattle.wire_pattern_commands.specs.FirstWait.{IsWaitOf, IsFirstWaitOf};
 
 use std::alloc::Global;
-use wire_content::Scripts;
 use wire_core::plain_outcome;
+use wire_cutoff::{Selection, all_selections, cast_for, instance_scripts};
 use wire_pattern::Pattern;
 use wire_plan::Plan;
-use wire_sweep::{Selection, all_selections, cast_for, instance_scripts};
+use wire_scripts::Scripts;
 use wire_types::Fault;
 
 /// An instance in which a rank waits for ever: how many processes each role has, the text of its plan, and what that
@@ -98,7 +98,7 @@ fn wait_among(
 ) -> Result<Option<FirstWait>, Fault>
     requires all { map selection_by all.now ≡ selections pattern.now }
     requires few { total_of (most_sizes pattern.now.roles) < 2 ^ 31 }
-    ensures ok { IfOk result (IsFirstOf pattern.now) }
+    ensures ok { IfOk result (IsFirstWaitOf pattern.now) }
     ensures err { IfErr result (λ e. IsJudgeFault pattern.now e) }
 {
     for selection in all {
@@ -113,7 +113,7 @@ fn wait_among(
 /// The first instance that is judged in which a rank waits for ever, if there is one: one with the fewest processes.
 pub(crate) fn find_first_wait(alloc: Global, pattern: &Pattern) -> Result<Option<FirstWait>, Fault>
     requires { total_of (most_sizes pattern.now.roles) < 2 ^ 31 }
-    ensures ok { IfOk result (IsFirstOf pattern.now) }
+    ensures ok { IfOk result (IsFirstWaitOf pattern.now) }
     ensures err { IfErr result (λ e. IsJudgeFault pattern.now e) }
 {
     let all = all_selections(alloc, pattern)?;

@@ -1,6 +1,6 @@
 //! What holds of texts in JSON. Each law is the contract of a function that does nothing.
 
-ghost use Rattle.wire_pattern_commands.specs.Shown.{InstancesReadBack};
+ghost use Rattle.wire_pattern_commands.specs.Views.{InstancesReadBack};
 ghost use Rattle.wire_pattern_commands.specs.Strings.{TextsReadBack};
 
 /// A text of printable bytes and line feeds is what its string says.

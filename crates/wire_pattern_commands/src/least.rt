@@ -2,7 +2,7 @@
 
 ghost use Rattle.std.specs.Prelude.{◌≡◌, ◌++◌, map, OnOk};
 ghost use Rattle.std.specs.List.{flat_map};
-ghost use Rattle.wire_pattern.specs.Shown.{role_by};
+ghost use Rattle.wire_pattern.specs.Views.{role_by};
 ghost use Rattle.wire_pattern_commands.specs.AtLeast as spec;
 
 use std::alloc::AllocError;

@@ -8,7 +8,7 @@ ghost use Rattle.wire_types.specs.Texts.{texts_of};
 ghost use Rattle.wire_instances.specs.Asked as spec;
 ghost use Rattle.wire_instances.specs.Asked.{are_fit, asked_by};
 ghost use Rattle.wire_instances.specs.Tables.{AreSizes};
-ghost use Rattle.wire_pattern_commands.specs.Ranks.{AreSizesAsked, AskFor, Asks, HasMisfit, IsMisfit, are_few, asked_text};
+ghost use Rattle.wire_pattern_commands.specs.Ranks.{AreSizesAsked, AskFor, Asks, HasMisfit, IsMisfitPart, are_few, asked_text};
 
 use std::alloc::{AllocError, Global};
 use wire_instances::{Asked, sizes_asked};
@@ -80,7 +80,7 @@ fn add_part(
 fn read_parts(alloc: Global, pattern: &Pattern, parts: &[&[u8]]) -> Result<Vec<Asked>, Fault>
     ensures asks { IfOk result (λ v. AskFor (texts_of parts.now) (map asked_by v.items)) }
     ensures fit { IfOk result (λ v. are_fit pattern.now.roles (map asked_by v.items) ≡ true) }
-    ensures err { IfErr result (λ e. (e ≡ Memory) ⊎ IsMisfit pattern.now.roles (texts_of parts.now) e) }
+    ensures err { IfErr result (λ e. (e ≡ Memory) ⊎ IsMisfitPart pattern.now.roles (texts_of parts.now) e) }
 {
     let mut asked = Vec::new(alloc);
     for number in 0..parts.len() {

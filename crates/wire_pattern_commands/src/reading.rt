@@ -3,14 +3,14 @@
 ghost use Rattle.std.specs.Prelude.{◌≡◌, ◌≢◌, Err, OnOk, IfOk, IfErr};
 ghost use Rattle.wire_types.specs.Counting.{one_more};
 ghost use Rattle.wire_types.specs.declared.Fault.TheVariants.{Memory, Read};
-ghost use Rattle.wire_pattern.specs.Lawful.{IsSound};
+ghost use Rattle.wire_pattern.specs.Lawful.{IsSoundPattern};
 ghost use Rattle.wire_pattern_commands.specs.Read.{HasNoPattern, ReadAsPattern};
 
 use std::alloc::Global;
 use wire_commands::read_up_to;
 use wire_pattern::Pattern;
 use wire_pattern_script::read_pattern;
-use wire_script::Size;
+use wire_reader::Size;
 use wire_types::{Fault, Source};
 
 /// The pattern of a file that is read to its end, or to one byte more than it may have, by which it is seen to be too
@@ -28,7 +28,7 @@ pub(crate) fn read_coming<R: Source>(alloc: Global, reader: &mut R) -> Result<Pa
 
 /// A pattern is sound.
 pub(crate) fn note_sound(pattern: &Pattern)
-    ensures { IsSound pattern.now }
+    ensures { IsSoundPattern pattern.now }
 {
     let _roles = pattern.roles();
 }

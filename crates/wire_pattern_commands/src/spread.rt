@@ -2,14 +2,14 @@
 
 ghost use Rattle.std.specs.Prelude.{◌≡◌, ◌<◌, ◌^◌, IfOk};
 ghost use Rattle.wire_types.specs.declared.Version.TheVariants.{Two};
-ghost use Rattle.wire_script.specs.Limits.{limits_of};
+ghost use Rattle.wire_reader.specs.Limits.{limits_of};
 ghost use Rattle.wire_instances.specs.Nodes.{AreNodes};
 ghost use Rattle.wire_pattern_commands.specs.Spread.{AreNodesAsked};
 
 use std::alloc::{AllocError, Global};
 use std::num::NonZeroU32;
 use wire_instances::{Nodes, dealt, per_node};
-use wire_script::{Limits, Size};
+use wire_reader::{Limits, Size};
 use wire_types::Version;
 
 /// On which nodes the ranks of an instance are.

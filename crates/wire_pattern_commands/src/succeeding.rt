@@ -4,27 +4,27 @@ ghost use Rattle.std.specs.Prelude.{◌≡◌, ◌<◌, ◌^◌, ◌&&◌, [], t
 ghost use Rattle.std.specs.List.{list_all};
 ghost use Rattle.wire_types.specs.declared.Fault.TheVariants.{Memory};
 ghost use Rattle.wire_types.specs.Texts.{lists_of};
-ghost use Rattle.wire_content.specs.Placed.{placed};
-ghost use Rattle.wire_script.specs.declared.Size.TheVariants.{OfVersion};
-ghost use Rattle.wire_script.specs.Reads.{Reads};
+ghost use Rattle.wire_scripts.specs.Placed.{placed};
+ghost use Rattle.wire_reader.specs.declared.Size.TheVariants.{OfVersion};
+ghost use Rattle.wire_reader.specs.Reads.{Reads};
 ghost use Rattle.wire_pattern.specs.Instances.{instance_text};
-ghost use Rattle.wire_instances.specs.Shown.{cast_by};
-ghost use Rattle.wire_sweep.specs.Judged.{IsFewCast, IsJudgeFault};
-ghost use Rattle.wire_sweep.specs.Selections.{selections, most_sizes};
-ghost use Rattle.wire_sweep.specs.Shown.{selection_by};
-ghost use Rattle.wire_sweep_laws.specs.Sizes.{AreFewSizes, total_of};
+ghost use Rattle.wire_instances.specs.Views.{cast_by};
+ghost use Rattle.wire_cutoff.specs.Judged.{IsFewCast, IsJudgeFault};
+ghost use Rattle.wire_cutoff.specs.Selections.{selections, most_sizes};
+ghost use Rattle.wire_cutoff.specs.Views.{selection_by};
+ghost use Rattle.wire_cutoff_laws.specs.Sizes.{AreFewSizes, total_of};
 ghost use Rattle.wire_commands.specs.Complete.{succeeds};
 ghost use Rattle.wire_pattern_commands.specs.Succeeding as spec;
 ghost use Rattle.wire_pattern_commands.specs.Succeeding.{IsCastTold, IsSelectionTold, IsSuccessTold};
 
 use std::alloc::Global;
-use wire_content::Scripts;
 use wire_core::plain_outcome;
+use wire_cutoff::{Selection, all_selections, cast_for, instance_scripts};
 use wire_instances::Cast;
 use wire_pattern::Pattern;
 use wire_plan::Plan;
-use wire_script::reads_once;
-use wire_sweep::{Selection, all_selections, cast_for, instance_scripts};
+use wire_reader::reads_once;
+use wire_scripts::Scripts;
 use wire_types::{CallEnd, Fault, Status};
 
 /// Whether a call was answered `PMIX_SUCCESS`.

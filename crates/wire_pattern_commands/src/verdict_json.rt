@@ -14,14 +14,14 @@ use crate::beyond::{Beyond, push_first, push_words};
 use crate::least::write_least;
 use crate::strings::{push_lines, push_text, string_of};
 use std::alloc::{AllocError, Global};
-use wire_content::Scripts;
+use wire_cutoff::Counterexample;
 use wire_findings::Finding;
 use wire_json::push_list;
 use wire_pattern::Pattern;
 use wire_pattern_answers::{LineAnswers, write_answers};
 use wire_pattern_waits::{CallLine, write_waits};
 use wire_report::push_finding;
-use wire_sweep::Counterexample;
+use wire_scripts::Scripts;
 use wire_words::push_number;
 
 /// Appends the member of how each get-now is answered, if that is asked for.

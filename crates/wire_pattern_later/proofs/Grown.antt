@@ -7,22 +7,22 @@ use Rattle.std.proofs.lemmas.List.{length-map}
 use Rattle.std.proofs.lemmas.List.FromFn.{length-range_with_len}
 use Rattle.wire_types.specs.declared.Fault.{Fault}
 use Rattle.wire_types.specs.declared.Fault.TheVariants.{Memory}
-use Rattle.wire_content.specs.Scripts.{Scripts}
-use Rattle.wire_script.specs.declared.Size.TheVariants.{OfVersion}
-use Rattle.wire_script.specs.Reads.{Reads, ReadsOnce}
+use Rattle.wire_scripts.specs.Scripts.{Scripts}
+use Rattle.wire_reader.specs.declared.Size.TheVariants.{OfVersion}
+use Rattle.wire_reader.specs.Reads.{Reads, ReadsOnce}
 use Rattle.wire_pattern.specs.Pattern.{Pattern, Role}
 use Rattle.wire_pattern.specs.Planned.{single_in}
 use Rattle.wire_pattern.specs.Instances as spec
 use Rattle.wire_pattern.specs.Instances.{IsCast, instance_text}
 use Rattle.wire_instances.specs.declared.cast.Cast.{Cast}
-use Rattle.wire_instances.specs.Nodes.{AreNodes, AreAlone}
-use Rattle.wire_instances.specs.Shown.{cast_by, choice_by}
-use Rattle.wire_sweep_laws.specs.Sizes.{total_of}
+use Rattle.wire_instances.specs.Nodes.{AreNodes, HaveOwnNodes}
+use Rattle.wire_instances.specs.Views.{cast_by, choice_by}
+use Rattle.wire_cutoff_laws.specs.Sizes.{total_of}
 use Rattle.wire_pattern_waits.specs.declared.lines.CallLine.{CallLine}
 use Rattle.wire_pattern_waits.specs.LineSets.{has_line}
-use Rattle.wire_pattern_waits.specs.Stops.{Stops}
-use Rattle.wire_script.specs.Limits.{file_bytes}
-use Rattle.wire_script.proofs.Limited.{reads_limited}
+use Rattle.wire_pattern_waits.specs.StuckAt.{StuckAt}
+use Rattle.wire_reader.specs.Limits.{file_bytes}
+use Rattle.wire_reader.proofs.Limited.{reads_limited}
 use Rattle.wire_pattern_later.specs.Later.{sizes_with, grown, StopsWith, IsReadWith, AreWaitingWith, AreLater, NoneBelow, IsNoneLater, IsPastLimits}
 use Rattle.wire_pattern_later.specs.Through.{first_size, last_size}
 
@@ -46,7 +46,7 @@ read_or other (Err fault) = other
 
 -- the cast of the code is this one
 pub grown_is : (p : Pattern) (n : ℕ) (cast : Cast) → cast.sizes.items ≡ sizes_with n p.roles → cast.chosen.items ≡ []
-    → AreNodes (total_of (sizes_with n p.roles)) cast.nodes → AreAlone (total_of (sizes_with n p.roles)) cast.nodes → cast_by cast ≡ grown p n
+    → AreNodes (total_of (sizes_with n p.roles)) cast.nodes → HaveOwnNodes (total_of (sizes_with n p.roles)) cast.nodes → cast_by cast ≡ grown p n
 grown_is p n cast sizes chosen placed apart = λ t. record { sizes = sizes t; chosen = ap (map choice_by) chosen t; node_count = apart.count t; nodes = nodes t }
   where
     nodes : cast.nodes.of.items ≡ range_with_len 0 (total_of (sizes_with n p.roles))
@@ -71,7 +71,7 @@ grown_cast p n few = record {
 
 -- what waits in the scripts that its text reads as is what waits with so many
 pub waits_grown : (p : Pattern) (n : ℕ) (cast : spec.Cast) (scripts : Scripts) (noted : List (List Bool)) → ReadsOnce → cast ≡ grown p n
-    → Reads OfVersion (instance_text p cast) (Ok scripts) → ((role line : ℕ) → (has_line noted role line ≡ true) ↔ Stops p cast scripts role line)
+    → Reads OfVersion (instance_text p cast) (Ok scripts) → ((role line : ℕ) → (has_line noted role line ≡ true) ↔ StuckAt p cast scripts role line)
     → (role line : ℕ) → (has_line noted role line ≡ true) ↔ StopsWith p n role line
 waits_grown p n cast scripts noted once is reads told role line = (to, from)
   where
@@ -79,12 +79,12 @@ waits_grown p n cast scripts noted once is reads told role line = (to, from)
     reads_there = subst (λ c. Reads OfVersion (instance_text p c) (Ok scripts)) is reads
 
     to : has_line noted role line ≡ true → StopsWith p n role line
-    to h = record { scripts = scripts; reads = reads_there; stops = subst (λ c. Stops p c scripts role line) is ((told role line).0 h) }
+    to h = record { scripts = scripts; reads = reads_there; stops = subst (λ c. StuckAt p c scripts role line) is ((told role line).0 h) }
 
     from : StopsWith p n role line → has_line noted role line ≡ true
     from x =
         let same : x.scripts ≡ scripts = ap (read_or scripts) (once OfVersion (instance_text p (grown p n)) (Ok x.scripts) (Ok scripts) x.reads reads_there) in
-        (told role line).1 (subst (λ c. Stops p c scripts role line) (sym is) (subst (λ t. Stops p (grown p n) t role line) same x.stops))
+        (told role line).1 (subst (λ c. StuckAt p c scripts role line) (sym is) (subst (λ t. StuckAt p (grown p n) t role line) same x.stops))
 
 -- which reads as a plan
 pub read_grown : (p : Pattern) (n : ℕ) (cast : spec.Cast) (scripts : Scripts) → cast ≡ grown p n → Reads OfVersion (instance_text p cast) (Ok scripts) → IsReadWith p n
@@ -121,9 +121,9 @@ none_to_limits p n from before past = (n, from, before, inr past)
 
 -- the same, where so many processes are told
 pub told_grown : (p : Pattern) (n total : ℕ) (cast : Cast) → cast.sizes.items ≡ sizes_with n p.roles → cast.chosen.items ≡ [] → total ≡ total_of (sizes_with n p.roles)
-    → AreNodes total cast.nodes → AreAlone total cast.nodes → cast_by cast ≡ grown p n
+    → AreNodes total cast.nodes → HaveOwnNodes total cast.nodes → cast_by cast ≡ grown p n
 told_grown p n total cast sizes chosen is placed apart =
-    grown_is p n cast sizes chosen (subst (λ m. AreNodes m cast.nodes) is placed) (subst (λ m. AreAlone m cast.nodes) is apart)
+    grown_is p n cast sizes chosen (subst (λ m. AreNodes m cast.nodes) is placed) (subst (λ m. HaveOwnNodes m cast.nodes) is apart)
 
 pub told_cast : (p : Pattern) (n total : ℕ) (cast : Cast) → cast_by cast ≡ grown p n → total ≡ total_of (sizes_with n p.roles) → total < 2 ^ 31 → IsCast p (cast_by cast)
 told_cast p n total cast by is few = subst (IsCast p) (sym by) (grown_cast p n (subst (λ m. m < 2 ^ 31) is few))

@@ -10,11 +10,11 @@ use Rattle.wire_types.specs.declared.CallEnd.TheVariants.{Replied, Waiting, Read
 use Rattle.wire_pattern.specs.Pattern.{Pattern}
 use Rattle.wire_pattern.specs.Planned.{steps_in}
 use Rattle.wire_pattern.specs.Instances.{Cast, cast_of}
-use Rattle.wire_content.specs.Scripts.{Scripts}
+use Rattle.wire_scripts.specs.Scripts.{Scripts}
 use Rattle.wire_core.specs.EndsAfter.{plain_ends}
 use Rattle.wire_instances.proofs.Texts.{opened_list}
 use Rattle.wire_pattern_waits.specs.Places.{steps_places}
-use Rattle.wire_pattern_waits.specs.Stops.{Stops, is_waiting, is_at, is_noted, process_stops, stops_from}
+use Rattle.wire_pattern_waits.specs.StuckAt.{StuckAt, ends_waiting, is_at, is_noted, process_stops, stops_from}
 use Rattle.wire_pattern_waits.proofs.Noted.{stops_told}
 
 or_apart : (a b c : Bool) → ((a || b) || c) ≡ (a || (b || c))
@@ -27,20 +27,20 @@ or_none false = refl
 
 -- the first call
 first_noted : (role line : ℕ) (end : CallEnd) (ends : List CallEnd) (places : List ℕ) (r l : ℕ)
-    → is_noted (process_stops role (end ∷ ends) (line ∷ places)) r l ≡ ((is_waiting end && ((role == r) && (line == l))) || is_noted (process_stops role ends places) r l)
+    → is_noted (process_stops role (end ∷ ends) (line ∷ places)) r l ≡ ((ends_waiting end && ((role == r) && (line == l))) || is_noted (process_stops role ends places) r l)
 first_noted role line Waiting ends places r l = refl
 first_noted role line (Replied reply) ends places r l = refl
 first_noted role line Ready ends places r l = refl
 first_noted role line Unreached ends places r l = refl
 
 pub call_step : (role n line : ℕ) (end : CallEnd) (row : List CallEnd) (places : List ℕ) (r l : ℕ) (old now all : Bool) → n < length row → end ≡ get_or row n end
-    → slice_get places n ≡ Some line → now ≡ (old || (is_waiting end && ((role == r) && (line == l))))
+    → slice_get places n ≡ Some line → now ≡ (old || (ends_waiting end && ((role == r) && (line == l))))
     → (old || is_noted (process_stops role (drop n row) (drop n places)) r l) ≡ all
     → (now || is_noted (process_stops role (drop (n + 1) row) (drop (n + 1) places)) r l) ≡ all
 call_step role n line end row places r l old now all h at of more inv =
     let within = slice_get_within places n line of in
     ap (λ b. b || is_noted (process_stops role (drop (n + 1) row) (drop (n + 1) places)) r l) more
-    ∙ or_apart old (is_waiting end && ((role == r) && (line == l))) (is_noted (process_stops role (drop (n + 1) row) (drop (n + 1) places)) r l)
+    ∙ or_apart old (ends_waiting end && ((role == r) && (line == l))) (is_noted (process_stops role (drop (n + 1) row) (drop (n + 1) places)) r l)
     ∙ ap (λ b. old || b) (sym (first_noted role line end (drop (n + 1) row) (drop (n + 1) places) r l))
     ∙ ap (λ es. old || is_noted (process_stops role es (line ∷ drop (n + 1) places)) r l) (sym (opened_list row n end h at))
     ∙ ap (λ ls. old || is_noted (process_stops role (drop n row) ls) r l) (sym (opened_list places n line within (sym (get_or_from_slice_get places n line line of)))) ∙ inv
@@ -83,7 +83,7 @@ rows_end p cast n roles rows r l old all past inv =
 
 -- what is noted from nothing on is where something stands
 pub waits_told : (p : Pattern) (cast : Cast) (scripts : Scripts) (rows : List (List CallEnd)) → rows ≡ (plain_ends scripts).rows → (r l : ℕ) (old now : Bool) → old ≡ false
-    → now ≡ (old || is_noted (stops_from p cast 0 (cast_of cast).roles rows) r l) → (now ≡ true) ↔ Stops p cast scripts r l
+    → now ≡ (old || is_noted (stops_from p cast 0 (cast_of cast).roles rows) r l) → (now ≡ true) ↔ StuckAt p cast scripts r l
 waits_told p cast scripts rows by r l old now none more =
     let stops = stops_from p cast 0 (cast_of cast).roles rows in
     let told = stops_told p cast scripts stops rows refl by r l in

@@ -3,15 +3,15 @@ use Rattle.std.specs.Prelude.{◌≡◌, ◌≢◌, ◌≤◌, ◌<◌, ◌^◌,
 use Rattle.std.specs.List.{range_with_len, flat_map}
 use Rattle.wire_types.specs.Verbs.{text_of_verb}
 use Rattle.wire_types.specs.declared.Fault.{Fault}
-use Rattle.wire_content.specs.Scripts.{Scripts}
-use Rattle.wire_script.specs.declared.Size.TheVariants.{OfVersion}
-use Rattle.wire_script.specs.Reads.{Reads}
+use Rattle.wire_scripts.specs.Scripts.{Scripts}
+use Rattle.wire_reader.specs.declared.Size.TheVariants.{OfVersion}
+use Rattle.wire_reader.specs.Reads.{Reads}
 use Rattle.wire_pattern.specs.Pattern.{Role, Pattern}
 use Rattle.wire_pattern.specs.Instances.{Cast, instance_text}
-use Rattle.wire_sweep_laws.specs.Sizes.{total_of}
+use Rattle.wire_cutoff_laws.specs.Sizes.{total_of}
 use Rattle.wire_pattern_waits.specs.declared.lines.CallLine.{CallLine}
 use Rattle.wire_pattern_waits.specs.Lines.{call_lines, name_in}
-use Rattle.wire_pattern_waits.specs.Stops.{Stops}
+use Rattle.wire_pattern_waits.specs.StuckAt.{StuckAt}
 use Rattle.wire_pattern_later.specs.Through.{first_size, last_size}
 
 -- n processes of each group, and one of each single role
@@ -32,7 +32,7 @@ grown p n = record {
 pub record StopsWith (p : Pattern) (n role line : ℕ) : Type 0 where
   pub scripts : Scripts
   pub reads : Reads OfVersion (instance_text p (grown p n)) (Ok scripts)
-  pub stops : Stops p (grown p n) scripts role line
+  pub stops : StuckAt p (grown p n) scripts role line
 
 -- the text of the instance with n processes of each group reads as a plan
 abbrev pub IsReadWith : Pattern → ℕ → Type 0

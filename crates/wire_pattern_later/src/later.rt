@@ -3,12 +3,12 @@
 ghost use Rattle.std.specs.Prelude.{◌≡◌, ◌≢◌, ◌<◌, ◌≤◌, ◌^◌, ◌↔◌, true, ℕ, Ok, Err, None, IfOk, IfErr, IfSome, map};
 ghost use Rattle.wire_types.specs.declared.Fault.{Fault as FaultSpec};
 ghost use Rattle.wire_types.specs.declared.Fault.TheVariants.{Memory};
-ghost use Rattle.wire_script.specs.declared.Size.TheVariants.{OfVersion};
-ghost use Rattle.wire_script.specs.Reads.{Reads};
+ghost use Rattle.wire_reader.specs.declared.Size.TheVariants.{OfVersion};
+ghost use Rattle.wire_reader.specs.Reads.{Reads};
 ghost use Rattle.wire_pattern.specs.Instances.{IsCast, instance_text};
-ghost use Rattle.wire_pattern.specs.Shown.{role_by};
-ghost use Rattle.wire_instances.specs.Shown.{cast_by};
-ghost use Rattle.wire_sweep_laws.specs.Sizes.{total_of};
+ghost use Rattle.wire_pattern.specs.Views.{role_by};
+ghost use Rattle.wire_instances.specs.Views.{cast_by};
+ghost use Rattle.wire_cutoff_laws.specs.Sizes.{total_of};
 ghost use Rattle.wire_pattern_waits.specs.LineSets.{has_line};
 ghost use Rattle.wire_pattern_later.specs.Later as spec;
 ghost use Rattle.wire_pattern_later.specs.Later.{AreLater, AreWaitingWith, IsNoneLater, IsPastLimits, IsReadWith, StopsWith};
@@ -17,11 +17,11 @@ use crate::listing::noted_lines;
 use crate::noting::waits_of;
 use crate::through::{end_size, first_size};
 use std::alloc::{AllocError, Global};
-use wire_content::Scripts;
 use wire_instances::{Cast, all_alone, process_total, write_front};
 use wire_pattern::{Pattern, Role};
 use wire_pattern_waits::{CallLine, LineSet};
-use wire_script::{Size, read_sized, reads_once};
+use wire_reader::{Size, read_sized, reads_once};
+use wire_scripts::Scripts;
 use wire_types::Fault;
 
 /// The least number of processes of each group with which something waits, and the call lines at which it does.

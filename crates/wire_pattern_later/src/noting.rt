@@ -6,24 +6,24 @@ ghost use Rattle.wire_types.specs.Texts.{lists_of};
 ghost use Rattle.wire_core.specs.EndsAfter.{plain_ends};
 ghost use Rattle.wire_pattern.specs.Instances.{IsCast, cast_of};
 ghost use Rattle.wire_pattern.specs.Planned.{steps_in};
-ghost use Rattle.wire_instances.specs.Shown.{cast_by};
+ghost use Rattle.wire_instances.specs.Views.{cast_by};
 ghost use Rattle.wire_pattern_waits.specs.LineSets.{has_line};
 ghost use Rattle.wire_pattern_waits.specs.Places.{steps_places};
-ghost use Rattle.wire_pattern_waits.specs.Stops as spec;
-ghost use Rattle.wire_pattern_waits.specs.Stops.{Stops};
+ghost use Rattle.wire_pattern_waits.specs.StuckAt as spec;
+ghost use Rattle.wire_pattern_waits.specs.StuckAt.{StuckAt};
 
 use std::alloc::{AllocError, Global};
-use wire_content::Scripts;
 use wire_core::plain_outcome;
 use wire_instances::Cast;
 use wire_pattern::Pattern;
 use wire_pattern_waits::{Caller, LineSet, places_of, process_roles};
 use wire_plan::Plan;
+use wire_scripts::Scripts;
 use wire_types::{CallEnd, Fault, Outcome};
 
 /// Whether a call is what its process stands at, and waits for something.
 fn is_waiting(end: &CallEnd) -> bool
-    ensures { result ≡ spec.is_waiting end.now }
+    ensures { result ≡ spec.ends_waiting end.now }
 {
     match end {
         CallEnd::Waiting => true,
@@ -40,7 +40,7 @@ fn note_call(
     end: &CallEnd,
 ) -> Result<(), AllocError>
     ensures { OnOk result ((r l : ℕ) → has_line noted.new r l
-        ≡ (has_line noted.old r l || (spec.is_waiting end.now && ((role == r) && (line == l))))) }
+        ≡ (has_line noted.old r l || (spec.ends_waiting end.now && ((role == r) && (line == l))))) }
 {
     if is_waiting(end) {
         noted.insert(alloc, role, line)?;
@@ -133,7 +133,7 @@ pub(crate) fn waits_of(
     scripts: Scripts,
 ) -> Result<LineSet, Fault>
     requires { IsCast pattern.now (cast_by cast.now) }
-    ensures ok { IfOk result (λ v. (role line : ℕ) → (has_line v role line ≡ true) ↔ Stops pattern.now (cast_by cast.now) scripts role line) }
+    ensures ok { IfOk result (λ v. (role line : ℕ) → (has_line v role line ≡ true) ↔ StuckAt pattern.now (cast_by cast.now) scripts role line) }
     ensures err { IfErr result (λ e. e ≡ Memory) }
 {
     let outcome = ends_of_run(alloc, scripts)?;

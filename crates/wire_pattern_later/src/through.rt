@@ -2,7 +2,7 @@
 
 ghost use Rattle.std.specs.Prelude.{◌≡◌, ◌+◌, ◌==◌, ℕ, suc, max, count_by, flat_map, map, OnOk, IfOk};
 ghost use Rattle.std.specs.List.{list_any};
-ghost use Rattle.wire_pattern.specs.Shown.{call_by, line_by, step_by, role_by};
+ghost use Rattle.wire_pattern.specs.Views.{view_call, line_by, step_by, role_by};
 ghost use Rattle.wire_pattern_later.specs.Through as spec;
 
 use std::alloc::AllocError;
@@ -10,7 +10,7 @@ use wire_pattern::{Call, Line, Pattern, Role, Step};
 
 /// Whether others wait for what a call does.
 fn is_awaited(call: &Call) -> bool
-    ensures { result ≡ spec.is_awaited (call_by call.now) }
+    ensures { result ≡ spec.is_awaited (view_call call.now) }
 {
     match call {
         Call::Commit | Call::Publish { .. } | Call::Fence { .. } => true,
@@ -20,7 +20,7 @@ fn is_awaited(call: &Call) -> bool
 
 /// Whether a call can wait.
 fn may_wait(call: &Call) -> bool
-    ensures { result ≡ spec.may_wait (call_by call.now) }
+    ensures { result ≡ spec.may_wait (view_call call.now) }
 {
     match call {
         Call::Get { .. } | Call::LookupWait { .. } | Call::Fence { .. } => true,

@@ -8,7 +8,7 @@ use Rattle.wire_runs.specs.Puts.{own, stored, scope_of}
 use Rattle.wire_runs.specs.Fences.{is_member}
 use Rattle.wire_runs.specs.Order.{Stores, IsArrival, Live, Before}
 use Rattle.wire_runs.specs.Races.{Delivery, ByFence, ByGet, IsOf, Delivers, ComesSurely}
-use Rattle.wire_runs.specs.Embeddings.{Renaming, image, IsKeyOf, IsEmbedding, IsKept, IsKeptFence}
+use Rattle.wire_runs.specs.Embeddings.{Renaming, image, IsKeyOf, IsEmbedding, IsKeptDelivery, IsKeptFence}
 use Rattle.wire_runs.proofs.Basics.{event_within, stored_stays}
 use Rattle.wire_runs.proofs.Puts.{first_stores}
 use Rattle.wire_runs.proofs.Images.{mapped_some, own_some, stored_end, stores_into, arrival_into, arrival_back}
@@ -61,7 +61,7 @@ module _ (to : Renaming) (small large : Plan) (e : IsEmbedding to small large) (
   none_back z l none b = none (chain_into to small large e b l)
 
   pub far_value_back : (found : Status) (d : Delivery) → Delivers large (to.process owner) (to.key key) (node_of large (to.process get.proc)) d → ((z : Event) → IsOf large d z → Before large (image to get) z → ⊥) →
-      found ≡ status.Success → IsKept to small large owner (node_of small get.proc) d → FindsFar small get owner key found
+      found ≡ status.Success → IsKeptDelivery to small large owner (node_of small get.proc) d → FindsFar small get owner key found
   far_value_back found (ByGet g) d none is_found kept =
       let there = subst (λ v. Delivers large (to.process owner) (to.key key) (node_of large (to.process get.proc)) (ByGet v)) (sym kept.1) d in
       far_value (ByGet kept.0) (get_delivers_back to small large e owner key get is live_get kept.0 kept.2 there)

@@ -8,7 +8,7 @@ use Rattle.wire_runs.specs.Plan.{Plan, Event, Call, GetNow, kinds_of, kind, node
 use Rattle.wire_runs.specs.Fences.{is_member}
 use Rattle.wire_runs.specs.Order.{IsArrival, Live}
 use Rattle.wire_runs.specs.Races.{Delivery, ByFence, ByGet, Delivers, FenceDelivers, GetDelivers}
-use Rattle.wire_runs.specs.Embeddings.{image, IsEmbedding, IsKept}
+use Rattle.wire_runs.specs.Embeddings.{image, IsEmbedding, IsKeptDelivery}
 use Rattle.wire_runs.specs.Parts.{Piece, Kept, Left, place_in, in_place, AddsReads}
 use Rattle.wire_runs.specs.Patterns.{Line, InOrder, Round, Chosen, Step, Once, Loop, Pattern, Coding, Cast, group, call_in, loop_calls, turns, instance_of}
 use Rattle.wire_runs.specs.Restrictions.{keep_calls, leave_calls, script_in}
@@ -35,7 +35,7 @@ module _ (small large : Plan) (pieces : ℕ → List Piece) (adds : AddsReads sm
   nodes_same : same_node small owner get.proc ≡ same_node large owner get.proc
   nodes_same = sym (ap (λ n. n == node_of small get.proc) (adds.nodes owner)) ∙ sym (ap (λ n. node_of large owner == n) (adds.nodes get.proc))
 
-  kept : (d : Delivery) → Delivers large owner key (node_of large get.proc) d → IsKept (in_place pieces) small large owner (node_of small get.proc) d
+  kept : (d : Delivery) → Delivers large owner key (node_of large get.proc) d → IsKeptDelivery (in_place pieces) small large owner (node_of small get.proc) d
   kept (ByFence members j) delivers =
       let d : FenceDelivers large owner key (node_of large get.proc) members j = delivers.brings_it in
       let a = arrival_spot small large pieces adds (event_in owner d.away.at) members j d.away.arrival in

@@ -9,7 +9,7 @@ use Rattle.wire_runs.specs.Plan.{Plan, Event, Kind, Get, GetNow, kind, process_n
 use Rattle.wire_runs.specs.Fences.{is_member}
 use Rattle.wire_runs.specs.Order.{IsArrival, Live, Before}
 use Rattle.wire_runs.specs.Races.{Delivery, ByFence, ByGet, IsOf, Delivers, FenceDelivers, GetDelivers, ComesSurely, IsSettled}
-use Rattle.wire_runs.specs.Embeddings.{Renaming, image, IsEmbedding, IsKept}
+use Rattle.wire_runs.specs.Embeddings.{Renaming, image, IsEmbedding, IsKeptDelivery}
 use Rattle.wire_runs.specs.Patterns.{Pattern, Coding, Cast, group, processes_from, instance_of, IsLawful, IsCastOf}
 use Rattle.wire_runs.specs.Restrictions.{skip, back, restricted, removal, CanGo}
 use Rattle.wire_runs.proofs.Images.{event_back}
@@ -128,7 +128,7 @@ module _ (pattern : Pattern) (coding : Coding) (cast : Cast) (role : ℕ) (lawfu
     Brought d g o k = Delivers large o k (node_of large g.proc) d × ((z : Event) → IsOf large d z → Before large g z → ⊥)
 
     value_left : (get.proc ≡ owner → ⊥) → same_node large owner get.proc ≡ false → (d : Delivery) → Brought d get owner key → found ≡ status.Success →
-        IsKept (to r) (small r) large w.own_owner (node_of (small r) w.own_get.proc) d → FindsLeft get owner key found
+        IsKeptDelivery (to r) (small r) large w.own_owner (node_of (small r) w.own_get.proc) d → FindsLeft get owner key found
     value_left ne away d b is_found kept =
         let b' = there (Brought d) r get owner key w b in
         left (from_far (other_there ne) (same_there ∙ away)
@@ -145,7 +145,7 @@ module _ (pattern : Pattern) (coding : Coding) (cast : Cast) (role : ℕ) (lawfu
     not_owner s = skip_not r w.own_owner (w.owner_is ∙ s)
 
     fence_kept : (members : List ℕ) (j : ℕ) → (b : FenceDelivers large owner key (node_of large get.proc) members j) → (m : ℕ) → is_member members m ≡ true → node_of large m ≡ node_of large get.proc → (e : ℕ) →
-        slice_get (marks_of pattern coding cast owner) b.away.at ≡ Some e → (e ≡ r → ⊥) → (m ≡ r → ⊥) → IsKept (to r) (small r) large w.own_owner (node_of (small r) w.own_get.proc) (ByFence members j)
+        slice_get (marks_of pattern coding cast owner) b.away.at ≡ Some e → (e ≡ r → ⊥) → (m ≡ r → ⊥) → IsKeptDelivery (to r) (small r) large w.own_owner (node_of (small r) w.own_get.proc) (ByFence members j)
     fence_kept members j b m m_in m_there e mark not_turn not_mate =
         let mine : Event = event_in owner b.away.at in
         let i = is_image pattern coding cast r role w.can mine e mark not_owner not_turn in
@@ -160,7 +160,7 @@ module _ (pattern : Pattern) (coding : Coding) (cast : Cast) (role : ℕ) (lawfu
         }
 
     get_kept : (g : Event) → (b : GetDelivers large owner key (node_of large get.proc) g) → (e : ℕ) → slice_get (marks_of pattern coding cast g.proc) g.at ≡ Some e → Origin pattern coding cast g.proc e (Get owner key) →
-        (g.proc ≡ r → ⊥) → IsKept (to r) (small r) large w.own_owner (node_of (small r) w.own_get.proc) (ByGet g)
+        (g.proc ≡ r → ⊥) → IsKeptDelivery (to r) (small r) large w.own_owner (node_of (small r) w.own_get.proc) (ByGet g)
     get_kept g b e mark origin not_getter =
         let i = is_image pattern coding cast r role w.can g e mark not_getter (get_turn pattern coding cast role lawful cast_is four settled r w.can g.proc e owner key w.own_key origin not_getter not_owner w.key_is) in
         (i.0, i.1, node_left pattern coding cast r i.0.proc ∙ ap (λ (v : Event). node_of large v.proc) i.1 ∙ b.there ∙ sym node_is)

@@ -16,7 +16,7 @@ use Rattle.wire_runs.proofs.Known.{known_start, reachable_known}
 use Rattle.wire_runs.proofs.HaveFates.{have_fates}
 use Rattle.wire_runs.proofs.PlacingReplies.{CameTo, came_to_run}
 use Rattle.wire_runs.proofs.SmallInstances.{without_length}
-use Rattle.wire_pattern_laws.specs.Ordered.{IsInOrder, HasLeast, HasMost, AllowThree, SmallOnesAreSettled}
+use Rattle.wire_pattern_laws.specs.Ordered.{HasRolesInOrder, HasLeast, HasMost, AllowThree, SmallOnesAreSettled}
 use Rattle.wire_pattern_laws.specs.Lines.{IsOfLine}
 use Rattle.wire_pattern_laws.specs.Finds.{status_of, Finds, FindsAreSaid}
 use Rattle.wire_pattern_laws.specs.SmallReplies.{HasSmall, StatusesOfSmall}
@@ -70,7 +70,7 @@ module _ (pattern : Pattern) (coding : Coding) (bound : ℕ) (least most : ℕ �
   -- in an instance a get-now of the line finds something of this status
   pub record FindsIn (cast : Cast) : Type 0 where
     pub cast_is : IsCastOf pattern cast
-    pub in_order : IsInOrder bound cast
+    pub in_order : HasRolesInOrder bound cast
     pub has_least : HasLeast bound least cast
     pub get : Event
     pub of_line : IsOfLine pattern cast get role n
@@ -86,7 +86,7 @@ module _ (pattern : Pattern) (coding : Coding) (bound : ℕ) (least most : ℕ �
       let b = finds_beside pattern coding cast f.get f.owner f.key f.is f.is_live found f.finds in
       let on = on_nodes (pair b.mate f.get.proc) cast in
       let cast_is : IsCastOf pattern on = record { only = f.cast_is.only } in
-      let in_order : IsInOrder bound on = record { order = f.in_order.order; below = f.in_order.below } in
+      let in_order : HasRolesInOrder bound on = record { order = f.in_order.order; below = f.in_order.below } in
       record {
         cast = on;
         cast_is = cast_is;
@@ -148,7 +148,7 @@ module _ (pattern : Pattern) (coding : Coding) (bound : ℕ) (least most : ℕ �
 
 -- what a live get-now finds in an instance of any size, one of its line finds in a small one
 pub finds_of_small : (pattern : Pattern) (coding : Coding) (bound : ℕ) (least most : ℕ → ℕ) → IsLawful pattern → AllowThree bound least most → SmallOnesAreSettled pattern coding bound least most
-    → (cast : Cast) → IsCastOf pattern cast → IsInOrder bound cast → HasLeast bound least cast → (get : Event) (role n owner key : ℕ) → IsOfLine pattern cast get role n
+    → (cast : Cast) → IsCastOf pattern cast → HasRolesInOrder bound cast → HasLeast bound least cast → (get : Event) (role n owner key : ℕ) → IsOfLine pattern cast get role n
     → kind (instance_of pattern coding cast) get ≡ Some (GetNow owner key) → Live (instance_of pattern coding cast) get → (found : Status)
     → Finds (instance_of pattern coding cast) get owner key found → HasSmall pattern coding bound least most role n found
 finds_of_small pattern coding bound least most lawful allow small cast cast_is in_order has_least get role n owner key of_line is l found finds =

@@ -8,7 +8,7 @@ use Rattle.wire_runs.specs.Restrictions.{skip, without, restricted, CanGo}
 use Rattle.wire_runs.proofs.WholeSets.{single_stays}
 use Rattle.wire_runs.proofs.Skip.{without_get}
 use Rattle.wire_runs.proofs.SmallInstances.{without_length, one_fewer, others_stay, fewer_settle}
-use Rattle.wire_pattern_laws.specs.Ordered.{DontFall, IsInOrder, HasLeast, AllowThree, SmallOnesAreSettled, OrderedSuffice}
+use Rattle.wire_pattern_laws.specs.Ordered.{DontFall, HasRolesInOrder, HasLeast, AllowThree, SmallOnesAreSettled, OrderedSuffice}
 
 -- order stays
 from_lower : (first lower : ℕ) (xs : List ℕ) → lower ≤ first → DontFall first xs → DontFall lower xs
@@ -20,7 +20,7 @@ without_order first r [] d = tt
 without_order first zero (x ∷ xs) d = from_lower x first xs d.0 d.1
 without_order first (suc r) (x ∷ xs) d = (d.0, without_order x r xs d.1)
 
-pub restricted_order : (bound r : ℕ) (cast : Cast) → IsInOrder bound cast → IsInOrder bound (restricted r cast)
+pub restricted_order : (bound r : ℕ) (cast : Cast) → HasRolesInOrder bound cast → HasRolesInOrder bound (restricted r cast)
 restricted_order bound r cast o = record {
   order = without_order 0 r cast.roles o.order;
   below = λ p role is. o.below (skip r p) role (sym (without_get r cast.roles p) ∙ is);
@@ -53,7 +53,7 @@ module _ (pattern : Pattern) (coding : Coding) (bound : ℕ) (least most : ℕ �
   ]
 
   -- the instance is settled if those with one rank fewer of a role with too many are
-  by_fewer : (cast : Cast) → IsCastOf pattern cast → IsInOrder bound cast → HasLeast bound least cast →
+  by_fewer : (cast : Cast) → IsCastOf pattern cast → HasRolesInOrder bound cast → HasLeast bound least cast →
       ((r role : ℕ) → CanGo pattern cast r role → role < bound → most role < length (group role cast.roles) → IsSettled (instance_of pattern coding (restricted r cast))) → IsSettled (instance_of pattern coding cast)
   by_fewer cast cast_is order has fewer = elim (look cast bound (omega arith)) [
     | inr rest ↦ small cast cast_is order has rest
@@ -65,7 +65,7 @@ module _ (pattern : Pattern) (coding : Coding) (bound : ℕ) (least most : ℕ �
         fewer_settle pattern coding cast role lawful cast_is four (λ r is. fewer r role (record { lawful = lawful; cast_is = cast_is; is = is; four = four }) found.1 more))
   ]
 
-  bounded : (n : ℕ) (cast : Cast) → length cast.roles ≤ n → IsCastOf pattern cast → IsInOrder bound cast → HasLeast bound least cast → IsSettled (instance_of pattern coding cast)
+  bounded : (n : ℕ) (cast : Cast) → length cast.roles ≤ n → IsCastOf pattern cast → HasRolesInOrder bound cast → HasLeast bound least cast → IsSettled (instance_of pattern coding cast)
   bounded zero cast le cast_is order has = by_fewer cast cast_is order has (λ r role can lt more. absurd (let shorter = without_length r role cast.roles can.is in omega (arith, shorter, le)))
   bounded (suc n) cast le cast_is order has = by_fewer cast cast_is order has (λ r role can lt more.
       bounded n (restricted r cast) (let shorter = without_length r role cast.roles can.is in omega (arith, shorter, le)) (fewer_cast cast r role can) (restricted_order bound r cast order)

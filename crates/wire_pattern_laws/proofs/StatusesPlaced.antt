@@ -6,7 +6,7 @@ use Rattle.wire_runs.specs.Plan.{Plan, Event, GetNow, kind, event_count, process
 use Rattle.wire_runs.specs.Puts.{stored}
 use Rattle.wire_runs.specs.Order.{Live}
 use Rattle.wire_runs.specs.Races.{IsSettled}
-use Rattle.wire_runs.specs.Laws.{Marks}
+use Rattle.wire_runs.specs.Laws.{HappensBefore}
 use Rattle.wire_runs.specs.Placings.{IsPlacing, paired, HasSurely, IsSettledAnywhere}
 use Rattle.wire_runs.proofs.Basics.{process_within, stored_own, stores_commit}
 use Rattle.wire_runs.proofs.Puts.{put_once}
@@ -19,7 +19,7 @@ use Rattle.wire_pattern_laws.specs.Finds.{found_status, shown_status, event_in, 
 use Rattle.wire_pattern_laws.specs.StatusesTold.{CanSay, Own, Near, NearNothing, Far, FarNothing, StatusesTold}
 use Rattle.wire_pattern_laws.proofs.FindsByOrder.{absent, undenied}
 
-module _ (plan : Plan) (everywhere : IsSettledAnywhere plan) (marks : Marks plan) (get : Event) (owner key : ℕ) (is : kind plan get ≡ Some (GetNow owner key)) (is_live : Live plan get) (found : Status) where
+module _ (plan : Plan) (everywhere : IsSettledAnywhere plan) (marks : HappensBefore plan) (get : Event) (owner key : ℕ) (is : kind plan get ≡ Some (GetNow owner key)) (is_live : Live plan get) (found : Status) where
   here : IsSettled plan
   here = settled_there plan plan (reflexive plan) everywhere
 

@@ -9,7 +9,7 @@ use Rattle.wire_runs.specs.Step.{IsReachable}
 use Rattle.wire_runs.specs.Order.{Stores, Live, Before}
 use Rattle.wire_runs.specs.Races.{Delivery, IsOf, Delivers, ComesSurely, IsSettled}
 use Rattle.wire_runs.specs.Fate.{Fate, Says, HasFate}
-use Rattle.wire_runs.specs.Laws.{Marks}
+use Rattle.wire_runs.specs.Laws.{HappensBefore}
 
 -- the status that an answer gives
 abbrev pub status_of : Answer → Status
@@ -67,7 +67,7 @@ pub data Finds (plan : Plan) (get : Event) (owner key : ℕ) (found : Status) : 
 pub record SaysWhatItFinds (plan : Plan) (get : Event) (owner key : ℕ) : Type 0 where
   pub answered : (s : State) (a : Answer) → IsReachable plan s → slice_get (s.replies get.proc) get.at ≡ Some a
       → Live plan get × Finds plan get owner key (status_of a)
-  pub something : Marks plan → Live plan get → (found : Status) × Finds plan get owner key found
+  pub something : HappensBefore plan → Live plan get → (found : Status) × Finds plan get owner key found
   pub one : Live plan get → (a b : Status) → Finds plan get owner key a → Finds plan get owner key b → a ≡ b
   pub fate : Live plan get → (found : Status) → Finds plan get owner key found → (fate : Fate) → HasFate plan get fate
       → (a : Answer) × (fate ≡ Says a) × (status_of a ≡ found)

@@ -9,7 +9,7 @@ DontFall first [] = Unit {0}
 DontFall first (x ∷ xs) = (first ≤ x) × DontFall x xs
 
 -- the processes stand in the order of their roles, and each role is below the bound
-pub record IsInOrder (bound : ℕ) (cast : Cast) : Type 0 where
+pub record HasRolesInOrder (bound : ℕ) (cast : Cast) : Type 0 where
   pub order : DontFall 0 cast.roles
   pub below : (p role : ℕ) → slice_get cast.roles p ≡ Some role → role < bound
 
@@ -20,8 +20,8 @@ in_blocks size (suc role) = in_blocks size role ++ replicate (size role) role
 
 -- the processes of a cast in order stand in blocks, and those that do are in order; their sizes are those of the groups
 pub record StandInBlocks (bound : ℕ) (cast : Cast) : Type 0 where
-  pub blocks : IsInOrder bound cast → cast.roles ≡ in_blocks (λ role. length (group role cast.roles)) bound
-  pub order : (size : ℕ → ℕ) → cast.roles ≡ in_blocks size bound → IsInOrder bound cast
+  pub blocks : HasRolesInOrder bound cast → cast.roles ≡ in_blocks (λ role. length (group role cast.roles)) bound
+  pub order : (size : ℕ → ℕ) → cast.roles ≡ in_blocks size bound → HasRolesInOrder bound cast
   pub sizes : (size : ℕ → ℕ) → cast.roles ≡ in_blocks size bound → (role : ℕ) → role < bound
       → length (group role cast.roles) ≡ size role
 
@@ -41,12 +41,12 @@ AllowThree bound least most = (role : ℕ) → role < bound → (3 ≤ most role
 
 -- a pattern's instances in order are settled, with at least so many of each role and at most so many
 abbrev pub SmallOnesAreSettled : Pattern → Coding → (bound : ℕ) → (least most : ℕ → ℕ) → Type 0
-SmallOnesAreSettled pattern coding bound least most = (cast : Cast) → IsCastOf pattern cast → IsInOrder bound cast
+SmallOnesAreSettled pattern coding bound least most = (cast : Cast) → IsCastOf pattern cast → HasRolesInOrder bound cast
     → HasLeast bound least cast → HasMost bound most cast → IsSettled (instance_of pattern coding cast)
 
 -- where these are, so is each instance in order, with any number of processes of each role
 abbrev pub OrderedSuffice : Type 0
 OrderedSuffice = (pattern : Pattern) (coding : Coding) (bound : ℕ) (least most : ℕ → ℕ) → IsLawful pattern
     → AllowThree bound least most → SmallOnesAreSettled pattern coding bound least most
-    → (cast : Cast) → IsCastOf pattern cast → IsInOrder bound cast → HasLeast bound least cast
+    → (cast : Cast) → IsCastOf pattern cast → HasRolesInOrder bound cast → HasLeast bound least cast
     → IsSettled (instance_of pattern coding cast)

@@ -8,7 +8,7 @@ use Rattle.wire_runs.specs.Order.{Live}
 use Rattle.wire_runs.specs.Races.{IsSettled}
 use Rattle.wire_runs.specs.Embeddings.{pair}
 use Rattle.wire_runs.specs.Patterns.{Pattern, Coding, Cast, instance_of, IsLawful, IsCastOf}
-use Rattle.wire_pattern_laws.specs.Ordered.{IsInOrder, HasLeast, HasMost, AllowThree, SmallOnesAreSettled}
+use Rattle.wire_pattern_laws.specs.Ordered.{HasRolesInOrder, HasLeast, HasMost, AllowThree, SmallOnesAreSettled}
 use Rattle.wire_pattern_laws.specs.Fuller.{IsFuller}
 use Rattle.wire_pattern_laws.specs.Lines.{IsOfLine}
 use Rattle.wire_pattern_laws.specs.Finds.{status_of, Finds}
@@ -19,7 +19,7 @@ pub record HasSmall (pattern : Pattern) (coding : Coding) (bound : ℕ) (least m
     (found : Status) : Type 0 where
   pub cast : Cast
   pub cast_is : IsCastOf pattern cast
-  pub in_order : IsInOrder bound cast
+  pub in_order : HasRolesInOrder bound cast
   pub has_least : HasLeast bound least cast
   pub has_most : HasMost bound most cast
   pub get : Event
@@ -37,7 +37,7 @@ pub record HasSmall (pattern : Pattern) (coding : Coding) (bound : ℕ) (least m
 abbrev pub StatusesOfSmall : Type 0
 StatusesOfSmall = (pattern : Pattern) (coding : Coding) (bound : ℕ) (least most : ℕ → ℕ) → IsLawful pattern
     → AllowThree bound least most → SmallOnesAreSettled pattern coding bound least most
-    → (cast : Cast) → IsCastOf pattern cast → IsInOrder bound cast → HasLeast bound least cast
+    → (cast : Cast) → IsCastOf pattern cast → HasRolesInOrder bound cast → HasLeast bound least cast
     → (s : State) → IsReachable (instance_of pattern coding cast) s
     → (get : Event) (role n owner key : ℕ) → IsOfLine pattern cast get role n
     → kind (instance_of pattern coding cast) get ≡ Some (GetNow owner key)

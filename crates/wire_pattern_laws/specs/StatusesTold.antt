@@ -5,7 +5,7 @@ use Rattle.wire_types.specs.declared.Status.TheVariants as status
 use Rattle.wire_runs.specs.Plan.{Plan, Event, GetNow, kind, event_count, admits}
 use Rattle.wire_runs.specs.Puts.{own, stored, scope_of}
 use Rattle.wire_runs.specs.Order.{Stores, Live, Before}
-use Rattle.wire_runs.specs.Laws.{Marks}
+use Rattle.wire_runs.specs.Laws.{HappensBefore}
 use Rattle.wire_runs.specs.Renamed.{IsRenumbered}
 use Rattle.wire_runs.specs.Placings.{IsPlacing, HasSurely, IsSettledAnywhere}
 use Rattle.wire_pattern_laws.specs.Finds.{found_status, shown_status, event_in, Finds}
@@ -28,7 +28,7 @@ pub data CanSay (plan : Plan) (get : Event) (owner key : ℕ) (found : Status) :
 
 -- these are the statuses that it finds on some placing
 abbrev pub StatusesTold : Type 0
-StatusesTold = (plan : Plan) → IsSettledAnywhere plan → Marks plan → (get : Event) (owner key : ℕ)
+StatusesTold = (plan : Plan) → IsSettledAnywhere plan → HappensBefore plan → (get : Event) (owner key : ℕ)
     → kind plan get ≡ Some (GetNow owner key) → Live plan get → (found : Status)
     → CanSay plan get owner key found ↔ ((other : Plan) × IsPlacing plan other × Finds other get owner key found)
 

@@ -1,4 +1,4 @@
 pub mod Said
-pub mod Shown
+pub mod Views
 pub mod Kind
 pub mod Once

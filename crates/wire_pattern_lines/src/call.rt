@@ -12,7 +12,7 @@ ghost use Rattle.wire_types.specs.Texts.{texts_of};
 ghost use Rattle.wire_pattern_lines.specs.Said as spec;
 ghost use Rattle.wire_pattern_lines.specs.Said.{spelled_proc, spelled_key, spelled_set, first_of_call, others_of_call};
 ghost use Rattle.wire_pattern_lines.specs.Said.{is_lawful_proc, is_lawful_key, is_lawful_set, is_lawful_call};
-ghost use Rattle.wire_pattern_lines.specs.Shown.{proc_by, key_by, call_by};
+ghost use Rattle.wire_pattern_lines.specs.Views.{proc_by, key_by, view_call};
 
 use crate::key::{Key, key_of};
 use crate::procs::{Proc, proc_of};
@@ -112,8 +112,8 @@ fn pair_of<'a>(alloc: Global, words: &[&'a [u8]]) -> Result<Option<(Key<'a>, &'a
 
 /// The put, by the words after its verb.
 fn put_of<'a>(alloc: Global, words: &[&'a [u8]]) -> Result<Option<CallLine<'a>>, AllocError>
-    ensures found { IfOk result (λ o. IfSome o (λ c. (first_of_call (call_by c) ≡ codes "put")
-        × (texts_of words.now ≡ others_of_call (call_by c)) × (is_lawful_call (call_by c) ≡ true))) }
+    ensures found { IfOk result (λ o. IfSome o (λ c. (first_of_call (view_call c) ≡ codes "put")
+        × (texts_of words.now ≡ others_of_call (view_call c)) × (is_lawful_call (view_call c) ≡ true))) }
     ensures none { IfOk result (λ o. IfNone o ((scope : Scope) (key : spec.Key) (value : List ℕ)
         → is_lawful_key key ≡ true → plan.is_word value ≡ true
         → texts_of words.now ≢ spelled_scope scope ∷ spelled_key key ∷ value ∷ [])) }
@@ -155,8 +155,8 @@ fn target_of<'a>(
 
 /// The fence, by the words after its verb.
 fn fence_of<'a>(alloc: Global, words: &[&'a [u8]]) -> Result<Option<CallLine<'a>>, AllocError>
-    ensures found { IfOk result (λ o. IfSome o (λ c. (first_of_call (call_by c) ≡ codes "fence")
-        × (texts_of words.now ≡ others_of_call (call_by c)) × (is_lawful_call (call_by c) ≡ true))) }
+    ensures found { IfOk result (λ o. IfSome o (λ c. (first_of_call (view_call c) ≡ codes "fence")
+        × (texts_of words.now ≡ others_of_call (view_call c)) × (is_lawful_call (view_call c) ≡ true))) }
     ensures none { IfOk result (λ o. IfNone o ((set : spec.Set) (collect : Bool) → is_lawful_set set ≡ true
         → texts_of words.now ≢ spelled_set set ∷ collect_words collect)) }
 {
@@ -174,8 +174,8 @@ fn fence_of<'a>(alloc: Global, words: &[&'a [u8]]) -> Result<Option<CallLine<'a>
 
 /// The end of one publish, or of all, by the words after its verb.
 fn unpublish_of<'a>(alloc: Global, words: &[&'a [u8]]) -> Result<Option<CallLine<'a>>, AllocError>
-    ensures found { IfOk result (λ o. IfSome o (λ c. (first_of_call (call_by c) ≡ codes "unpublish")
-        × (texts_of words.now ≡ others_of_call (call_by c)) × (is_lawful_call (call_by c) ≡ true))) }
+    ensures found { IfOk result (λ o. IfSome o (λ c. (first_of_call (view_call c) ≡ codes "unpublish")
+        × (texts_of words.now ≡ others_of_call (view_call c)) × (is_lawful_call (view_call c) ≡ true))) }
     ensures none { IfOk result (λ o. IfNone o ((call : spec.Call) → first_of_call call ≡ codes "unpublish"
         → is_lawful_call call ≡ true → texts_of words.now ≢ others_of_call call)) }
 {
@@ -194,8 +194,8 @@ fn get_of<'a>(
     is_now: bool,
     words: &[&'a [u8]],
 ) -> Result<Option<CallLine<'a>>, AllocError>
-    ensures found { IfOk result (λ o. IfSome o (λ c. (first_of_call (call_by c) ≡ text_of_verb (get_verb is_now))
-        × (texts_of words.now ≡ others_of_call (call_by c)) × (is_lawful_call (call_by c) ≡ true))) }
+    ensures found { IfOk result (λ o. IfSome o (λ c. (first_of_call (view_call c) ≡ text_of_verb (get_verb is_now))
+        × (texts_of words.now ≡ others_of_call (view_call c)) × (is_lawful_call (view_call c) ≡ true))) }
     ensures none { IfOk result (λ o. IfNone o ((owner : spec.Proc) (key : spec.Key) → is_lawful_proc owner ≡ true
         → is_lawful_key key ≡ true → texts_of words.now ≢ spelled_proc owner ∷ spelled_key key ∷ [])) }
 {
@@ -213,8 +213,8 @@ fn get_of<'a>(
 
 /// The publish, by the words after its verb.
 fn publish_of<'a>(alloc: Global, words: &[&'a [u8]]) -> Result<Option<CallLine<'a>>, AllocError>
-    ensures found { IfOk result (λ o. IfSome o (λ c. (first_of_call (call_by c) ≡ codes "publish")
-        × (texts_of words.now ≡ others_of_call (call_by c)) × (is_lawful_call (call_by c) ≡ true))) }
+    ensures found { IfOk result (λ o. IfSome o (λ c. (first_of_call (view_call c) ≡ codes "publish")
+        × (texts_of words.now ≡ others_of_call (view_call c)) × (is_lawful_call (view_call c) ≡ true))) }
     ensures none { IfOk result (λ o. IfNone o ((name : spec.Key) (value : List ℕ) → is_lawful_key name ≡ true
         → plan.is_word value ≡ true → texts_of words.now ≢ spelled_key name ∷ value ∷ [])) }
 {
@@ -230,8 +230,8 @@ fn lookup_of<'a>(
     waits: bool,
     words: &[&'a [u8]],
 ) -> Result<Option<CallLine<'a>>, AllocError>
-    ensures found { IfOk result (λ o. IfSome o (λ c. (first_of_call (call_by c) ≡ text_of_verb (lookup_verb waits))
-        × (texts_of words.now ≡ others_of_call (call_by c)) × (is_lawful_call (call_by c) ≡ true))) }
+    ensures found { IfOk result (λ o. IfSome o (λ c. (first_of_call (view_call c) ≡ text_of_verb (lookup_verb waits))
+        × (texts_of words.now ≡ others_of_call (view_call c)) × (is_lawful_call (view_call c) ≡ true))) }
     ensures none { IfOk result (λ o. IfNone o ((name : spec.Key) → is_lawful_key name ≡ true
         → texts_of words.now ≢ spelled_key name ∷ [])) }
 {
@@ -253,8 +253,8 @@ pub fn call_of<'a>(
     verb: Verb,
     words: &[&'a [u8]],
 ) -> Result<Option<CallLine<'a>>, AllocError>
-    ensures found { IfOk result (λ o. IfSome o (λ c. (first_of_call (call_by c) ≡ text_of_verb verb)
-        × (texts_of words.now ≡ others_of_call (call_by c)) × (is_lawful_call (call_by c) ≡ true))) }
+    ensures found { IfOk result (λ o. IfSome o (λ c. (first_of_call (view_call c) ≡ text_of_verb verb)
+        × (texts_of words.now ≡ others_of_call (view_call c)) × (is_lawful_call (view_call c) ≡ true))) }
     ensures none { IfOk result (λ o. IfNone o ((call : spec.Call) → first_of_call call ≡ text_of_verb verb
         → is_lawful_call call ≡ true → texts_of words.now ≢ others_of_call call)) }
 {

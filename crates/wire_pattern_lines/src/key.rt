@@ -4,7 +4,7 @@ ghost use Rattle.std.specs.Prelude.{◌≡◌, ◌≢◌, ◌==◌, ◌++◌, �
 ghost use Rattle.std.specs.List.{list_all};
 ghost use Rattle.wire_pattern_lines.specs.Said as spec;
 ghost use Rattle.wire_pattern_lines.specs.Said.{spelled_key, is_lawful_key};
-ghost use Rattle.wire_pattern_lines.specs.Shown.{key_by};
+ghost use Rattle.wire_pattern_lines.specs.Views.{key_by};
 
 use crate::procs::{Proc, procs_in};
 use crate::word::is_base;

@@ -5,7 +5,7 @@ ghost use Rattle.std.specs.List.{list_all, join_with_byte};
 ghost use Rattle.wire_types.specs.Texts.{texts_of};
 ghost use Rattle.wire_pattern_lines.specs.Said as spec;
 ghost use Rattle.wire_pattern_lines.specs.Said.{spelled_proc, is_lawful_proc};
-ghost use Rattle.wire_pattern_lines.specs.Shown.{proc_by};
+ghost use Rattle.wire_pattern_lines.specs.Views.{proc_by};
 
 use crate::word::is_role_name;
 use std::alloc::{AllocError, Global};

@@ -5,7 +5,7 @@ ghost use Rattle.std.specs.List.{list_all};
 ghost use Rattle.wire_types.specs.Texts.{texts_of};
 ghost use Rattle.wire_pattern_lines.specs.Said as spec;
 ghost use Rattle.wire_pattern_lines.specs.Said.{spelled_item, spelled_set, is_lawful_item, is_lawful_set};
-ghost use Rattle.wire_pattern_lines.specs.Shown.{item_by, set_by};
+ghost use Rattle.wire_pattern_lines.specs.Views.{view_item, set_by};
 
 use crate::procs::{Proc, proc_of};
 use crate::word::is_bare_name;
@@ -59,7 +59,7 @@ fn before_star(word: &[u8]) -> Option<&[u8]>
 /// What an item names.
 fn item_of(word: &[u8]) -> Option<Item<'_>>
     ensures found { IfSome result
-        (λ i. (word.now ≡ spelled_item (item_by i)) × (is_lawful_item (item_by i) ≡ true)) }
+        (λ i. (word.now ≡ spelled_item (view_item i)) × (is_lawful_item (view_item i) ≡ true)) }
     ensures none { IfNone result ((i : spec.Item) → is_lawful_item i ≡ true → word.now ≢ spelled_item i) }
 {
     if let Some(proc) = proc_of(word) {
@@ -77,8 +77,8 @@ fn item_of(word: &[u8]) -> Option<Item<'_>>
 
 /// The items that the parts are, where each is one.
 fn items_of<'a>(alloc: Global, parts: &[&'a [u8]]) -> Result<Option<Vec<Item<'a>>>, AllocError>
-    ensures found { IfOk result (λ o. IfSome o (λ v. (map spelled_item (map item_by v.items) ≡ texts_of parts.now)
-        × (list_all is_lawful_item (map item_by v.items) ≡ true))) }
+    ensures found { IfOk result (λ o. IfSome o (λ v. (map spelled_item (map view_item v.items) ≡ texts_of parts.now)
+        × (list_all is_lawful_item (map view_item v.items) ≡ true))) }
     ensures none { IfOk result (λ o. IfNone o ((items : List spec.Item) → list_all is_lawful_item items ≡ true
         → texts_of parts.now ≢ map spelled_item items)) }
 {

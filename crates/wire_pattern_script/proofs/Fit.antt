@@ -10,10 +10,10 @@ use borrow.Author.Tests.{ltb-true, leb-true, lt-ltb, le-leb}
 use Rattle.wire_types.specs.declared.Fault.{Fault}
 use Rattle.wire_types.specs.declared.Fault.TheVariants.{TooLong, BadLine, Twice, TooMany}
 use Rattle.wire_lines.proofs.Colon.{and_left, and_right}
-use Rattle.wire_content.specs.Scripts.{text_at}
-use Rattle.wire_content.specs.Apart.{AreApart}
-use Rattle.wire_script.specs.Statements.{Statement}
-use Rattle.wire_script.specs.FirstPass.{Name, is_among, is_short_name}
+use Rattle.wire_scripts.specs.Scripts.{text_at}
+use Rattle.wire_scripts.specs.Apart.{AreDistinct}
+use Rattle.wire_reader.specs.Statements.{Statement}
+use Rattle.wire_reader.specs.FirstPass.{Name, is_among, is_short_name}
 use Rattle.wire_pattern.specs.Pattern.{JobLine}
 use Rattle.wire_pattern.specs.Lawful.{is_plain_name, is_plain_byte}
 use Rattle.wire_types.specs.Said.{is_name}
@@ -114,7 +114,7 @@ at_end : (texts : List Name) (t : Name) → text_at (texts ++ t ∷ []) (length 
 at_end [] t = refl
 at_end (x ∷ texts) t = at_end texts t
 
-apart_more : (texts : List Name) (t : Name) → AreApart texts → is_among texts t ≡ false → AreApart (texts ++ t ∷ [])
+apart_more : (texts : List Name) (t : Name) → AreDistinct texts → is_among texts t ≡ false → AreDistinct (texts ++ t ∷ [])
 apart_more texts t apart new m n lm ln e =
     elim (cases_lt m (length texts)) [
       | inl a ↦ elim (cases_lt n (length texts)) [
@@ -148,7 +148,7 @@ fit_role d line name single least f some room named short new few =
       named_jobs = f.named_jobs;
       jobs_apart = f.jobs_apart;
       named_roles = rw names (all_more is_plain_name (role_names d) name f.named_roles (plain name (and_left _ _ named) short));
-      roles_apart = subst AreApart (sym names) (apart_more (role_names d) name f.roles_apart new);
+      roles_apart = subst AreDistinct (sym names) (apart_more (role_names d) name f.roles_apart new);
       in_jobs = rw (map-append (λ (r : RoleLines). r.job) d.roles (role ∷ [])) (all_more (λ j. nat_lt j (length d.jobs)) (role_jobs d) (length d.jobs - 1) f.in_jobs job_below);
       rising = rw (map-append (λ (r : RoleLines). r.job) d.roles (role ∷ [])) (rising_more 0 (length d.jobs - 1) (role_jobs d) f.rising (omega arith) (below_most (length d.jobs) (role_jobs d) f.in_jobs));
       least = all_more has_least d.roles role f.least few;
@@ -164,7 +164,7 @@ fit_step d s o f fit lines = record {
   named_jobs = f.named_jobs;
   jobs_apart = f.jobs_apart;
   named_roles = rw (map_step (λ (r : RoleLines). r.name) (λ r steps. refl) d.roles s) f.named_roles;
-  roles_apart = subst AreApart (sym (map_step (λ (r : RoleLines). r.name) (λ r steps. refl) d.roles s)) f.roles_apart;
+  roles_apart = subst AreDistinct (sym (map_step (λ (r : RoleLines). r.name) (λ r steps. refl) d.roles s)) f.roles_apart;
   in_jobs = rw (map_step (λ (r : RoleLines). r.job) (λ r steps. refl) d.roles s) f.in_jobs;
   rising = rw (map_step (λ (r : RoleLines). r.job) (λ r steps. refl) d.roles s) f.rising;
   least = all_step has_least (λ r steps. refl) d.roles s f.least;
@@ -222,7 +222,7 @@ fit_after d line (Job name) lawful place short new room f =
       few_jobs = omega arith;
       few_roles = f.few_roles;
       named_jobs = rw names (all_more is_plain_name (job_names d) name f.named_jobs (plain name lawful short));
-      jobs_apart = subst AreApart (sym names) (apart_more (job_names d) name f.jobs_apart new);
+      jobs_apart = subst AreDistinct (sym names) (apart_more (job_names d) name f.jobs_apart new);
       named_roles = f.named_roles;
       roles_apart = f.roles_apart;
       in_jobs = rw more (below_more (length d.jobs) (role_jobs d) f.in_jobs);

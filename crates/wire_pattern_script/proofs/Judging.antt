@@ -2,7 +2,7 @@
 use Rattle.std.proofs.Common.{◌≡◌, refl, ℕ, List, ◌∷◌, Result, Err, ◌⊎◌, inl, inr}
 use Rattle.wire_types.specs.declared.Fault.{Fault}
 use Rattle.wire_types.specs.declared.Fault.TheVariants.{Memory}
-use Rattle.wire_script.specs.Statements.{Statement}
+use Rattle.wire_reader.specs.Statements.{Statement}
 use Rattle.wire_pattern_script.specs.FirstPass.{Declared, Judges, JudgesAll}
 
 -- a line that is refused ends all

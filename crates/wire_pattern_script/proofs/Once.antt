@@ -2,7 +2,7 @@
 use Rattle.std.proofs.Common.{◌≡◌, ◌∙◌, ap, sym, subst, ℕ, List, [], ◌∷◌, length, Result, Ok, Err, MatchResult, inl, inr, arith}
 use Rattle.wire_types.specs.declared.Fault.{Fault}
 use Rattle.wire_lines.specs.Text.{lines_of}
-use Rattle.wire_script.specs.Statements.{Statement, statements}
+use Rattle.wire_reader.specs.Statements.{Statement, statements}
 use Rattle.wire_pattern.specs.Pattern.{Pattern}
 use Rattle.wire_pattern_lines.proofs.SaysOnce.{says_once}
 use Rattle.wire_pattern_script.specs.FirstPass.{Declared, nothing, judged, Judges, JudgesAll, FirstPass}

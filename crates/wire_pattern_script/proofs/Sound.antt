@@ -9,17 +9,17 @@ use Rattle.wire_types.specs.declared.Fault.{Fault}
 use Rattle.wire_types.specs.declared.Fault.TheVariants.{BadLine, UnknownName, NotMember}
 use Rattle.wire_types.specs.Said.{is_word}
 use Rattle.wire_lines.proofs.Colon.{and_left, and_right}
-use Rattle.wire_content.specs.Apart.{AreApart}
+use Rattle.wire_scripts.specs.Apart.{AreDistinct}
 use Rattle.wire_runs.specs.Patterns.{Who, Only, Turns}
-use Rattle.wire_script.specs.Reads.{first_of}
+use Rattle.wire_reader.specs.Reads.{first_of}
 use Rattle.wire_pattern.specs.Pattern.{One, Group, Call, Line, Step, Once, Loop, Role, JobLine, Pattern}
 use Rattle.wire_pattern.specs.declared.pattern.Job.{Job as CodeJob}
 use Rattle.wire_pattern.specs.declared.pattern.Role.{Role as CodeRole}
-use Rattle.wire_pattern.specs.Shown.{job_by, role_by}
+use Rattle.wire_pattern.specs.Views.{job_by, role_by}
 use Rattle.wire_pattern.specs.Instances.{job_in}
-use Rattle.wire_pattern.specs.Lawful.{is_base, is_plain_name, whos_in_item, is_each, names_each, is_known, is_member_call, has_words, is_commit, is_loop_call, has_commit, waits_after_all, waits_after_step, is_sound_call, is_sound_step, are_sound_steps, HasLeast, IsSound}
+use Rattle.wire_pattern.specs.Lawful.{is_base, is_plain_name, whos_in_item, is_each, names_each, names_known, is_member_call, has_words, is_commit, is_loop_call, has_commit, waits_after_all, waits_after_step, is_sound_call, is_sound_step, are_sound_steps, HasLawfulLeast, IsSoundPattern}
 use Rattle.wire_pattern_lines.specs.Said as said
-use Rattle.wire_pattern_script.specs.FirstPass.{Placed, LoopLines, StepLines, OnceLine, LoopOf, RoleLines, Declared}
+use Rattle.wire_pattern_script.specs.FirstPass.{LocatedCall, LoopLines, StepLines, OnceLine, LoopOf, RoleLines, Declared}
 use Rattle.wire_pattern_script.specs.Numbers.{who_of, is_single_lines, role_number, item_of, call_of, line_of, loop_of, steps_of, role_of, pattern_of}
 use Rattle.wire_pattern_script.specs.Fit.{is_fit_line, is_fit_turn, is_fit_step, has_fit_steps, has_least, are_rising, IsFit}
 use Rattle.wire_pattern_script.specs.Faults.{first_fault, is_declared, fits_loop, line_fault, turn_fault, step_fault, scripts_fault, commit_line, bad_if, commit_fault, commits_fault, third_fault, roles_fault, pattern_fault}
@@ -105,16 +105,16 @@ module _ (d : Declared) where
   words_fit job (said.Unpublish k) l = word_alone k l
   words_fit job said.UnpublishAll l = refl
 
-  once_fit : (job : ℕ) (line : Placed) → is_fit_line line ≡ true → has_fit_words (Once (line_of d job line)) ≡ true
+  once_fit : (job : ℕ) (line : LocatedCall) → is_fit_line line ≡ true → has_fit_words (Once (line_of d job line)) ≡ true
   once_fit job line fit =
       both (has_words (call_of d job line.1)) _ (words_fit job line.1 (and_left _ _ fit)) (ap not (each_same job line.1) ∙ and_right _ _ fit)
 
-  turn_fit : (job : ℕ) (line : Placed) → is_fit_turn line ≡ true → is_turn_of_loop (line_of d job line) ≡ true
+  turn_fit : (job : ℕ) (line : LocatedCall) → is_fit_turn line ≡ true → is_turn_of_loop (line_of d job line) ≡ true
   turn_fit job line fit =
       both (has_words (call_of d job line.1)) _ (words_fit job line.1 (and_left _ _ fit))
       (ap (λ b. b || names_each (call_of d job line.1)) (commit_same job line.1) ∙ ap (λ b. said.is_commit line.1 || b) (each_same job line.1) ∙ and_right _ _ fit)
 
-  turns_fit : (job : ℕ) (lines : List Placed) → list_all is_fit_turn lines ≡ true → list_all is_turn_of_loop (map (line_of d job) lines) ≡ true
+  turns_fit : (job : ℕ) (lines : List LocatedCall) → list_all is_fit_turn lines ≡ true → list_all is_turn_of_loop (map (line_of d job) lines) ≡ true
   turns_fit job [] fit = refl
   turns_fit job (line ∷ lines) fit =
       both (is_turn_of_loop (line_of d job line)) _ (turn_fit job line (and_left _ _ fit)) (turns_fit job lines (and_right _ _ fit))
@@ -145,11 +145,11 @@ module _ (jobs : ℕ) (roles : List Role) (caller : ℕ) where
   no_fault true true true true n h = (refl, refl, refl)
 
   line_none : (fits : Bool) (line : Line) → line_fault jobs roles caller fits line ≡ None
-      → (is_known jobs roles line.call ≡ true) × (fits ≡ true) × (is_member_call roles caller line.call ≡ true)
-  line_none fits line h = no_fault (is_declared jobs (length roles) line.call) (is_known jobs roles line.call) fits (is_member_call roles caller line.call) line.number h
+      → (names_known jobs roles line.call ≡ true) × (fits ≡ true) × (is_member_call roles caller line.call ≡ true)
+  line_none fits line h = no_fault (is_declared jobs (length roles) line.call) (names_known jobs roles line.call) fits (is_member_call roles caller line.call) line.number h
 
-  call_sound : (c : Call) → has_words c ≡ true → is_known jobs roles c ≡ true → is_member_call roles caller c ≡ true → is_sound_call jobs roles caller c ≡ true
-  call_sound c w k m = both (has_words c) _ w (both (is_known jobs roles c) _ k m)
+  call_sound : (c : Call) → has_words c ≡ true → names_known jobs roles c ≡ true → is_member_call roles caller c ≡ true → is_sound_call jobs roles caller c ≡ true
+  call_sound c w k m = both (has_words c) _ w (both (names_known jobs roles c) _ k m)
 
   turn_sound : (group : ℕ) (turns : Turns) (line : Line) → is_turn_of_loop line ≡ true → turn_fault jobs roles caller group turns line ≡ None
       → (is_sound_call jobs roles caller line.call && is_loop_call roles group turns line.call) ≡ true
@@ -261,7 +261,7 @@ least_of single least h = (λ is. eqb-true least 1 (go single is (and_right _ _ 
     go true e g = g
     go false e g = absurd (true≢false (sym e))
 
-pub declared_sound : (d : Declared) → IsFit d → pattern_fault (pattern_of d) ≡ None → IsSound (pattern_of d)
+pub declared_sound : (d : Declared) → IsFit d → pattern_fault (pattern_of d) ≡ None → IsSoundPattern (pattern_of d)
 declared_sound d f none =
     let p = pattern_of d in
     let n = first_none _ _ none in
@@ -269,11 +269,11 @@ declared_sound d f none =
       job_names = all_of (λ (j : JobLine). j.name) is_plain_name d.jobs ∙ f.named_jobs;
       jobs_apart = f.jobs_apart;
       role_names = sym (all_of (role_of d) (λ (r : Role). is_plain_name r.name) d.roles) ∙ all_of (λ (r : RoleLines). r.name) is_plain_name d.roles ∙ f.named_roles;
-      roles_apart = subst AreApart (sym (names_mapped d d.roles)) f.roles_apart;
+      roles_apart = subst AreDistinct (sym (names_mapped d d.roles)) f.roles_apart;
       in_jobs = sym (all_of (role_of d) (λ (r : Role). nat_lt r.job (length d.jobs)) d.roles) ∙ all_of (λ (r : RoleLines). r.job) (λ j. nat_lt j (length d.jobs)) d.roles ∙ f.in_jobs;
       together = λ r s le lt. rising_get 0 p.roles r s (ap (are_rising 0) (jobs_mapped d d.roles) ∙ f.rising) le lt;
       least = λ r role e. (let got = got_mapped (role_of d) d.roles r role e in
-          subst HasLeast (sym got.2) (least_of got.0.single got.0.least (all_get has_least d.roles r got.0 f.least got.1)));
+          subst HasLawfulLeast (sym got.2) (least_of got.0.single got.0.least (all_get has_least d.roles r got.0 f.least got.1)));
       steps = λ r role e. (let got = got_mapped (role_of d) d.roles r role e in
           let fit = all_get has_fit_steps d.roles r got.0 f.steps got.1 in
           let here : 0 + r ≡ r = omega arith in
@@ -289,10 +289,10 @@ declared_sound d f none =
 
 -- the same of its parts as the code has them
 pub numbered_sound : (d : Declared) (jobs : List CodeJob) (roles : List CodeRole) (n : ℕ) → IsFit d → map job_by jobs ≡ (pattern_of d).jobs → map role_by roles ≡ (pattern_of d).roles
-    → n ≡ length jobs → None ≡ roles_fault n (map role_by roles) → IsSound (record { keeps = d.keeps; jobs = map job_by jobs; roles = map role_by roles })
+    → n ≡ length jobs → None ≡ roles_fault n (map role_by roles) → IsSoundPattern (record { keeps = d.keeps; jobs = map job_by jobs; roles = map role_by roles })
 numbered_sound d jobs roles n f ej er len h =
     let count : n ≡ length (pattern_of d).jobs = len ∙ sym (length-map jobs job_by) ∙ ap length ej in
     let none : pattern_fault (pattern_of d) ≡ None = ap (λ k. roles_fault k (pattern_of d).roles) (sym count) ∙ ap (roles_fault n) (sym er) ∙ sym h in
     let got : Pattern = record { keeps = d.keeps; jobs = map job_by jobs; roles = map role_by roles } in
     let same : got ≡ pattern_of d = λ t. record { keeps = d.keeps; jobs = ej t; roles = er t } in
-    subst IsSound (sym same) (declared_sound d f none)
+    subst IsSoundPattern (sym same) (declared_sound d f none)

@@ -2,11 +2,11 @@
 use Rattle.std.specs.Prelude.{ℕ, map, option_map}
 use Rattle.wire_types.specs.Texts.{texts_of}
 use Rattle.wire_pattern.specs.Pattern.{JobLine}
-use Rattle.wire_pattern.specs.Shown.{turns_by}
+use Rattle.wire_pattern.specs.Views.{turns_by}
 use Rattle.wire_pattern_lines.specs.Said.{Call}
-use Rattle.wire_pattern_lines.specs.Shown.{call_by}
+use Rattle.wire_pattern_lines.specs.Views.{view_call}
 use Rattle.wire_pattern_script.specs.FirstPass as pass
-use Rattle.wire_pattern_script.specs.declared.draft.Placed.{Placed}
+use Rattle.wire_pattern_script.specs.declared.draft.LocatedCall.{LocatedCall}
 use Rattle.wire_pattern_script.specs.declared.draft.LoopDraft.{LoopDraft}
 use Rattle.wire_pattern_script.specs.declared.draft.StepDraft.{StepDraft}
 use Rattle.wire_pattern_script.specs.declared.draft.StepDraft.TheVariants.{Once, Loop}
@@ -14,8 +14,8 @@ use Rattle.wire_pattern_script.specs.declared.draft.RoleDraft.{RoleDraft}
 use Rattle.wire_pattern_script.specs.declared.draft.JobDraft.{JobDraft}
 use Rattle.wire_pattern_script.specs.declared.draft.Draft.{Draft}
 
-abbrev pub placed_of : Placed → ℕ × Call
-placed_of p = (p.number, call_by p.call)
+abbrev pub placed_of : LocatedCall → ℕ × Call
+placed_of p = (p.number, view_call p.call)
 
 abbrev pub loop_of : LoopDraft → pass.LoopLines
 loop_of l = record { number = l.number; turns = turns_by l.turns; roles = texts_of l.roles.items; lines = map placed_of l.lines.items }

@@ -5,9 +5,9 @@ use Rattle.std.specs.List.{list_all, list_any}
 use Rattle.wire_types.specs.declared.Fault.{Fault}
 use Rattle.wire_types.specs.declared.Fault.TheVariants.{BadLine, UnknownName, NotMember}
 use Rattle.wire_runs.specs.Patterns.{Who, Only, Self, Each, Turns}
-use Rattle.wire_script.specs.Reads.{first_of}
+use Rattle.wire_reader.specs.Reads.{first_of}
 use Rattle.wire_pattern.specs.Pattern.{Item, One, Group, Job, Call, Line, Step, Once, Loop, Role, Pattern}
-use Rattle.wire_pattern.specs.Lawful.{whos_in, items_in, is_known, is_member_call, has_role, is_turn_call, is_commit}
+use Rattle.wire_pattern.specs.Lawful.{whos_in, items_in, names_known, is_member_call, has_role, is_turn_call, is_commit}
 use Rattle.wire_pattern.specs.Lawful.{waits_after_all, waits_after_step}
 
 -- the first fault of a list of parts
@@ -41,7 +41,7 @@ fits_loop roles group turns call = not (list_any (has_role roles group) (items_i
 abbrev pub line_fault : ℕ → List Role → ℕ → Bool → Line → Option Fault
 line_fault jobs roles caller fits line =
     if not (is_declared jobs (length roles) line.call) then Some (UnknownName line.number)
-    else if not (is_known jobs roles line.call && fits) then Some (BadLine line.number)
+    else if not (names_known jobs roles line.call && fits) then Some (BadLine line.number)
     else if not (is_member_call roles caller line.call) then Some (NotMember line.number)
     else None
 

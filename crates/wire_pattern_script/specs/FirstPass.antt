@@ -7,8 +7,8 @@ use Rattle.std.specs.Str.{bytes_eq}
 use Rattle.wire_types.specs.declared.Fault.{Fault}
 use Rattle.wire_types.specs.declared.Fault.TheVariants.{TooLong, BadHeader, BadLine, Twice, TooMany}
 use Rattle.wire_runs.specs.Patterns.{Turns}
-use Rattle.wire_script.specs.FirstPass.{Name, is_among, is_short_name, is_short_value}
-use Rattle.wire_script.specs.Statements.{Statement}
+use Rattle.wire_reader.specs.FirstPass.{Name, is_among, is_short_name, is_short_value}
+use Rattle.wire_reader.specs.Statements.{Statement}
 use Rattle.wire_pattern.specs.Pattern.{JobLine}
 use Rattle.wire_pattern_lines.specs.Said.{Proc, Caller, Each, Named, Key, Item, One, Every, Set, Own, Listed}
 use Rattle.wire_pattern_lines.specs.Said.{Call, Put, Commit, Fence, Get, GetNow, Publish, Lookup, LookupWait, Unpublish}
@@ -30,18 +30,18 @@ abbrev pub list_limit : ℕ
 list_limit = 8
 
 -- a call line, with its number
-abbrev pub Placed : Type 0
-Placed = ℕ × Call
+abbrev pub LocatedCall : Type 0
+LocatedCall = ℕ × Call
 
 -- a loop: the number of its line, its turns, the names of its roles, and its call lines
 pub record LoopLines : Type 0 where
   pub number : ℕ
   pub turns : Turns
   pub roles : List Name
-  pub lines : List Placed
+  pub lines : List LocatedCall
 
 pub data StepLines : Type 0 where
-  OnceLine : Placed → StepLines
+  OnceLine : LocatedCall → StepLines
   LoopOf : LoopLines → StepLines
 
 -- a role: the number of its job, its name, whether it is of one process, how many it has at least, the number of its
@@ -176,7 +176,7 @@ with_role d number name single least = record d {
 }
 
 -- one more call: of the loop that is open, or else of the last role
-abbrev pub with_call : Declared → Option LoopLines → Placed → Declared
+abbrev pub with_call : Declared → Option LoopLines → LocatedCall → Declared
 with_call d None call = record d { roles = with_step d.roles (OnceLine call) }
 with_call d (Some l) call = record d { open_loop = Some (record l { lines = l.lines ++ call ∷ [] }) }
 

@@ -2,17 +2,17 @@
 use Rattle.std.specs.Prelude.{◌≡◌, ◌≤◌, ℕ, ◌==◌, ◌&&◌, ◌||◌, Bool, true, not, nat_lt, nat_le, List, [], ◌∷◌, map, length}
 use Rattle.std.specs.Prelude.{Option, Some, None}
 use Rattle.std.specs.List.{list_all}
-use Rattle.wire_content.specs.Apart.{AreApart}
+use Rattle.wire_scripts.specs.Apart.{AreDistinct}
 use Rattle.wire_pattern.specs.Lawful.{is_plain_name}
 use Rattle.wire_pattern_lines.specs.Said.{is_lawful_call, names_each, is_commit}
-use Rattle.wire_pattern_script.specs.FirstPass.{Placed, LoopLines, StepLines, OnceLine, LoopOf, RoleLines, Declared}
+use Rattle.wire_pattern_script.specs.FirstPass.{LocatedCall, LoopLines, StepLines, OnceLine, LoopOf, RoleLines, Declared}
 use Rattle.wire_pattern_script.specs.FirstPass.{job_names, role_names, job_limit, role_limit}
 
 -- a call outside of loops, and in one
-abbrev pub is_fit_line : Placed → Bool
+abbrev pub is_fit_line : LocatedCall → Bool
 is_fit_line line = is_lawful_call line.1 && not (names_each line.1)
 
-abbrev pub is_fit_turn : Placed → Bool
+abbrev pub is_fit_turn : LocatedCall → Bool
 is_fit_turn line = is_lawful_call line.1 && (is_commit line.1 || names_each line.1)
 
 abbrev pub is_fit_step : StepLines → Bool
@@ -41,9 +41,9 @@ pub record IsFit (d : Declared) : Type 0 where
   pub few_jobs : length d.jobs ≤ job_limit
   pub few_roles : length d.roles ≤ role_limit
   pub named_jobs : list_all is_plain_name (job_names d) ≡ true
-  pub jobs_apart : AreApart (job_names d)
+  pub jobs_apart : AreDistinct (job_names d)
   pub named_roles : list_all is_plain_name (role_names d) ≡ true
-  pub roles_apart : AreApart (role_names d)
+  pub roles_apart : AreDistinct (role_names d)
   pub in_jobs : list_all (λ j. nat_lt j (length d.jobs)) (role_jobs d) ≡ true
   pub rising : are_rising 0 (role_jobs d) ≡ true
   pub least : list_all has_least d.roles ≡ true

@@ -2,7 +2,7 @@
 -- all.
 use Rattle.std.specs.Prelude.{ℕ, Bool, true, false, List, [], ◌∷◌, map, flat_map, Option, Some, None, slice_get, if◌then◌else◌}
 use Rattle.wire_runs.specs.Patterns as plan
-use Rattle.wire_script.specs.FirstPass.{Name, number_or_count}
+use Rattle.wire_reader.specs.FirstPass.{Name, number_or_count}
 use Rattle.wire_pattern_lines.specs.Said as said
 use Rattle.wire_pattern.specs.Pattern.{Indexed, Item, One, Group, Job, Call, Put, Commit, Fence, Get, GetNow, Publish}
 use Rattle.wire_pattern.specs.Pattern.{Lookup, LookupWait, Unpublish, UnpublishAll, Line, Step, Once, Loop, Role, Pattern}

@@ -4,9 +4,9 @@ use Rattle.std.specs.Prelude.{Option, Some, None, Result, Ok, Err, MatchResult}
 use Rattle.wire_types.specs.declared.Fault.{Fault}
 use Rattle.wire_types.specs.declared.Fault.TheVariants.{TooLong}
 use Rattle.wire_lines.specs.Text.{lines_of}
-use Rattle.wire_script.specs.Statements.{statements}
-use Rattle.wire_script.specs.Limits.{file_bytes}
-use Rattle.wire_script.specs.declared.limits.Size.TheVariants.{OfVersion}
+use Rattle.wire_reader.specs.Statements.{statements}
+use Rattle.wire_reader.specs.Limits.{file_bytes}
+use Rattle.wire_reader.specs.declared.limits.Size.TheVariants.{OfVersion}
 use Rattle.wire_pattern.specs.Pattern.{Pattern}
 use Rattle.wire_pattern_script.specs.FirstPass.{Declared, FirstPass}
 use Rattle.wire_pattern_script.specs.Numbers.{pattern_of}

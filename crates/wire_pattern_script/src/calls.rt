@@ -5,7 +5,7 @@ ghost use Rattle.std.specs.List.{list_all, list_any};
 ghost use Rattle.wire_pattern.specs.Lawful as pattern;
 ghost use Rattle.wire_pattern.specs.Planned.{single_in};
 ghost use Rattle.wire_pattern.specs.Instances.{job_in};
-ghost use Rattle.wire_pattern.specs.Shown.{who_by, indexed_by, item_by, call_by, role_by, turns_by};
+ghost use Rattle.wire_pattern.specs.Views.{who_by, indexed_by, view_item, view_call, role_by, turns_by};
 ghost use Rattle.wire_pattern_script.specs.Faults as spec;
 
 use wire_pattern::{Call, Indexed, Item, Role, Turns, Who};
@@ -56,7 +56,7 @@ fn is_declared_word(roles: usize, word: &Indexed) -> bool
 
 /// Whether the role or the job of an item is declared.
 fn is_declared_item(jobs: usize, roles: usize, item: &Item) -> bool
-    ensures { result ≡ spec.is_declared_item jobs roles (item_by item.now) }
+    ensures { result ≡ spec.is_declared_item jobs roles (view_item item.now) }
 {
     match item {
         Item::One(who) => is_declared_who(roles, who),
@@ -67,14 +67,14 @@ fn is_declared_item(jobs: usize, roles: usize, item: &Item) -> bool
 
 /// Whether the roles and jobs of these items are declared.
 fn are_declared_items(jobs: usize, roles: usize, items: &[Item]) -> bool
-    ensures { result ≡ list_all (λ i. spec.is_declared_item jobs roles (item_by i)) items.now }
+    ensures { result ≡ list_all (λ i. spec.is_declared_item jobs roles (view_item i)) items.now }
 {
     items.iter().all(|item| is_declared_item(jobs, roles, item))
 }
 
 /// Whether the roles and jobs that a call names are declared.
 pub fn is_declared(jobs: usize, roles: usize, call: &Call) -> bool
-    ensures { result ≡ spec.is_declared jobs roles (call_by call.now) }
+    ensures { result ≡ spec.is_declared jobs roles (view_call call.now) }
 {
     match call {
         Call::Commit | Call::UnpublishAll => true,
@@ -115,7 +115,7 @@ fn is_known_word(roles: &[Role], word: &Indexed) -> bool
 
 /// Whether what an item names is there.
 fn is_known_item(jobs: usize, roles: &[Role], item: &Item) -> bool
-    ensures { result ≡ pattern.is_known_item jobs (map role_by roles.now) (item_by item.now) }
+    ensures { result ≡ pattern.is_known_item jobs (map role_by roles.now) (view_item item.now) }
 {
     match item {
         Item::One(who) => is_known_who(roles, who),
@@ -126,14 +126,14 @@ fn is_known_item(jobs: usize, roles: &[Role], item: &Item) -> bool
 
 /// Whether what these items name is there.
 fn are_known_items(jobs: usize, roles: &[Role], items: &[Item]) -> bool
-    ensures { result ≡ list_all (λ i. pattern.is_known_item jobs (map role_by roles.now) (item_by i)) items.now }
+    ensures { result ≡ list_all (λ i. pattern.is_known_item jobs (map role_by roles.now) (view_item i)) items.now }
 {
     items.iter().all(|item| is_known_item(jobs, roles, item))
 }
 
 /// Whether all that a call names is there, and one process where it stands for one.
 pub fn is_known(jobs: usize, roles: &[Role], call: &Call) -> bool
-    ensures { result ≡ pattern.is_known jobs (map role_by roles.now) (call_by call.now) }
+    ensures { result ≡ pattern.names_known jobs (map role_by roles.now) (view_call call.now) }
 {
     match call {
         Call::Commit | Call::UnpublishAll => true,
@@ -150,7 +150,7 @@ pub fn is_known(jobs: usize, roles: &[Role], call: &Call) -> bool
 
 /// Whether an item has the caller, a process of this role.
 fn has_caller(roles: &[Role], caller: u32, item: &Item) -> bool
-    ensures { result ≡ pattern.has_caller (map role_by roles.now) caller (item_by item.now) }
+    ensures { result ≡ pattern.has_caller (map role_by roles.now) caller (view_item item.now) }
 {
     match item {
         Item::One(Who::Caller) => true,
@@ -163,14 +163,14 @@ fn has_caller(roles: &[Role], caller: u32, item: &Item) -> bool
 
 /// Whether one of these items has the caller, a process of this role.
 fn have_caller(roles: &[Role], caller: u32, items: &[Item]) -> bool
-    ensures { result ≡ list_any (λ i. pattern.has_caller (map role_by roles.now) caller (item_by i)) items.now }
+    ensures { result ≡ list_any (λ i. pattern.has_caller (map role_by roles.now) caller (view_item i)) items.now }
 {
     items.iter().any(|item| has_caller(roles, caller, item))
 }
 
 /// Whether the caller, a process of this role, is in the set of its fence.
 pub fn is_member_call(roles: &[Role], caller: u32, call: &Call) -> bool
-    ensures { result ≡ pattern.is_member_call (map role_by roles.now) caller (call_by call.now) }
+    ensures { result ≡ pattern.is_member_call (map role_by roles.now) caller (view_call call.now) }
 {
     match call {
         Call::Fence { items, .. } => have_caller(roles, caller, items),
@@ -180,7 +180,7 @@ pub fn is_member_call(roles: &[Role], caller: u32, call: &Call) -> bool
 
 /// Whether an item has all processes of the role.
 fn has_role(roles: &[Role], role: u32, item: &Item) -> bool
-    ensures { result ≡ pattern.has_role (map role_by roles.now) role (item_by item.now) }
+    ensures { result ≡ pattern.has_role (map role_by roles.now) role (view_item item.now) }
 {
     match item {
         Item::One(_) => false,
@@ -191,14 +191,14 @@ fn has_role(roles: &[Role], role: u32, item: &Item) -> bool
 
 /// Whether one of these items has all processes of the role.
 fn have_role(roles: &[Role], role: u32, items: &[Item]) -> bool
-    ensures { result ≡ list_any (λ i. pattern.has_role (map role_by roles.now) role (item_by i)) items.now }
+    ensures { result ≡ list_any (λ i. pattern.has_role (map role_by roles.now) role (view_item i)) items.now }
 {
     items.iter().any(|item| has_role(roles, role, item))
 }
 
 /// Whether the set of a fence has an item with all processes of the role.
 fn has_whole(roles: &[Role], role: u32, call: &Call) -> bool
-    ensures { result ≡ list_any (pattern.has_role (map role_by roles.now) role) (pattern.items_in (call_by call.now)) }
+    ensures { result ≡ list_any (pattern.has_role (map role_by roles.now) role) (pattern.items_in (view_call call.now)) }
 {
     match call {
         Call::Fence { items, .. } => have_role(roles, role, items),
@@ -208,7 +208,7 @@ fn has_whole(roles: &[Role], role: u32, call: &Call) -> bool
 
 /// Whether a call may stand in a loop of these turns.
 fn is_turn_call(turns: Turns, call: &Call) -> bool
-    ensures { result ≡ pattern.is_turn_call (turns_by turns) (call_by call.now) }
+    ensures { result ≡ pattern.is_turn_call (turns_by turns) (view_call call.now) }
 {
     match turns {
         Turns::InOrder | Turns::Round => true,
@@ -221,7 +221,7 @@ fn is_turn_call(turns: Turns, call: &Call) -> bool
 
 /// Whether a call may stand in a loop of these turns over this group.
 pub fn fits_loop(roles: &[Role], group: u32, turns: Turns, call: &Call) -> bool
-    ensures { result ≡ spec.fits_loop (map role_by roles.now) group (turns_by turns) (call_by call.now) }
+    ensures { result ≡ spec.fits_loop (map role_by roles.now) group (turns_by turns) (view_call call.now) }
 {
     !has_whole(roles, group, call) && is_turn_call(turns, call)
 }

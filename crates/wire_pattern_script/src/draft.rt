@@ -6,15 +6,15 @@ use wire_pattern::Turns;
 use wire_pattern_lines::CallLine;
 
 /// A call line, with its number.
-pub struct Placed<'a> {
+pub struct LocatedCall<'a> {
     pub number: u64,
     pub call: CallLine<'a>,
 }
 
 // By hand and not derived: so dropping one is a call, and the proof of a function that drops one doesn't take it apart.
-impl Drop for Placed<'_> {
+impl Drop for LocatedCall<'_> {
     fn drop(self) {
-        let Placed { number: _, call: _ } = self;
+        let LocatedCall { number: _, call: _ } = self;
     }
 }
 
@@ -23,7 +23,7 @@ pub struct LoopDraft<'a> {
     pub number: u64,
     pub turns: Turns,
     pub roles: Vec<&'a [u8]>,
-    pub lines: Vec<Placed<'a>>,
+    pub lines: Vec<LocatedCall<'a>>,
 }
 
 // By hand and not derived: so dropping one is a call, and the proof of a function that drops one doesn't take it apart.
@@ -40,7 +40,7 @@ impl Drop for LoopDraft<'_> {
 
 /// A step of a script.
 pub enum StepDraft<'a> {
-    Once(Placed<'a>),
+    Once(LocatedCall<'a>),
     Loop(LoopDraft<'a>),
 }
 

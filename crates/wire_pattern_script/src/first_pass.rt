@@ -6,12 +6,12 @@ ghost use Rattle.std.specs.List.{list_all, list_any};
 ghost use Rattle.std.specs.Str.{bytes_eq};
 ghost use Rattle.wire_types.specs.Texts.{texts_of};
 ghost use Rattle.wire_lines.specs.Text.{lines_of};
-ghost use Rattle.wire_script.specs.FirstPass as plan;
-ghost use Rattle.wire_script.specs.Limits as limit;
-ghost use Rattle.wire_script.specs.declared.limits.Size.TheVariants.{OfVersion};
-ghost use Rattle.wire_script.specs.Statements.{statements};
-ghost use Rattle.wire_script.specs.Left.{statements_left};
-ghost use Rattle.wire_pattern_lines.specs.Shown.{said_by, call_by, item_by, set_by, key_by, proc_by};
+ghost use Rattle.wire_reader.specs.FirstPass as plan;
+ghost use Rattle.wire_reader.specs.Limits as limit;
+ghost use Rattle.wire_reader.specs.declared.limits.Size.TheVariants.{OfVersion};
+ghost use Rattle.wire_reader.specs.Statements.{statements};
+ghost use Rattle.wire_reader.specs.Left.{statements_left};
+ghost use Rattle.wire_pattern_lines.specs.Views.{said_by, view_call, view_item, set_by, key_by, proc_by};
 ghost use Rattle.wire_pattern_lines.specs.Said as said;
 ghost use Rattle.wire_pattern_script.specs.FirstPass as spec;
 ghost use Rattle.wire_pattern_script.specs.FirstPass.{judged, after, nothing, Judges, JudgesAll, FirstPass};
@@ -19,11 +19,11 @@ ghost use Rattle.wire_pattern_script.specs.FirstPass.{job_names, role_names, wit
 ghost use Rattle.wire_pattern_script.specs.FirstPass.{with_role};
 ghost use Rattle.wire_pattern_script.specs.Drafted.{declared_of, role_of, step_of, placed_of, loop_of};
 
-use crate::draft::{Draft, JobDraft, LoopDraft, Placed, RoleDraft, StepDraft};
+use crate::draft::{Draft, JobDraft, LocatedCall, LoopDraft, RoleDraft, StepDraft};
 use crate::limits::{GROUPS, JOBS, LISTED, NAME_BYTES, ROLES, VALUE_BYTES};
 use std::alloc::{AllocError, Global};
 use wire_pattern_lines::{CallLine, Item, Key, Line, Proc, Set, is_header, read_pattern_line};
-use wire_script::Cursor;
+use wire_reader::Cursor;
 use wire_types::Fault;
 
 /// Whether a name is within its limit.
@@ -80,7 +80,7 @@ fn is_short_key(key: &Key) -> bool
 
 /// Whether the name in an item of a set is within its limit.
 fn is_short_item(item: &Item) -> bool
-    ensures { result ≡ spec.is_short_item (item_by item.now) }
+    ensures { result ≡ spec.is_short_item (view_item item.now) }
 {
     match item {
         Item::One(proc) => is_short_proc(proc),
@@ -90,7 +90,7 @@ fn is_short_item(item: &Item) -> bool
 
 /// Whether the names in these items are within their limit.
 fn are_short_items(items: &[Item]) -> bool
-    ensures { result ≡ list_all (λ i. spec.is_short_item (item_by i)) items.now }
+    ensures { result ≡ list_all (λ i. spec.is_short_item (view_item i)) items.now }
 {
     items.iter().all(|item| is_short_item(item))
 }
@@ -107,7 +107,7 @@ fn is_short_set(set: &Set) -> bool
 
 /// Whether the names, the bases and the value of a call are within their limits.
 fn is_short_call(call: &CallLine) -> bool
-    ensures { result ≡ spec.is_short_call (call_by call.now) }
+    ensures { result ≡ spec.is_short_call (view_call call.now) }
 {
     match call {
         CallLine::Put { key, value, .. } => is_short_key(key) && is_short_value(value),
@@ -157,7 +157,7 @@ fn is_indexed_by_each(key: &Key) -> bool
 
 /// Whether an item is the process of the turn.
 fn is_each_item(item: &Item) -> bool
-    ensures { result ≡ said.is_each_item (item_by item.now) }
+    ensures { result ≡ said.is_each_item (view_item item.now) }
 {
     match item {
         Item::One(proc) => is_each(proc),
@@ -167,7 +167,7 @@ fn is_each_item(item: &Item) -> bool
 
 /// Whether one of these items is the process of the turn.
 fn have_each(items: &[Item]) -> bool
-    ensures { result ≡ list_any (λ i. said.is_each_item (item_by i)) items.now }
+    ensures { result ≡ list_any (λ i. said.is_each_item (view_item i)) items.now }
 {
     items.iter().any(|item| is_each_item(item))
 }
@@ -184,7 +184,7 @@ fn is_each_in(set: &Set) -> bool
 
 /// Whether a call names the process of the turn.
 fn names_each(call: &CallLine) -> bool
-    ensures { result ≡ said.names_each (call_by call.now) }
+    ensures { result ≡ said.names_each (view_call call.now) }
 {
     match call {
         CallLine::Commit | CallLine::UnpublishAll => false,
@@ -202,7 +202,7 @@ fn names_each(call: &CallLine) -> bool
 /// Whether a call may stand here: outside of loops where it names no process of a turn, in one where it does, or
 /// commits.
 fn is_turn_right(draft: &Draft, call: &CallLine) -> bool
-    ensures { result ≡ spec.is_turn_right (declared_of draft.now).open_loop (call_by call.now) }
+    ensures { result ≡ spec.is_turn_right (declared_of draft.now).open_loop (view_call call.now) }
 {
     match &draft.open_loop {
         None => !names_each(call),
@@ -410,7 +410,7 @@ fn add_role<'a>(
 }
 
 /// Gives the open loop one more call, or else the last role.
-fn add_call<'a>(draft: &mut Draft<'a>, call: Placed<'a>) -> Result<(), AllocError>
+fn add_call<'a>(draft: &mut Draft<'a>, call: LocatedCall<'a>) -> Result<(), AllocError>
     ensures { OnOk result (declared_of draft.new ≡ with_call (declared_of draft.old) (declared_of draft.old).open_loop (placed_of call.entry)) }
 {
     match &mut draft.open_loop {
@@ -466,7 +466,7 @@ fn add<'a>(
             Ok(())
         }
         Line::End => end_loop(draft),
-        Line::Calls(call) => add_call(draft, Placed { number: line, call }),
+        Line::Calls(call) => add_call(draft, LocatedCall { number: line, call }),
     }
 }
 

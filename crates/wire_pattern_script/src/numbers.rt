@@ -3,15 +3,15 @@
 ghost use Rattle.std.specs.Prelude.{◌≡◌, ◌++◌, map, flat_map, position, slice_get, IfOk, OnOk};
 ghost use Rattle.std.specs.Str.{bytes_eq};
 ghost use Rattle.wire_types.specs.Texts.{texts_of};
-ghost use Rattle.wire_script.specs.FirstPass.{number_or_count};
-ghost use Rattle.wire_pattern.specs.Shown as shown;
-ghost use Rattle.wire_pattern.specs.Shown.{who_by, indexed_by, line_by, step_by, role_by, job_by};
-ghost use Rattle.wire_pattern_lines.specs.Shown.{call_by, item_by, set_by, key_by, proc_by};
+ghost use Rattle.wire_reader.specs.FirstPass.{number_or_count};
+ghost use Rattle.wire_pattern.specs.Views as shown;
+ghost use Rattle.wire_pattern.specs.Views.{who_by, indexed_by, line_by, step_by, role_by, job_by};
+ghost use Rattle.wire_pattern_lines.specs.Views.{view_call, view_item, set_by, key_by, proc_by};
 ghost use Rattle.wire_pattern_script.specs.FirstPass.{job_names};
 ghost use Rattle.wire_pattern_script.specs.Numbers as spec;
 ghost use Rattle.wire_pattern_script.specs.Drafted.{declared_of, role_of, step_of, loop_of, placed_of, job_of};
 
-use crate::draft::{Draft, JobDraft, LoopDraft, Placed, RoleDraft, StepDraft};
+use crate::draft::{Draft, JobDraft, LocatedCall, LoopDraft, RoleDraft, StepDraft};
 use crate::first_pass::{is_job_named, is_role_named};
 use std::alloc::{AllocError, Global};
 use wire_pattern::{Call, Indexed, Item, Job, Line, Role, Step, Who};
@@ -95,7 +95,7 @@ fn is_single(draft: &Draft, role: u32) -> bool
 
 /// A role in a set: its one process, or all of a group.
 fn role_item(draft: &Draft, role: u32) -> Item
-    ensures { shown.item_by result ≡ spec.role_item (declared_of draft.now) role }
+    ensures { shown.view_item result ≡ spec.role_item (declared_of draft.now) role }
 {
     if is_single(draft, role) {
         Item::One(Who::Only(role))
@@ -106,7 +106,7 @@ fn role_item(draft: &Draft, role: u32) -> Item
 
 /// An item of a set with numbers for its names.
 fn item_of(draft: &Draft, item: &ItemLine) -> Item
-    ensures { shown.item_by result ≡ spec.item_of (declared_of draft.now) (item_by item.now) }
+    ensures { shown.view_item result ≡ spec.item_of (declared_of draft.now) (view_item item.now) }
 {
     match item {
         ItemLine::One(Proc::Caller) => Item::One(Who::Caller),
@@ -118,7 +118,7 @@ fn item_of(draft: &Draft, item: &ItemLine) -> Item
 
 /// The items of a list with numbers for their names.
 fn listed_items(alloc: Global, draft: &Draft, items: &[ItemLine]) -> Result<Vec<Item>, AllocError>
-    ensures { IfOk result (λ v. map shown.item_by v.items ≡ map (spec.item_of (declared_of draft.now)) (map item_by items.now)) }
+    ensures { IfOk result (λ v. map shown.view_item v.items ≡ map (spec.item_of (declared_of draft.now)) (map view_item items.now)) }
 {
     let mut numbered = Vec::with_capacity(alloc, items.len())?;
     for item in items {
@@ -130,7 +130,7 @@ fn listed_items(alloc: Global, draft: &Draft, items: &[ItemLine]) -> Result<Vec<
 
 /// The items of a set that a process of this job names.
 fn items_of(alloc: Global, draft: &Draft, job: u32, set: &Set) -> Result<Vec<Item>, AllocError>
-    ensures { IfOk result (λ v. map shown.item_by v.items ≡ spec.items_of (declared_of draft.now) job (set_by set.now)) }
+    ensures { IfOk result (λ v. map shown.view_item v.items ≡ spec.items_of (declared_of draft.now) job (set_by set.now)) }
 {
     match set {
         Set::Own => Vec::from_slice(alloc, &[Item::Job(job)]),
@@ -146,7 +146,7 @@ fn get_of(
     owner: &Proc,
     key: &Key,
 ) -> Result<Call, AllocError>
-    ensures { IfOk result (λ c. shown.call_by c ≡ spec.get_of (declared_of draft.now) is_now (proc_by owner.now) (key_by key.now)) }
+    ensures { IfOk result (λ c. shown.view_call c ≡ spec.get_of (declared_of draft.now) is_now (proc_by owner.now) (key_by key.now)) }
 {
     let key = indexed_of(alloc, draft, key)?;
     let owner = who_of(draft, owner);
@@ -159,7 +159,7 @@ fn get_of(
 
 /// A call of a process of this job with numbers for its names.
 fn call_of(alloc: Global, draft: &Draft, job: u32, call: &CallLine) -> Result<Call, AllocError>
-    ensures { IfOk result (λ c. shown.call_by c ≡ spec.call_of (declared_of draft.now) job (call_by call.now)) }
+    ensures { IfOk result (λ c. shown.view_call c ≡ spec.call_of (declared_of draft.now) job (view_call call.now)) }
 {
     match call {
         CallLine::Put { scope, key, value } => {
@@ -195,7 +195,7 @@ fn call_of(alloc: Global, draft: &Draft, job: u32, call: &CallLine) -> Result<Ca
 }
 
 /// A line of a process of this job with numbers for its names.
-fn line_of(alloc: Global, draft: &Draft, job: u32, line: &Placed) -> Result<Line, AllocError>
+fn line_of(alloc: Global, draft: &Draft, job: u32, line: &LocatedCall) -> Result<Line, AllocError>
     ensures { IfOk result (λ l. line_by l ≡ spec.line_of (declared_of draft.now) job (placed_of line.now)) }
 {
     let call = call_of(alloc, draft, job, &line.call)?;
@@ -210,7 +210,7 @@ fn numbered_lines(
     alloc: Global,
     draft: &Draft,
     job: u32,
-    lines: &[Placed],
+    lines: &[LocatedCall],
 ) -> Result<Vec<Line>, AllocError>
     ensures { IfOk result (λ v. map line_by v.items ≡ map (spec.line_of (declared_of draft.now) job) (map placed_of lines.now)) }
 {

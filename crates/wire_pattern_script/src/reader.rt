@@ -1,7 +1,7 @@
 //! From bytes to a pattern.
 
 ghost use Rattle.std.specs.Prelude.{◌≡◌, ◌≤◌, ◌<◌, ◌^◌, ◌⊎◌, Ok, Err, length, map, IfOk, IfErr};
-ghost use Rattle.wire_pattern.specs.Shown.{job_by, role_by};
+ghost use Rattle.wire_pattern.specs.Views.{job_by, role_by};
 ghost use Rattle.wire_pattern_script.specs.Reads.{ReadsPattern, ReadsShort, PatternReadsOnce, judged_pattern};
 ghost use Rattle.wire_pattern_script.specs.Reads.{most_bytes};
 ghost use Rattle.wire_pattern_script.specs.Numbers.{pattern_of as numbered_pattern};
@@ -17,7 +17,7 @@ use crate::third_pass::third_fault;
 use std::alloc::{AllocError, Global};
 use wire_lines::line_past;
 use wire_pattern::{Job, Pattern, Role};
-use wire_script::Size;
+use wire_reader::Size;
 use wire_types::Fault;
 
 /// What a pattern's file says: its jobs, and its roles with their scripts. Of the faults of a file the first is given,

@@ -1,7 +1,7 @@
 //! The second pass: each line by all jobs and roles.
 
 ghost use Rattle.std.specs.Prelude.{◌≡◌, ◌+◌, ◌<◌, ◌^◌, map, length};
-ghost use Rattle.wire_pattern.specs.Shown.{line_by, step_by, role_by, turns_by};
+ghost use Rattle.wire_pattern.specs.Views.{line_by, step_by, role_by, turns_by};
 ghost use Rattle.wire_pattern_script.specs.Faults as spec;
 
 use crate::calls::{fits_loop, is_declared, is_known, is_member_call};

@@ -2,7 +2,7 @@
 
 ghost use Rattle.std.specs.Prelude.{◌≡◌, map, false};
 ghost use Rattle.wire_pattern.specs.Lawful as pattern;
-ghost use Rattle.wire_pattern.specs.Shown.{call_by, line_by, step_by, role_by};
+ghost use Rattle.wire_pattern.specs.Views.{view_call, line_by, step_by, role_by};
 ghost use Rattle.wire_pattern_script.specs.Faults as spec;
 
 use wire_pattern::{Call, Line, Role, Step};
@@ -10,7 +10,7 @@ use wire_types::Fault;
 
 /// Whether a put waits for a commit after a call, where it does or doesn't before.
 fn waits_after(waits: bool, call: &Call) -> bool
-    ensures { result ≡ pattern.waits_after waits (call_by call.now) }
+    ensures { result ≡ pattern.waits_after waits (view_call call.now) }
 {
     match call {
         Call::Put { .. } => true,
@@ -42,7 +42,7 @@ fn waits_after_step(waits: bool, step: &Step) -> bool
 
 /// Whether a call is a commit.
 fn is_commit(call: &Call) -> bool
-    ensures { result ≡ pattern.is_commit (call_by call.now) }
+    ensures { result ≡ pattern.is_commit (view_call call.now) }
 {
     matches!(call, Call::Commit)
 }

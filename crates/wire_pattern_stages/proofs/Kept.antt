@@ -16,7 +16,7 @@ use Rattle.wire_pattern.specs.Pattern.{Call, Put, Commit, Fence, Get, GetNow, Pu
 use Rattle.wire_pattern.specs.Planned.{pattern_of, line_of, step_of, steps_in, unless_reserved}
 use Rattle.wire_pattern.specs.Instances.{Cast, cast_of}
 use Rattle.wire_size_laws.specs.Stages as laws
-use Rattle.wire_size_laws.specs.Stages.{Label, Key, is_leave, key_in, labels_from, labels_of}
+use Rattle.wire_size_laws.specs.Stages.{Label, StageKey, is_leave, key_in, labels_from, labels_of}
 use Rattle.wire_reply_laws.specs.Kept.{plan_key, next_of, KeepsStages}
 use Rattle.wire_pattern_stages.specs.declared.labels.Label.{Label as CodeLabel}
 use Rattle.wire_pattern_stages.specs.Lines.{call_labels, turn_labels, loop_labels, steps_labels, rows_labels}
@@ -96,7 +96,7 @@ module _ (p : Pattern) (cast : Cast) (stages : laws.Stages) (roles : List ℕ) (
       ∙ ap (λ w. slice_get (labels_from (cast_of cast) w 0 (script_in (pattern_of p) (slice_get roles v))) at) none
       ∙ ap (λ rs. slice_get (labels_from (cast_of cast) v 0 (script_in (pattern_of p) (slice_get rs v))) at) roles_are
 
-  abbrev key : Event → Key
+  abbrev key : Event → StageKey
   key = plan_key stages (pattern_of p) (cast_of cast) the_plan
 
   key_is : (x : Event) → key_seen stages roles rows the_plan x ≡ key x

@@ -4,7 +4,7 @@ use Rattle.std.specs.Prelude.{slice_get, option_map, option_to_list}
 use Rattle.std.proofs.lemmas.Option.{none-some, same_Some}
 use Rattle.wire_runs.specs.Plan.{Plan, Event, event_of}
 use Rattle.wire_runs.specs.Order.{Edge}
-use Rattle.wire_size_laws.specs.Stages.{Key}
+use Rattle.wire_size_laws.specs.Stages.{StageKey}
 use Rattle.wire_types.specs.declared.place.Event.{Event as CodeEvent}
 use Rattle.wire_plan.specs.Index.{AreSources, source_list, previous_of}
 use Rattle.wire_pattern_stages.specs.Rising.{Goes, AllGo}
@@ -15,7 +15,7 @@ in_front holds None rest one all k z is = all k z is
 in_front holds (Some x) rest one all zero z is = one z is
 in_front holds (Some x) rest one all (suc k) z is = all k z is
 
-previous_goes : (key : Event → Key) (y z : Event) → previous_of y ≡ Some z → Goes key z y
+previous_goes : (key : Event → StageKey) (y z : Event) → previous_of y ≡ Some z → Goes key z y
 previous_goes key y z is = go y.at refl is
   where
     go : (n : ℕ) → y.at ≡ n → previous_of (record { proc = y.proc; at = n }) ≡ Some z → Goes key z y
@@ -25,7 +25,7 @@ previous_goes key y z is = go y.at refl is
         let place : z.at ≡ n = sym (ap (λ (v : Event). v.at) same) in
         inr (sym (ap (λ (v : Event). v.proc) same), omega (arith, at, place))
 
-pub each_goes : (key : Event → Key) (plan : Plan) (y : Event) (previous awaited : Option CodeEvent) (arrivals : List CodeEvent) → AreSources plan y (source_list previous awaited arrivals)
+pub each_goes : (key : Event → StageKey) (plan : Plan) (y : Event) (previous awaited : Option CodeEvent) (arrivals : List CodeEvent) → AreSources plan y (source_list previous awaited arrivals)
     → option_map event_of previous ≡ previous_of y → ((z : Event) → option_map event_of awaited ≡ Some z → Goes key z y) → AllGo key (map event_of arrivals) y
     → (x : Event) → Edge plan x y → Goes key x y
 each_goes key plan y previous awaited arrivals sources before one all x edge =

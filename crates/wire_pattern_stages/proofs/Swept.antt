@@ -1,15 +1,15 @@
 -- Of one selection, and of all.
 use Rattle.std.proofs.Common.{◌≡◌, ap, subst, Ok, Result, Err}
 use Rattle.wire_types.specs.declared.Fault.{Fault}
-use Rattle.wire_content.specs.Scripts.{Scripts}
-use Rattle.wire_content.specs.Planned.{plan_of}
-use Rattle.wire_script.specs.declared.Size.TheVariants.{OfVersion}
-use Rattle.wire_script.specs.Reads.{Reads, ReadsOnce}
+use Rattle.wire_scripts.specs.Scripts.{Scripts}
+use Rattle.wire_scripts.specs.Planned.{plan_of}
+use Rattle.wire_reader.specs.declared.Size.TheVariants.{OfVersion}
+use Rattle.wire_reader.specs.Reads.{Reads, ReadsOnce}
 use Rattle.wire_pattern.specs.Pattern.{Pattern}
 use Rattle.wire_pattern.specs.Planned.{pattern_of}
 use Rattle.wire_pattern.specs.Instances.{Cast, cast_of, instance_text}
 use Rattle.wire_size_laws.specs.Stages.{Stages}
-use Rattle.wire_sweep.specs.Selections.{Selection}
+use Rattle.wire_cutoff.specs.Selections.{Selection}
 use Rattle.wire_pattern_waits.specs.Waits.{alone}
 use Rattle.wire_reply_laws.specs.Kept.{KeepsStages}
 use Rattle.wire_pattern_stages.specs.Staged.{SelectionKeeps}

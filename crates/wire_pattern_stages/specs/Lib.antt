@@ -1,4 +1,4 @@
-pub mod Shown
+pub mod Views
 pub mod Lines
 pub mod Rising
 pub mod Tables

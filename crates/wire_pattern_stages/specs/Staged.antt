@@ -1,14 +1,14 @@
 -- The instance of a selection keeps stages, as its text reads.
 use Rattle.std.specs.Prelude.{Ok}
-use Rattle.wire_content.specs.Scripts.{Scripts}
-use Rattle.wire_content.specs.Planned.{plan_of}
-use Rattle.wire_script.specs.declared.Size.TheVariants.{OfVersion}
-use Rattle.wire_script.specs.Reads.{Reads}
+use Rattle.wire_scripts.specs.Scripts.{Scripts}
+use Rattle.wire_scripts.specs.Planned.{plan_of}
+use Rattle.wire_reader.specs.declared.Size.TheVariants.{OfVersion}
+use Rattle.wire_reader.specs.Reads.{Reads}
 use Rattle.wire_pattern.specs.Pattern.{Pattern}
 use Rattle.wire_pattern.specs.Planned.{pattern_of}
 use Rattle.wire_pattern.specs.Instances.{cast_of, instance_text}
 use Rattle.wire_size_laws.specs.Stages.{Stages}
-use Rattle.wire_sweep.specs.Selections.{Selection}
+use Rattle.wire_cutoff.specs.Selections.{Selection}
 use Rattle.wire_pattern_waits.specs.Waits.{alone}
 use Rattle.wire_reply_laws.specs.Kept.{KeepsStages}
 

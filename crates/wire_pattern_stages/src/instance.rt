@@ -3,13 +3,13 @@
 ghost use Rattle.std.specs.Prelude.{◌≡◌, ◌<◌, true, ℕ, Some, OnOk, IfOk, map, option_map, slice_get, length};
 ghost use Rattle.wire_types.specs.Texts.{lists_of};
 ghost use Rattle.wire_runs.specs.Plan.{event_of, event_count, process_count, kind};
-ghost use Rattle.wire_content.specs.Planned.{plan_of};
+ghost use Rattle.wire_scripts.specs.Planned.{plan_of};
 ghost use Rattle.wire_size_laws.specs.Stages as laws;
-ghost use Rattle.wire_pattern_stages.specs.Shown.{stages_by, key_by, label_by};
+ghost use Rattle.wire_pattern_stages.specs.Views.{stages_by, key_by, label_by};
 ghost use Rattle.wire_pattern_stages.specs.Rising.{Goes, AllGo, IsTold, IsAlong, IsRight, AreRight};
 ghost use Rattle.wire_pattern_stages.specs.Tables as spec;
 ghost use Rattle.wire_pattern_stages.specs.Tables.{view_key};
-ghost use Rattle.wire_pattern_stages.specs.Shown as shown;
+ghost use Rattle.wire_pattern_stages.specs.Views as shown;
 ghost use Rattle.wire_runs.specs.Plan as runs;
 ghost use Rattle.wire_plan.specs.Index.{previous_of};
 

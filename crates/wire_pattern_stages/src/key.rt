@@ -3,7 +3,7 @@
 ghost use Rattle.std.specs.Prelude.{◌≡◌, true};
 ghost use Rattle.wire_size_laws.specs.Stages as laws;
 ghost use Rattle.wire_size_laws.specs.Stages.{IsLess};
-ghost use Rattle.wire_pattern_stages.specs.Shown as spec;
+ghost use Rattle.wire_pattern_stages.specs.Views as spec;
 
 use crate::stage::{By, Stage};
 

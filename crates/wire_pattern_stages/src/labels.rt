@@ -3,14 +3,14 @@
 ghost use Rattle.std.specs.Prelude.{◌≡◌, ◌++◌, ◌<◌, ◌^◌, OnOk, IfOk, map, slice_get, length};
 ghost use Rattle.wire_pattern.specs.Instances.{IsCast};
 ghost use Rattle.wire_pattern.specs.Planned.{steps_in};
-ghost use Rattle.wire_pattern.specs.Shown.{call_by, line_by, step_by};
-ghost use Rattle.wire_instances.specs.Shown.{cast_by};
-ghost use Rattle.wire_pattern_stages.specs.Shown.{label_by};
+ghost use Rattle.wire_pattern.specs.Views.{view_call, line_by, step_by};
+ghost use Rattle.wire_instances.specs.Views.{cast_by};
+ghost use Rattle.wire_pattern_stages.specs.Views.{label_by};
 ghost use Rattle.wire_pattern_stages.specs.Lines as spec;
 ghost use Rattle.wire_pattern_stages.specs.Tables.{rows_by};
 
 use std::alloc::{AllocError, Global};
-use wire_instances::{Cast, Round, turns_of};
+use wire_instances::{Cast, LoopTurns, turns_of};
 use wire_pattern::{Call, Line, Pattern, Step};
 use wire_pattern_waits::Caller;
 
@@ -25,7 +25,7 @@ pub(crate) struct Label {
 
 /// Whether a call is a fence.
 fn is_fence(call: &Call) -> bool
-    ensures { result ≡ spec.is_fence (call_by call.now) }
+    ensures { result ≡ spec.is_fence (view_call call.now) }
 {
     match call {
         Call::Fence { .. } => true,
@@ -36,7 +36,7 @@ fn is_fence(call: &Call) -> bool
 /// Appends the label of each event of a call.
 fn add_call(out: &mut Vec<Label>, label: Label, call: &Call) -> Result<(), AllocError>
     ensures { OnOk result (map label_by out.new.items ≡ map label_by out.old.items
-        ++ spec.call_labels label.step label.line label.each (call_by call.now)) }
+        ++ spec.call_labels label.step label.line label.each (view_call call.now)) }
 {
     out.push(label)?;
     if is_fence(call) {
@@ -104,7 +104,7 @@ fn add_step(
             turns,
             lines,
         } => {
-            let round = Round {
+            let round = LoopTurns {
                 caller: caller.process,
                 step: index,
                 turns: *turns,

@@ -2,12 +2,12 @@
 //! Whether the instances that are judged keep given stages.
 #![tactic(auto)]
 
+mod cutoff;
 mod instance;
 mod key;
 mod labels;
 mod search;
 mod stage;
-mod sweep;
 
+pub use cutoff::{keeps_stages, stages_of};
 pub use stage::{By, LineStages, Stage, Stages};
-pub use sweep::{keeps_stages, stages_of};

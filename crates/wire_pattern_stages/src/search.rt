@@ -2,7 +2,7 @@
 
 ghost use Rattle.std.specs.Prelude.{◌<◌};
 ghost use Rattle.wire_runs.specs.Plan.{event_count};
-ghost use Rattle.wire_content.specs.Planned.{plan_of};
+ghost use Rattle.wire_scripts.specs.Planned.{plan_of};
 
 use crate::instance::{View, is_leave, label_of, role_of};
 use crate::key::{Key, is_less, key_at};

@@ -1,7 +1,7 @@
 //! Stages, as a table of the lines of a pattern.
 
 ghost use Rattle.std.specs.Prelude.{◌≡◌};
-ghost use Rattle.wire_pattern_stages.specs.Shown as spec;
+ghost use Rattle.wire_pattern_stages.specs.Views as spec;
 ghost use Rattle.std.specs.Prelude.{slice_get};
 
 /// By which process the turns of a stage come in order: by none, the caller, the one whose turn it is, or the lower or

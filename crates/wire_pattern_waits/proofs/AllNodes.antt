@@ -10,12 +10,12 @@ use Rattle.wire_runs.specs.Laws.{plain_end}
 use Rattle.wire_runs.specs.Placings.{IsPlacing}
 use Rattle.wire_runs.specs.PlacingLaws.{how_far}
 use Rattle.wire_runs.proofs.PlacingEnds.{ends_alike}
-use Rattle.wire_content.specs.Scripts.{Scripts}
-use Rattle.wire_content.specs.Planned.{plan_of}
-use Rattle.wire_content.specs.Placed.{moved}
-use Rattle.wire_content.proofs.Moved.{as_placing}
+use Rattle.wire_scripts.specs.Scripts.{Scripts}
+use Rattle.wire_scripts.specs.Planned.{plan_of}
+use Rattle.wire_scripts.specs.Placed.{moved}
+use Rattle.wire_scripts.proofs.Moved.{as_placing}
 use Rattle.wire_core.specs.EndsAfter.{plain_ends}
-use Rattle.wire_sweep.specs.Selections.{Selection}
+use Rattle.wire_cutoff.specs.Selections.{Selection}
 use Rattle.wire_pattern_waits.specs.Waits.{alone, StopsIn}
 use Rattle.wire_pattern_waits.specs.AllNodes.{StopsOnAllNodes, StopsOn, WaitsOnAllNodes}
 use Rattle.wire_pattern_waits.proofs.Answered.{row_of, no_row}

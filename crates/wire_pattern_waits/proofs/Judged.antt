@@ -5,9 +5,9 @@ use Rattle.std.proofs.lemmas.Bool.{true≢false, cases_eq}
 use Rattle.std.proofs.lemmas.List.{length-map}
 use Rattle.std.proofs.lemmas.Option.{slice_get-map, slice_get_read, slice_get_within, same_Some}
 use Rattle.wire_pattern.specs.Pattern.{Pattern}
-use Rattle.wire_sweep.specs.declared.selections.Selection.{Selection as CodeSelection}
-use Rattle.wire_sweep.specs.Selections.{Selection, selections}
-use Rattle.wire_sweep.specs.Shown.{selection_by}
+use Rattle.wire_cutoff.specs.declared.selections.Selection.{Selection as CodeSelection}
+use Rattle.wire_cutoff.specs.Selections.{Selection, selections}
+use Rattle.wire_cutoff.specs.Views.{selection_by}
 use Rattle.wire_pattern_waits.proofs.Noted.{or_either, or_left, or_right}
 
 -- a selection of a list is one that is judged

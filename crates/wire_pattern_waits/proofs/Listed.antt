@@ -3,7 +3,7 @@ use Rattle.std.proofs.Common.{◌≡◌, ◌∙◌, ap, sym, ℕ, ◌+◌, ◌<�
 use Rattle.std.proofs.lemmas.List.Elements.{filter-append}
 use Rattle.wire_pattern.specs.declared.step.Step.{Step}
 use Rattle.wire_pattern.specs.declared.pattern.Role.{Role}
-use Rattle.wire_pattern.specs.Shown.{step_by, role_by}
+use Rattle.wire_pattern.specs.Views.{step_by, role_by}
 use Rattle.wire_instances.proofs.Texts.{moved, opened_list}
 use Rattle.wire_pattern_waits.specs.declared.lines.CallLine.{CallLine}
 use Rattle.wire_pattern_waits.specs.Lines.{verbs_in, numbered, roles_lines}

@@ -6,14 +6,14 @@ use Rattle.std.proofs.lemmas.Option.{same_Some}
 use Rattle.std.proofs.lemmas.List.Folds.{list_any-append}
 use Rattle.wire_types.specs.declared.CallEnd.{CallEnd}
 use Rattle.wire_types.specs.declared.CallEnd.TheVariants.{Replied, Waiting, Ready, Unreached}
-use Rattle.wire_content.specs.Scripts.{Scripts}
+use Rattle.wire_scripts.specs.Scripts.{Scripts}
 use Rattle.wire_core.specs.EndsAfter.{plain_ends}
 use Rattle.wire_pattern.specs.Pattern.{Pattern}
 use Rattle.wire_pattern.specs.Planned.{steps_in}
 use Rattle.wire_pattern.specs.Instances.{Cast, cast_of}
 use Rattle.wire_pattern_waits.specs.declared.stops.Stop.{Stop}
 use Rattle.wire_pattern_waits.specs.Places.{steps_places}
-use Rattle.wire_pattern_waits.specs.Stops.{Stops, is_at, is_noted, process_stops, stops_from}
+use Rattle.wire_pattern_waits.specs.StuckAt.{StuckAt, is_at, is_noted, process_stops, stops_from}
 
 pub or_either : (a b : Bool) → (a || b) ≡ true → (a ≡ true) ⊎ (b ≡ true)
 or_either true b h = inl refl
@@ -149,13 +149,13 @@ noted_there p cast v (r ∷ roles) (row ∷ rows) role line (suc n) call has wai
 
 -- in an instance exactly the lines are noted at which a process stands
 pub stops_noted : (p : Pattern) (cast : Cast) (scripts : Scripts) (role line : ℕ)
-    → (is_noted (stops_from p cast 0 (cast_of cast).roles (plain_ends scripts).rows) role line ≡ true) ↔ Stops p cast scripts role line
+    → (is_noted (stops_from p cast 0 (cast_of cast).roles (plain_ends scripts).rows) role line ≡ true) ↔ StuckAt p cast scripts role line
 stops_noted p cast scripts role line = (to, from)
   where
     rows : List (List CallEnd)
     rows = (plain_ends scripts).rows
 
-    to : is_noted (stops_from p cast 0 (cast_of cast).roles rows) role line ≡ true → Stops p cast scripts role line
+    to : is_noted (stops_from p cast 0 (cast_of cast).roles rows) role line ≡ true → StuckAt p cast scripts role line
     to h =
         let s = there_noted p cast 0 (cast_of cast).roles rows role line h in
         record {
@@ -166,13 +166,13 @@ stops_noted p cast scripts role line = (to, from)
           of_line = ap (λ m. slice_get (own_places p cast m role) s.call) (sym (zero-add s.number)) ∙ s.of_line;
         }
 
-    from : Stops p cast scripts role line → is_noted (stops_from p cast 0 (cast_of cast).roles rows) role line ≡ true
+    from : StuckAt p cast scripts role line → is_noted (stops_from p cast 0 (cast_of cast).roles rows) role line ≡ true
     from s =
         noted_there p cast 0 (cast_of cast).roles rows role line s.process s.call s.has_role s.waits
         (ap (λ m. slice_get (own_places p cast m role) s.call) (zero-add s.process) ∙ s.of_line)
 
 pub stops_told : (p : Pattern) (cast : Cast) (scripts : Scripts) (stops : List Stop) (rows : List (List CallEnd)) → stops ≡ stops_from p cast 0 (cast_of cast).roles rows
-    → rows ≡ (plain_ends scripts).rows → (role line : ℕ) → (is_noted stops role line ≡ true) ↔ Stops p cast scripts role line
+    → rows ≡ (plain_ends scripts).rows → (role line : ℕ) → (is_noted stops role line ≡ true) ↔ StuckAt p cast scripts role line
 stops_told p cast scripts stops rows are by role line =
     let both = stops_noted p cast scripts role line in
     let is : stops ≡ stops_from p cast 0 (cast_of cast).roles (plain_ends scripts).rows = are ∙ ap (stops_from p cast 0 (cast_of cast).roles) by in

@@ -8,7 +8,7 @@ use Rattle.wire_types.specs.declared.verb.Verb.{Verb}
 use Rattle.wire_runs.proofs.Lists.{not_in_empty}
 use Rattle.wire_pattern.specs.declared.pattern.Role.{Role}
 use Rattle.wire_pattern.specs.Pattern.{Pattern}
-use Rattle.wire_pattern.specs.Shown.{role_by}
+use Rattle.wire_pattern.specs.Views.{role_by}
 use Rattle.wire_instances.proofs.Texts.{moved, opened_list, get_or_same}
 use Rattle.wire_pattern_waits.specs.declared.lines.CallLine.{CallLine}
 use Rattle.wire_pattern_waits.specs.Lines.{numbered, name_in, waits_line, waits_text}

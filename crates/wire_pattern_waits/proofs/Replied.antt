@@ -15,19 +15,19 @@ use Rattle.wire_runs.specs.Laws.{plain_end}
 use Rattle.wire_runs.proofs.Ends.{rows_are_whole}
 use Rattle.wire_runs.proofs.PlainRun.{plain_runs}
 use Rattle.wire_runs.proofs.Lists.{not_in_empty}
-use Rattle.wire_content.specs.Planned.{plan_of}
-use Rattle.wire_content.proofs.PlannedCalls.{as_many_planned}
-use Rattle.wire_script.specs.declared.Size.TheVariants.{OfVersion}
+use Rattle.wire_scripts.specs.Planned.{plan_of}
+use Rattle.wire_scripts.proofs.PlannedCalls.{as_many_planned}
+use Rattle.wire_reader.specs.declared.Size.TheVariants.{OfVersion}
 use Rattle.wire_pattern.specs.Pattern.{Pattern, Role}
 use Rattle.wire_pattern.specs.Planned.{steps_in}
-use Rattle.wire_pattern.specs.Lawful.{IsSound}
+use Rattle.wire_pattern.specs.Lawful.{IsSoundPattern}
 use Rattle.wire_pattern.specs.Instances.{Cast, IsCast, cast_of}
 use Rattle.wire_instances.proofs.Groups.{length_roles}
 use Rattle.wire_instance_laws.specs.Reading.{IsOfCast, InstancesRead}
-use Rattle.wire_sweep_laws.specs.Sizes.{AreFewSizes, total_of}
-use Rattle.wire_sweep.specs.Selections.{Selection, most_sizes}
-use Rattle.wire_sweep.proofs.Listed.{sizes_count, single_size}
-use Rattle.wire_sweep.proofs.Selected.{selections_are, selections_few}
+use Rattle.wire_cutoff_laws.specs.Sizes.{AreFewSizes, total_of}
+use Rattle.wire_cutoff.specs.Selections.{Selection, most_sizes}
+use Rattle.wire_cutoff.proofs.Listed.{sizes_count, single_size}
+use Rattle.wire_cutoff.proofs.Selected.{selections_are, selections_few}
 use Rattle.wire_pattern_waits.specs.declared.lines.CallLine.{CallLine}
 use Rattle.wire_pattern_waits.specs.Lines.{call_lines}
 use Rattle.wire_pattern_waits.specs.Places.{steps_places}
@@ -39,7 +39,7 @@ range_below a zero n h = refl
 range_below a (suc k) n h = rw (lt-ltb a n (omega (arith, h))) (range_below (a + 1) k n (omega (arith, h)))
 
 -- the cast of a selection is one of the pattern
-pub alone_cast : (p : Pattern) (s : Selection) → IsSound p → AreFewSizes p.roles s.sizes → total_of s.sizes < 2 ^ 31 → IsCast p (alone p s)
+pub alone_cast : (p : Pattern) (s : Selection) → IsSoundPattern p → AreFewSizes p.roles s.sizes → total_of s.sizes < 2 ^ 31 → IsCast p (alone p s)
 alone_cast p s sound are few = record {
   sized = sizes_count p.roles s.sizes are;
   only = single_size p.roles s.sizes sound.least are;
@@ -63,7 +63,7 @@ not_told p lines role line are none waits listed =
     kept (λ x. are.waits x.role x.number) (call_lines p) listed.1.0 (record { role = role; number = line; verb = listed.0 }) listed.1.1
     ((are.tells role line).1 waits) (sym are.are ∙ none)
 
-pub all_replied : (p : Pattern) (lines : List CallLine) → IsSound p → InstancesRead → total_of (most_sizes p.roles) < 2 ^ 31 → AreWaiting p lines → lines ≡ [] → AllReplied p
+pub all_replied : (p : Pattern) (lines : List CallLine) → IsSoundPattern p → InstancesRead → total_of (most_sizes p.roles) < 2 ^ 31 → AreWaiting p lines → lines ≡ [] → AllReplied p
 all_replied p lines sound read few are none number selection scripts process call end at reads is =
     in_rows (cases_lt process (process_count plan))
   where

@@ -3,20 +3,20 @@ use Rattle.std.proofs.Common.{◌≡◌, ◌∙◌, ap, sym, subst, refl, ℕ, z
 use Rattle.std.specs.Prelude.{slice_index_or}
 use Rattle.std.specs.List.{range_with_len}
 use Rattle.wire_types.specs.declared.Fault.{Fault}
-use Rattle.wire_content.specs.Scripts.{Scripts}
-use Rattle.wire_script.specs.declared.Size.TheVariants.{OfVersion}
-use Rattle.wire_script.specs.Reads.{Reads, ReadsOnce}
+use Rattle.wire_scripts.specs.Scripts.{Scripts}
+use Rattle.wire_reader.specs.declared.Size.TheVariants.{OfVersion}
+use Rattle.wire_reader.specs.Reads.{Reads, ReadsOnce}
 use Rattle.wire_pattern.specs.Pattern.{Pattern}
 use Rattle.wire_pattern.specs.Instances as spec
 use Rattle.wire_pattern.specs.Instances.{process_count, instance_text}
 use Rattle.wire_instances.specs.declared.cast.Cast.{Cast}
-use Rattle.wire_instances.specs.Nodes.{AreAlone}
-use Rattle.wire_instances.specs.Shown.{cast_by}
-use Rattle.wire_sweep_laws.specs.Sizes.{total_of}
-use Rattle.wire_sweep.specs.Judged.{IsFewCast}
-use Rattle.wire_sweep.specs.Selections.{Selection, IsCastFor}
+use Rattle.wire_instances.specs.Nodes.{HaveOwnNodes}
+use Rattle.wire_instances.specs.Views.{cast_by}
+use Rattle.wire_cutoff_laws.specs.Sizes.{total_of}
+use Rattle.wire_cutoff.specs.Judged.{IsFewCast}
+use Rattle.wire_cutoff.specs.Selections.{Selection, IsCastFor}
 use Rattle.wire_pattern_waits.specs.declared.stops.Stop.{Stop}
-use Rattle.wire_pattern_waits.specs.Stops.{Stops, is_noted}
+use Rattle.wire_pattern_waits.specs.StuckAt.{StuckAt, is_noted}
 use Rattle.wire_pattern_waits.specs.Waits.{alone, StopsIn}
 
 counted : (xs : List ℕ) (a n : ℕ) → length xs ≡ n → ((v : ℕ) → v < n → slice_index_or xs v 0 ≡ a + v) → xs ≡ range_with_len a n
@@ -29,7 +29,7 @@ counted (x ∷ xs) a (suc n) count at =
     ap (λ y. y ∷ xs) first ∙ ap (λ ys. a ∷ ys) rest
 
 -- the cast of a selection is one
-pub cast_is : (p : Pattern) (s : Selection) (cast : Cast) → IsFewCast p (cast_by cast) → IsCastFor p s (cast_by cast) → AreAlone (total_of s.sizes) cast.nodes
+pub cast_is : (p : Pattern) (s : Selection) (cast : Cast) → IsFewCast p (cast_by cast) → IsCastFor p s (cast_by cast) → HaveOwnNodes (total_of s.sizes) cast.nodes
     → cast_by cast ≡ alone p s
 cast_is p s cast few of apart = λ t. record { sizes = of.sizes t; chosen = of.chosen t; node_count = apart.count t; nodes = nodes t }
   where
@@ -46,7 +46,7 @@ read_or other (Err fault) = other
 
 -- the stops of the scripts that the instance's text reads as are those of the selection
 pub stops_of_selection : (p : Pattern) (s : Selection) (cast : spec.Cast) (scripts : Scripts) (stops : List Stop) → ReadsOnce → cast ≡ alone p s
-    → Reads OfVersion (instance_text p cast) (Ok scripts) → ((role line : ℕ) → (is_noted stops role line ≡ true) ↔ Stops p cast scripts role line)
+    → Reads OfVersion (instance_text p cast) (Ok scripts) → ((role line : ℕ) → (is_noted stops role line ≡ true) ↔ StuckAt p cast scripts role line)
     → (role line : ℕ) → (is_noted stops role line ≡ true) ↔ StopsIn p s role line
 stops_of_selection p s cast scripts stops once is reads told role line = (to, from)
   where
@@ -54,9 +54,9 @@ stops_of_selection p s cast scripts stops once is reads told role line = (to, fr
     read_alone = subst (λ c. Reads OfVersion (instance_text p c) (Ok scripts)) is reads
 
     to : is_noted stops role line ≡ true → StopsIn p s role line
-    to h = record { scripts = scripts; reads = read_alone; stops = subst (λ c. Stops p c scripts role line) is ((told role line).0 h) }
+    to h = record { scripts = scripts; reads = read_alone; stops = subst (λ c. StuckAt p c scripts role line) is ((told role line).0 h) }
 
     from : StopsIn p s role line → is_noted stops role line ≡ true
     from x =
         let same : x.scripts ≡ scripts = ap (read_or scripts) (once OfVersion (instance_text p (alone p s)) (Ok x.scripts) (Ok scripts) x.reads read_alone) in
-        (told role line).1 (subst (λ c. Stops p c scripts role line) (sym is) (subst (λ t. Stops p (alone p s) t role line) same x.stops))
+        (told role line).1 (subst (λ c. StuckAt p c scripts role line) (sym is) (subst (λ t. StuckAt p (alone p s) t role line) same x.stops))

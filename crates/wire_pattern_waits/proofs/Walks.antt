@@ -16,7 +16,7 @@ use Rattle.wire_instances.proofs.Found.{few_processes}
 use Rattle.wire_instances.proofs.Texts.{moved, opened_list}
 use Rattle.wire_pattern_waits.specs.declared.stops.Stop.{Stop}
 use Rattle.wire_pattern_waits.specs.Places.{steps_places}
-use Rattle.wire_pattern_waits.specs.Stops.{is_waiting, process_stops, stops_from}
+use Rattle.wire_pattern_waits.specs.Stops.{ends_waiting, process_stops, stops_from}
 
 pub number_step : (n end : ℕ) (old now all : List ℕ) → n < end → now ≡ old ++ n ∷ []
     → old ++ range_with_len n (end - n) ≡ all → now ++ range_with_len (n + 1) (end - (n + 1)) ≡ all
@@ -34,7 +34,7 @@ lines_end role n row places out all past inv =
     sym (ap (λ ls. out ++ process_stops role (drop n row) ls) (drop_all n places past) ∙ ap (λ t. out ++ t) (no_lines role (drop n row)) ∙ append-nil out) ∙ inv
 
 -- a process that waits at no call has no stop
-pub none_stopped : (role : ℕ) (row : List CallEnd) (places : List ℕ) → list_any is_waiting row ≡ false → process_stops role row places ≡ []
+pub none_stopped : (role : ℕ) (row : List CallEnd) (places : List ℕ) → list_any ends_waiting row ≡ false → process_stops role row places ≡ []
 none_stopped role [] places h = refl
 none_stopped role (end ∷ ends) [] h = refl
 none_stopped role (Waiting ∷ ends) (n ∷ places) h = absurd (true≢false h)
@@ -42,7 +42,7 @@ none_stopped role (Replied reply ∷ ends) (n ∷ places) h = none_stopped role 
 none_stopped role (Ready ∷ ends) (n ∷ places) h = none_stopped role ends places h
 none_stopped role (Unreached ∷ ends) (n ∷ places) h = none_stopped role ends places h
 
-pub unstopped : (role : ℕ) (row : List CallEnd) (places : List ℕ) (out : List Stop) → list_any is_waiting row ≡ false → out ≡ out ++ process_stops role row places
+pub unstopped : (role : ℕ) (row : List CallEnd) (places : List ℕ) (out : List Stop) → list_any ends_waiting row ≡ false → out ≡ out ++ process_stops role row places
 unstopped role row places out h = sym (ap (λ t. out ++ t) (none_stopped role row places h) ∙ append-nil out)
 
 -- where no row is left, no stop is

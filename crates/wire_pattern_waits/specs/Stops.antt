@@ -3,7 +3,7 @@ use Rattle.std.specs.Prelude.{◌≡◌, ℕ, suc, ◌==◌, ◌&&◌, Bool, tru
 use Rattle.std.specs.List.{list_any}
 use Rattle.wire_types.specs.declared.CallEnd.{CallEnd}
 use Rattle.wire_types.specs.declared.CallEnd.TheVariants.{Waiting}
-use Rattle.wire_content.specs.Scripts.{Scripts}
+use Rattle.wire_scripts.specs.Scripts.{Scripts}
 use Rattle.wire_core.specs.EndsAfter.{plain_ends}
 use Rattle.wire_pattern.specs.Pattern.{Pattern}
 use Rattle.wire_pattern.specs.Planned.{steps_in}
@@ -13,7 +13,7 @@ use Rattle.wire_pattern_waits.specs.Places.{steps_places}
 
 -- where the plain run of these scripts can't go on, a process of the role waits at a call that comes from the line of
 -- this number of the role's script
-pub record Stops (p : Pattern) (cast : Cast) (scripts : Scripts) (role line : ℕ) : Type 0 where
+pub record StuckAt (p : Pattern) (cast : Cast) (scripts : Scripts) (role line : ℕ) : Type 0 where
   pub process : ℕ
   pub call : ℕ
   pub has_role : slice_get (cast_of cast).roles process ≡ Some role
@@ -22,16 +22,16 @@ pub record Stops (p : Pattern) (cast : Cast) (scripts : Scripts) (role line : �
 
 -- the rest is for private contracts alone
 
-abbrev pub is_waiting : CallEnd → Bool
-is_waiting Waiting = true
-is_waiting _ = false
+abbrev pub ends_waiting : CallEnd → Bool
+ends_waiting Waiting = true
+ends_waiting _ = false
 
 -- the stops of a process, by what became of its calls and by the numbers of their lines
 abbrev pub process_stops : ℕ → List CallEnd → List ℕ → List Stop
 process_stops role [] places = []
 process_stops role (end ∷ ends) [] = []
 process_stops role (end ∷ ends) (n ∷ places) =
-    (if is_waiting end then record { role = role; line = n } ∷ [] else []) ++ process_stops role ends places
+    (if ends_waiting end then record { role = role; line = n } ∷ [] else []) ++ process_stops role ends places
 
 -- those of these processes, of which the first is v
 abbrev pub stops_from : Pattern → Cast → ℕ → List ℕ → List (List CallEnd) → List Stop

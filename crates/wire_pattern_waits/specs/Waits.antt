@@ -5,18 +5,18 @@ use Rattle.std.specs.List.{range_with_len}
 use Rattle.wire_types.specs.declared.CallEnd.{CallEnd}
 use Rattle.wire_types.specs.declared.CallEnd.TheVariants.{Replied}
 use Rattle.wire_types.specs.declared.Reply.{Reply}
-use Rattle.wire_content.specs.Scripts.{Scripts}
-use Rattle.wire_script.specs.declared.Size.TheVariants.{OfVersion}
-use Rattle.wire_script.specs.Reads.{Reads}
+use Rattle.wire_scripts.specs.Scripts.{Scripts}
+use Rattle.wire_reader.specs.declared.Size.TheVariants.{OfVersion}
+use Rattle.wire_reader.specs.Reads.{Reads}
 use Rattle.wire_core.specs.EndsAfter.{plain_ends}
 use Rattle.wire_pattern.specs.Pattern.{Pattern}
 use Rattle.wire_pattern.specs.Instances.{Cast, instance_text}
-use Rattle.wire_sweep_laws.specs.Sizes.{total_of}
-use Rattle.wire_sweep_laws.specs.Choices.{optional_turns, chosen_by}
-use Rattle.wire_sweep.specs.Selections.{Selection, selections}
+use Rattle.wire_cutoff_laws.specs.Sizes.{total_of}
+use Rattle.wire_cutoff_laws.specs.Choices.{optional_turns, chosen_by}
+use Rattle.wire_cutoff.specs.Selections.{Selection, selections}
 use Rattle.wire_pattern_waits.specs.declared.lines.CallLine.{CallLine}
 use Rattle.wire_pattern_waits.specs.Lines.{call_lines}
-use Rattle.wire_pattern_waits.specs.Stops.{Stops}
+use Rattle.wire_pattern_waits.specs.StuckAt.{StuckAt}
 
 -- the processes and the turns of a selection, each process on a node of its own
 abbrev pub alone : Pattern → Selection → Cast
@@ -32,7 +32,7 @@ alone p selection = record {
 pub record StopsIn (p : Pattern) (selection : Selection) (role line : ℕ) : Type 0 where
   pub scripts : Scripts
   pub reads : Reads OfVersion (instance_text p (alone p selection)) (Ok scripts)
-  pub stops : Stops p (alone p selection) scripts role line
+  pub stops : StuckAt p (alone p selection) scripts role line
 
 -- so it is in the instance of some selection that is judged
 pub record Waits (p : Pattern) (role line : ℕ) : Type 0 where
@@ -48,12 +48,12 @@ pub record AreWaiting (p : Pattern) (lines : List CallLine) : Type 0 where
   pub are : lines ≡ filter (λ line. waits line.role line.number) (call_lines p)
 
 -- the text of the instance of this selection reads as a plan
-abbrev pub IsRead : Pattern → Selection → Type 0
-IsRead p selection = (scripts : Scripts) × Reads OfVersion (instance_text p (alone p selection)) (Ok scripts)
+abbrev pub ReadsAsPlan : Pattern → Selection → Type 0
+ReadsAsPlan p selection = (scripts : Scripts) × Reads OfVersion (instance_text p (alone p selection)) (Ok scripts)
 
 -- so does that of each selection that is judged
-abbrev pub AllRead : Pattern → Type 0
-AllRead p = (number : ℕ) (selection : Selection) → slice_get (selections p) number ≡ Some selection → IsRead p selection
+abbrev pub AllReadAsPlans : Pattern → Type 0
+AllReadAsPlans p = (number : ℕ) (selection : Selection) → slice_get (selections p) number ≡ Some selection → ReadsAsPlan p selection
 
 -- in the instance of each selection that is judged every call has its reply where the plain run can't go on
 abbrev pub AllReplied : Pattern → Type 0

@@ -1,7 +1,7 @@
 //! The call lines of a pattern.
 
 ghost use Rattle.std.specs.Prelude.{◌≡◌, ◌++◌, OnOk, IfOk, map};
-ghost use Rattle.wire_pattern.specs.Shown.{call_by, line_by, step_by};
+ghost use Rattle.wire_pattern.specs.Views.{view_call, line_by, step_by};
 ghost use Rattle.wire_pattern_waits.specs.Lines as spec;
 ghost use Rattle.wire_pattern_waits.specs.Lines.{lines_in, verbs_in};
 
@@ -20,7 +20,7 @@ pub struct CallLine {
 
 /// The verb of a call.
 fn verb_of(call: &Call) -> Verb
-    ensures { result ≡ spec.verb_of (call_by call.now) }
+    ensures { result ≡ spec.verb_of (view_call call.now) }
 {
     match call {
         Call::Put { .. } => Verb::Put,

@@ -1,7 +1,7 @@
 //! The call lines at which something stands, in the order of the pattern.
 
 ghost use Rattle.std.specs.Prelude.{◌≡◌, ◌++◌, ◌∷◌, [], OnOk, IfOk, filter, map};
-ghost use Rattle.wire_pattern.specs.Shown.{step_by};
+ghost use Rattle.wire_pattern.specs.Views.{step_by};
 ghost use Rattle.wire_pattern_waits.specs.LineSets.{has_line};
 ghost use Rattle.wire_pattern_waits.specs.Lines as spec;
 ghost use Rattle.wire_pattern_waits.specs.Lines.{verbs_in};

@@ -4,13 +4,13 @@ ghost use Rattle.std.specs.Prelude.{◌≡◌, ◌<◌, ◌^◌, ◌+◌, ◌++�
 ghost use Rattle.std.specs.List.{range_with_len};
 ghost use Rattle.wire_pattern.specs.Instances.{IsCast};
 ghost use Rattle.wire_pattern.specs.Planned.{steps_in};
-ghost use Rattle.wire_pattern.specs.Shown.{step_by};
-ghost use Rattle.wire_instances.specs.Shown.{cast_by};
+ghost use Rattle.wire_pattern.specs.Views.{step_by};
+ghost use Rattle.wire_instances.specs.Views.{cast_by};
 ghost use Rattle.wire_pattern_waits.specs.Places as spec;
 ghost use Rattle.wire_pattern_waits.specs.Places.{line_count};
 
 use std::alloc::{AllocError, Global};
-use wire_instances::{Cast, Round, turns_of};
+use wire_instances::{Cast, LoopTurns, turns_of};
 use wire_pattern::{Pattern, Step};
 
 /// Appends so many numbers, the first of which is given.
@@ -77,7 +77,7 @@ fn add_step(
             turns,
             lines,
         } => {
-            let round = Round {
+            let round = LoopTurns {
                 caller: caller.process,
                 step: place.index,
                 turns: *turns,

@@ -7,20 +7,20 @@ ghost use Rattle.wire_types.specs.Texts.{lists_of};
 ghost use Rattle.wire_core.specs.EndsAfter.{plain_ends};
 ghost use Rattle.wire_pattern.specs.Instances.{IsCast, cast_of};
 ghost use Rattle.wire_pattern.specs.Planned.{steps_in};
-ghost use Rattle.wire_instances.specs.Shown.{cast_by};
+ghost use Rattle.wire_instances.specs.Views.{cast_by};
 ghost use Rattle.wire_pattern_waits.specs.LineSets.{has_line};
 ghost use Rattle.wire_pattern_waits.specs.Places.{steps_places};
-ghost use Rattle.wire_pattern_waits.specs.Stops as spec;
-ghost use Rattle.wire_pattern_waits.specs.Stops.{Stops};
+ghost use Rattle.wire_pattern_waits.specs.StuckAt as spec;
+ghost use Rattle.wire_pattern_waits.specs.StuckAt.{StuckAt};
 
 use crate::line_set::LineSet;
 use crate::places::{Caller, places_of};
 use std::alloc::{AllocError, Global};
-use wire_content::Scripts;
 use wire_core::plain_outcome;
 use wire_instances::{Cast, roles_by};
 use wire_pattern::Pattern;
 use wire_plan::Plan;
+use wire_scripts::Scripts;
 use wire_types::{CallEnd, Fault, Outcome};
 
 /// A call line at which a process stands: the number of its role, and its own in the role's script, from 1.
@@ -32,7 +32,7 @@ pub(crate) struct Stop {
 
 /// Whether a call is what its process stands at, and waits for something.
 fn is_waiting(end: &CallEnd) -> bool
-    ensures { result ≡ spec.is_waiting end.now }
+    ensures { result ≡ spec.ends_waiting end.now }
 {
     match end {
         CallEnd::Waiting => true,
@@ -42,7 +42,7 @@ fn is_waiting(end: &CallEnd) -> bool
 
 /// Whether a process waits at one of these calls.
 fn is_stopped(row: &[CallEnd]) -> bool
-    ensures { result ≡ list_any spec.is_waiting row.now }
+    ensures { result ≡ list_any spec.ends_waiting row.now }
 {
     for end in row {
         if is_waiting(end) {
@@ -151,7 +151,7 @@ pub(crate) fn stops_of(
 ) -> Result<Vec<Stop>, Fault>
     requires { IsCast pattern.now (cast_by cast.now) }
     ensures ok { IfOk result (λ v. (role line : ℕ) → (spec.is_noted v.items role line ≡ true)
-        ↔ Stops pattern.now (cast_by cast.now) scripts role line) }
+        ↔ StuckAt pattern.now (cast_by cast.now) scripts role line) }
     ensures err { IfErr result (λ e. e ≡ Memory) }
 {
     let outcome = ends_of_run(alloc, scripts)?;

@@ -3,22 +3,22 @@
 ghost use Rattle.std.specs.Prelude.{◌≡◌, ◌↔◌, ◌<◌, ◌^◌, [], ℕ, true, IfOk, IfErr, map};
 ghost use Rattle.wire_pattern_waits.specs.LineSets.{has_line};
 ghost use Rattle.wire_pattern_waits.specs.Stops as spec;
-ghost use Rattle.wire_pattern_waits.specs.Waits.{StopsIn, Waits, AreWaiting, IsRead, AllRead, AllReplied};
-ghost use Rattle.wire_sweep.specs.Judged.{IsJudgeFault};
-ghost use Rattle.wire_sweep.specs.Selections.{selections, most_sizes};
-ghost use Rattle.wire_sweep.specs.Shown.{selection_by};
-ghost use Rattle.wire_sweep_laws.specs.Sizes as counted;
-ghost use Rattle.wire_sweep_laws.specs.Sizes.{AreFewSizes};
+ghost use Rattle.wire_pattern_waits.specs.Waits.{StopsIn, Waits, AreWaiting, ReadsAsPlan, AllReadAsPlans, AllReplied};
+ghost use Rattle.wire_cutoff.specs.Judged.{IsJudgeFault};
+ghost use Rattle.wire_cutoff.specs.Selections.{selections, most_sizes};
+ghost use Rattle.wire_cutoff.specs.Views.{selection_by};
+ghost use Rattle.wire_cutoff_laws.specs.Sizes as counted;
+ghost use Rattle.wire_cutoff_laws.specs.Sizes.{AreFewSizes};
 
 use crate::line_set::LineSet;
 use crate::lines::CallLine;
 use crate::listing::noted_lines;
 use crate::stops::{Stop, note_stops, stops_of};
 use std::alloc::Global;
+use wire_cutoff::{Selection, all_selections, cast_for, instance_scripts};
 use wire_instance_laws::laws::instances_read;
 use wire_pattern::Pattern;
-use wire_script::reads_once;
-use wire_sweep::{Selection, all_selections, cast_for, instance_scripts};
+use wire_reader::reads_once;
 use wire_types::Fault;
 
 /// The stops of the instance of a selection: these, and no others.
@@ -27,7 +27,7 @@ fn stops_in(alloc: Global, pattern: &Pattern, selection: &Selection) -> Result<V
     requires few { counted.total_of selection.now.sizes.items < 2 ^ 31 }
     ensures ok { IfOk result (λ v. (role line : ℕ) → (spec.is_noted v.items role line ≡ true)
         ↔ StopsIn pattern.now (selection_by selection.now) role line) }
-    ensures read { IfOk result (λ v. IsRead pattern.now (selection_by selection.now)) }
+    ensures read { IfOk result (λ v. ReadsAsPlan pattern.now (selection_by selection.now)) }
     ensures err { IfErr result (λ e. IsJudgeFault pattern.now e) }
 {
     reads_once();
@@ -43,7 +43,7 @@ fn all_stops(alloc: Global, pattern: &Pattern, all: &[Selection]) -> Result<Line
     requires all { map selection_by all.now ≡ selections pattern.now }
     requires few { counted.total_of (most_sizes pattern.now.roles) < 2 ^ 31 }
     ensures ok { IfOk result (λ v. (role line : ℕ) → (has_line v role line ≡ true) ↔ Waits pattern.now role line) }
-    ensures read { IfOk result (λ v. AllRead pattern.now) }
+    ensures read { IfOk result (λ v. AllReadAsPlans pattern.now) }
     ensures err { IfErr result (λ e. IsJudgeFault pattern.now e) }
 {
     let mut noted = LineSet::new(alloc);
@@ -60,7 +60,7 @@ fn all_stops(alloc: Global, pattern: &Pattern, all: &[Selection]) -> Result<Line
 pub fn waiting_lines(alloc: Global, pattern: &Pattern) -> Result<Vec<CallLine>, Fault>
     requires { counted.total_of (most_sizes pattern.now.roles) < 2 ^ 31 }
     ensures ok { IfOk result (λ v. AreWaiting pattern.now v.items) }
-    ensures read { IfOk result (λ v. AllRead pattern.now) }
+    ensures read { IfOk result (λ v. AllReadAsPlans pattern.now) }
     ensures replied { IfOk result (λ v. v.items ≡ [] → AllReplied pattern.now) }
     ensures err { IfErr result (λ e. IsJudgeFault pattern.now e) }
 {

@@ -11,26 +11,26 @@ use Rattle.wire_plan.specs.declared.kind.Kind.TheVariants as code
 use Rattle.wire_plan.specs.Kinds.{kind_of}
 use Rattle.wire_runs.specs.Order.{Stores, PublishesOnce}
 use Rattle.wire_runs.specs.Races.{IsPutOnce}
-use Rattle.wire_plan.specs.Index.{Awaits, AwaitsCommit, AwaitsPublish, IsAwaited}
+use Rattle.wire_plan.specs.Index.{AwaitsOnly, AwaitsCommit, AwaitsPublish, FindsAwaited}
 use Rattle.wire_plan.proofs.KeyFacts.{stores_once}
 
 -- all that is awaited, from what a get awaits and what a waiting lookup does
 all_awaited : (plan : Plan) (y : Event) (found : Option Event) → ((z : Event) (key : ℕ) → kind plan y ≡ Some (Get z.proc key) → z.proc ≢ y.proc → IsPutOnce plan z.proc key → Stores plan z key →
     found ≡ Some z)
-    → ((z : Event) (name : ℕ) → kind plan y ≡ Some (LookupWait name) → PublishesOnce plan z name → found ≡ Some z) → (z : Event) → Awaits plan y z → found ≡ Some z
+    → ((z : Event) (name : ℕ) → kind plan y ≡ Some (LookupWait name) → PublishesOnce plan z name → found ≡ Some z) → (z : Event) → AwaitsOnly plan y z → found ≡ Some z
 all_awaited plan y found stored published z (AwaitsCommit key is other once stores) = stored z key is other once stores
 all_awaited plan y found stored published z (AwaitsPublish name is once) = published z name is once
 
 -- an event that is no get of another process's key and no waiting lookup waits for neither
 nothing_awaited : (plan : Plan) (y : Event) → ((z : Event) (key : ℕ) → kind plan y ≡ Some (Get z.proc key) → z.proc ≢ y.proc → ⊥) → ((name : ℕ) → kind plan y ≡ Some (LookupWait name) → ⊥) →
-    IsAwaited plan y None
+    FindsAwaited plan y None
 nothing_awaited plan y no_get no_lookup = record {
   only = λ z is. absurd (cc);
   all = all_awaited plan y None (λ z key is other once stores. absurd (no_get z key is other)) (λ z name is once. absurd (no_lookup name is));
 }
 
 -- nor does a get of a key of one's own
-pub own_key : (plan : Plan) (y : Event) (owner key : ℕ) → kind plan y ≡ Some (Get owner key) → owner ≡ y.proc → IsAwaited plan y None
+pub own_key : (plan : Plan) (y : Event) (owner key : ℕ) → kind plan y ≡ Some (Get owner key) → owner ≡ y.proc → FindsAwaited plan y None
 own_key plan y owner key is own = nothing_awaited plan y
     (λ z other_key other_is other. let same : Get owner key ≡ Get z.proc other_key = same_Some _ _ (sym is ∙ other_is) in let its : owner ≡ z.proc = cc in other (sym its ∙ own))
     (λ name other_is. let same : Get owner key ≡ LookupWait name = same_Some _ _ (sym is ∙ other_is) in cc)
@@ -47,7 +47,7 @@ never_waits sets (code.LookupWait name) no_get no_lookup = absurd (no_lookup nam
 never_waits sets _ no_get no_lookup = refl
 
 pub awaits_other : (plan : Plan) (y : Event) (sets : List (List ℕ)) (k : CodeKind) → kind plan y ≡ Some (kind_of sets k) → ((owner : Proc) (key : ℕ) → k ≡ code.Get owner key → ⊥) →
-    ((name : ℕ) → k ≡ code.LookupWait name → ⊥) → IsAwaited plan y None
+    ((name : ℕ) → k ≡ code.LookupWait name → ⊥) → FindsAwaited plan y None
 awaits_other plan y sets k is no_get no_lookup = nothing_awaited plan y
     (λ z key other_is other. true≢false (ap may_wait (same_Some _ _ (sym other_is ∙ is)) ∙ never_waits sets k no_get no_lookup))
     (λ name other_is. true≢false (ap may_wait (same_Some _ _ (sym other_is ∙ is)) ∙ never_waits sets k no_get no_lookup))
@@ -56,7 +56,7 @@ awaits_other plan y sets k is no_get no_lookup = nothing_awaited plan y
 pub key_of_other : (plan : Plan) (y : Event) (owner : Proc) (key : ℕ) (found : Option CodeEvent) → kind plan y ≡ Some (Get owner.number key) → owner.number ≢ y.proc
     → MatchOption found ((x : Event) → x.proc ≡ owner.number → IsPutOnce plan owner.number key → Stores plan x key → ⊥)
     (λ x. (x.proc ≡ owner) × IsPutOnce plan owner.number key × Stores plan (event_of x) key)
-    → IsAwaited plan y (option_map event_of found)
+    → FindsAwaited plan y (option_map event_of found)
 key_of_other plan y owner key None is other none = record {
   only = λ z at. absurd (cc);
   all = all_awaited plan y None
@@ -71,7 +71,7 @@ key_of_other plan y owner key (Some x) is other (whose, once_put, stored_there) 
   only = λ z at.
       let here : event_of x ≡ z = same_Some _ _ at in
       let its : x.proc.number ≡ owner.number = ap (λ p. p.number) whose in
-      subst (λ w. Awaits plan y w) here (AwaitsCommit key (is ∙ ap (λ p. Some (Get p key)) (sym its)) (λ e. other (sym its ∙ e)) (subst (λ p. IsPutOnce plan p key) (sym its) once_put) stored_there);
+      subst (λ w. AwaitsOnly plan y w) here (AwaitsCommit key (is ∙ ap (λ p. Some (Get p key)) (sym its)) (λ e. other (sym its ∙ e)) (subst (λ p. IsPutOnce plan p key) (sym its) once_put) stored_there);
   all = all_awaited plan y (Some (event_of x))
       (λ z k at differs once stores.
       let same : Get owner.number key ≡ Get z.proc k = same_Some _ _ (sym is ∙ at) in
@@ -84,7 +84,7 @@ key_of_other plan y owner key (Some x) is other (whose, once_put, stored_there) 
 -- a waiting lookup waits for the publish of a name that is published once
 pub once_name : (plan : Plan) (y : Event) (name : ℕ) (found : Option CodeEvent) → kind plan y ≡ Some (LookupWait name)
     → MatchOption found ((x : Event) → PublishesOnce plan x name → ⊥) (λ x. PublishesOnce plan (event_of x) name)
-    → IsAwaited plan y (option_map event_of found)
+    → FindsAwaited plan y (option_map event_of found)
 once_name plan y name None is none = record {
   only = λ z at. absurd (cc);
   all = all_awaited plan y None
@@ -95,7 +95,7 @@ once_name plan y name None is none = record {
       absurd (none z (subst (PublishesOnce plan z) (sym n_is) once)));
 }
 once_name plan y name (Some x) is published = record {
-  only = λ z at. let here : event_of x ≡ z = same_Some _ _ at in subst (λ w. Awaits plan y w) here (AwaitsPublish name is published);
+  only = λ z at. let here : event_of x ≡ z = same_Some _ _ at in subst (λ w. AwaitsOnly plan y w) here (AwaitsPublish name is published);
   all = all_awaited plan y (Some (event_of x))
       (λ z key at other once stores. let same : LookupWait name ≡ Get z.proc key = same_Some _ _ (sym is ∙ at) in absurd (cc))
       (λ z n at once.

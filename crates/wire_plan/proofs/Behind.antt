@@ -9,12 +9,12 @@ use Rattle.wire_runs.specs.Plan as plan
 use Rattle.wire_types.specs.declared.Call.{Call as Written}
 use Rattle.wire_types.specs.declared.Call.TheVariants as written
 use Rattle.wire_types.specs.declared.Reply.{Reply}
-use Rattle.wire_content.specs.Scripts.{Scripts, calls_in, call_at, set_at, text_at, name_in}
-use Rattle.wire_content.specs.Planned.{planned_call, plan_of}
-use Rattle.wire_content.specs.Said.{is_reserved}
+use Rattle.wire_scripts.specs.Scripts.{Scripts, calls_in, call_at, set_at, text_at, name_in}
+use Rattle.wire_scripts.specs.Planned.{planned_call, plan_of}
+use Rattle.wire_scripts.specs.Said.{is_reserved}
 use Rattle.wire_runs.specs.Ends.{call_number, call_size, calls_of}
 use Rattle.wire_runs.proofs.Lists.{slice_get-append_left, slice_get-append_right}
-use Rattle.wire_content.proofs.PlannedCalls.{events_are, calls_are}
+use Rattle.wire_scripts.proofs.PlannedCalls.{events_are, calls_are}
 use Rattle.wire_plan.proofs.Planning.{events_first}
 use Rattle.wire_plan.specs.Meetings.{is_of_fence}
 

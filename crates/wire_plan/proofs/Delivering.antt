@@ -5,12 +5,12 @@ use Rattle.wire_runs.specs.Plan.{Plan, Event, Arrive, kind_at}
 use Rattle.wire_runs.specs.Fences.{arrivals, is_full, is_collecting, has_node}
 use Rattle.wire_types.specs.declared.Event.{Event as CodeEvent}
 use Rattle.wire_runs.specs.Puts.{own, stored, stored_with}
-use Rattle.wire_content.specs.Scripts.{Scripts, set_at}
-use Rattle.wire_content.specs.Planned.{plan_of}
+use Rattle.wire_scripts.specs.Scripts.{Scripts, set_at}
+use Rattle.wire_scripts.specs.Planned.{plan_of}
 use Rattle.wire_fence.specs.FenceTable.{FenceTable, AreFencesOf, fence_at, fence_over, full_in, collects_in, reaches_in}
 use Rattle.wire_runs.specs.Order.{IsArrival}
 use Rattle.wire_plan.specs.Index.{BringsData, IsDelivering, IsNextDelivery, IsSent}
-use Rattle.wire_plan.specs.Bringing.{BringsTo, IsArrivalFrom, IsFirstFrom}
+use Rattle.wire_plan.specs.Bringing.{BringsTo, IsBringingFrom, IsFirstFrom}
 use Rattle.wire_plan.specs.Meetings.{IsMet, fence_members}
 use Rattle.wire_runs.proofs.Basics.{arrivals_step, arrivals_rise}
 
@@ -89,7 +89,7 @@ module _ (plan : Plan) (p key node from c start : ℕ) (sent : (at : ℕ) → Is
   ]))
 
   -- a delivery comes after the commit
-  not_lower : ((n : ℕ) → from ≤ n → c ≤ n → start ≤ n) → (at : ℕ) → from ≤ at → IsDelivering plan p key node at → IsArrivalFrom plan p node start (here p at)
+  not_lower : ((n : ℕ) → from ≤ n → c ≤ n → start ≤ n) → (at : ℕ) → from ≤ at → IsDelivering plan p key node at → IsBringingFrom plan p node start (here p at)
   not_lower least at le d =
       let lt = (sent at).0 (sent_there plan p key node at d) in
       record { proc = refl; from_there = least at le (omega (arith, lt)); brings = brings_there plan p key node at d }

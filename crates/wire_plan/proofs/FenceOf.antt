@@ -6,8 +6,8 @@ use Rattle.std.proofs.lemmas.Option.{slice_get-get_or, same_Some}
 use Rattle.wire_runs.specs.Plan.{Plan, Kind, Leave, kind_at, event_count, set_of}
 use Rattle.wire_runs.specs.Fences.{arrivals, arrivals_with}
 use Rattle.wire_types.specs.declared.Call.TheVariants as written
-use Rattle.wire_content.specs.Scripts.{Scripts, call_at, set_at}
-use Rattle.wire_content.specs.Planned.{plan_of}
+use Rattle.wire_scripts.specs.Scripts.{Scripts, call_at, set_at}
+use Rattle.wire_scripts.specs.Planned.{plan_of}
 use Rattle.wire_fence.specs.FenceTable.{FenceTable, AreFencesOf, IsFenceOf, fence_over, fence_count, fence_at, fence_number}
 use Rattle.wire_fence.proofs.Events.{calls_are_arrivals}
 use Rattle.wire_runs.specs.Ends.{call_number, calls_of}

@@ -7,8 +7,8 @@ use Rattle.std.proofs.lemmas.List.{map-append, map-set, length-map, get_or-set_s
 use Rattle.wire_runs.specs.Plan.{Plan, Kind, Arrive, Leave, Event, kind, kind_at, event_count, process_count, event_of}
 use Rattle.wire_runs.specs.Fences.{arrivals, arrivals_with, is_full}
 use Rattle.wire_types.specs.declared.Event.{Event as CodeEvent}
-use Rattle.wire_content.specs.Scripts.{Scripts, set_at}
-use Rattle.wire_content.specs.Planned.{plan_of}
+use Rattle.wire_scripts.specs.Scripts.{Scripts, set_at}
+use Rattle.wire_scripts.specs.Planned.{plan_of}
 use Rattle.wire_fence.specs.FenceTable.{FenceInfo, FenceTable, AreFencesOf, fence_at, full_in}
 use Rattle.wire_plan.specs.declared.kind.Kind.{Kind as CodeKind}
 use Rattle.wire_plan.specs.declared.kind.Kind.TheVariants as code
@@ -16,7 +16,7 @@ use Rattle.wire_plan.specs.Kinds.{kind_of}
 use Rattle.wire_runs.specs.Order.{IsArrival}
 use Rattle.wire_runs.specs.EventLists.{IsLower, AreAll}
 use Rattle.wire_plan.specs.Index.{AreArrivals}
-use Rattle.wire_plan.specs.Meetings.{fence_members, IsMet, arrivals_in, AreArrivalLists, AreArrivalListsTo, IsAdded}
+use Rattle.wire_plan.specs.Meetings.{fence_members, IsMet, arrivals_in, AreArrivalLists, AreArrivalListsTo, IsArrivalAdded}
 use Rattle.wire_runs.proofs.Basics.{event_within, process_within}
 use Rattle.wire_runs.proofs.EventLists.{all_of_none, all_same, all_and_one}
 use Rattle.wire_fence.proofs.Events.{same_fence}
@@ -45,7 +45,7 @@ room_same lists n = ap (map event_of) (go lists n)
     go (x ∷ xs) zero = refl
     go (x ∷ xs) (suc n) = go xs n
 
-pub added : (lists : List (List CodeEvent)) (number : ℕ) (e : CodeEvent) → number < length lists → IsAdded number e lists (set lists number (get_or lists number [] ++ e ∷ []))
+pub added : (lists : List (List CodeEvent)) (number : ℕ) (e : CodeEvent) → number < length lists → IsArrivalAdded number e lists (set lists number (get_or lists number [] ++ e ∷ []))
 added lists number e there n = elim (cases_eq n number) [
   | inl same ↦
       ap (λ k. arrivals_in (set lists number (get_or lists number [] ++ e ∷ [])) k) same
@@ -107,7 +107,7 @@ arrival_met s table p at number members collect is m = record {
 
 -- an arrival stands last in the list of its fence
 pub one_arrival : (s : Scripts) (table : FenceTable) (e : CodeEvent) (number : ℕ) (lists new : List (List CodeEvent)) (members : List ℕ) (collect : Bool) → AreFencesOf s table →
-    kind_at (plan_of s) e.proc.number e.at ≡ Some (Arrive members collect) → IsMet s table (event_of e) number → IsAdded number e lists new → AreArrivalListsTo s table e.proc.number e.at lists →
+    kind_at (plan_of s) e.proc.number e.at ≡ Some (Arrive members collect) → IsMet s table (event_of e) number → IsArrivalAdded number e lists new → AreArrivalListsTo s table e.proc.number e.at lists →
     AreArrivalListsTo s table e.proc.number (suc e.at) new
 one_arrival s table e number lists new members collect fences is m told are n info there =
     let p = e.proc.number in
@@ -196,7 +196,7 @@ module _ (s : Scripts) (table : FenceTable) (e : CodeEvent) (number : ℕ) (m : 
 
 -- one event more in the list of a fence, once there is room
 pub added_shown : {V : Type 0} (view : V → List CodeEvent) (old room : List V) (number : ℕ) (v new : V) (e : CodeEvent) → number < length room → slice_get room number ≡ Some v → view new ≡ view v
-    ++ e ∷ [] → ((n : ℕ) → arrivals_in (map view room) n ≡ arrivals_in (map view old) n) → IsAdded number e (map view old) (map view (set room number new))
+    ++ e ∷ [] → ((n : ℕ) → arrivals_in (map view room) n ≡ arrivals_in (map view old) n) → IsArrivalAdded number e (map view old) (map view (set room number new))
 added_shown view old room number v new e there is more same n =
     let lists = map view room in
     let list : get_or lists number [] ≡ view v = get_or_from_slice_get lists number (view v) [] (slice_get-map view room number ∙ ap (option_map view) is) in

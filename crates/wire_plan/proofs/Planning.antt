@@ -9,8 +9,8 @@ use Rattle.std.proofs.lemmas.Bool.{cases_lt, cond_below, cond_above}
 use Rattle.wire_runs.specs.Plan.{Plan, Call, CallPut, CallCommit, CallFence, CallGet, CallGetNow, CallPublish, CallLookup, CallLookupWait, CallUnpublish, CallUnpublishAll, CallFixed}
 use Rattle.wire_runs.specs.Plan.{Kind, kinds_of, process_kinds, process_node, kinds, kind_at, event_count, node_of}
 use Rattle.wire_runs.specs.Plan as plan
-use Rattle.wire_content.specs.Scripts.{Process, Scripts, call_count}
-use Rattle.wire_content.specs.Planned.{planned_call, planned_process, plan_of}
+use Rattle.wire_scripts.specs.Scripts.{Process, Scripts, call_count}
+use Rattle.wire_scripts.specs.Planned.{planned_call, planned_process, plan_of}
 use Rattle.wire_plan.specs.Kinds.{kinds_planned, calls_from, calls_planned, starts_from, starts_planned}
 use Rattle.wire_runs.specs.Plan.{event_total}
 use Rattle.wire_runs.specs.Ends.{call_number, call_size, calls_of, process_calls}

@@ -15,7 +15,7 @@ use Rattle.wire_runs.specs.Names.{publishes as publishes_of}
 use Rattle.wire_plan.specs.Index.{AreSweeps}
 use Rattle.wire_plan.proofs.Published.{publisher, nothing_takes}
 use Rattle.wire_runs.specs.EventLists.{AreAll}
-use Rattle.wire_plan.specs.Tables.{is_listed, is_number, events_listed, only_of, IsUnswept, AreListed, AreListedTo, AreNamesTo, AreNamesOf}
+use Rattle.wire_plan.specs.Tables.{is_listed, is_this_number, events_listed, only_of, IsUnswept, AreListed, AreListedTo, AreNamesTo, AreNameCallsOf}
 use Rattle.wire_plan.specs.declared.names.NameTable.{NameTable}
 use Rattle.wire_runs.proofs.Basics.{event_within, process_within}
 use Rattle.wire_runs.proofs.EventLists.{all_same, lower_not_same}
@@ -51,7 +51,7 @@ module _ (plan : Plan) (listing : Listing) where
   IsListed number x = is_listed plan listing number x (kind plan x) ≡ true
 
   -- an event that is listed under this number, and under no other
-  pub listed_more : (p i m : ℕ) (old new : List (List Event)) → ((number : ℕ) → is_listed plan listing number (place p i) (kind_at plan p i) ≡ is_number (Some m) number)
+  pub listed_more : (p i m : ℕ) (old new : List (List Event)) → ((number : ℕ) → is_listed plan listing number (place p i) (kind_at plan p i) ≡ is_this_number (Some m) number)
       → events_listed new m ≡ events_listed old m ++ place p i ∷ [] → ((n : ℕ) → n ≢ m → events_listed new n ≡ events_listed old n)
       → AreListedTo plan listing p i old → AreListedTo plan listing p (suc i) new
   listed_more p i m old new told here others are = λ number. elim (cases_eq number m) [
@@ -62,7 +62,7 @@ module _ (plan : Plan) (listing : Listing) where
   ]
 
   -- an event that isn't listed
-  pub listed_other : (p i : ℕ) (lists : List (List Event)) → ((number : ℕ) → is_listed plan listing number (place p i) (kind_at plan p i) ≡ is_number None number)
+  pub listed_other : (p i : ℕ) (lists : List (List Event)) → ((number : ℕ) → is_listed plan listing number (place p i) (kind_at plan p i) ≡ is_this_number None number)
       → AreListedTo plan listing p i lists → AreListedTo plan listing p (suc i) lists
   listed_other p i lists told are = λ number. one_other (IsListed number) p i (events_listed lists number) (λ h. true≢false (sym h ∙ told number)) (are number)
 
@@ -132,7 +132,7 @@ names_process plan p n table le are = record {
   sweeps = listed_process plan Sweeps p n table.sweeps le are.sweeps;
 }
 
-pub names_plan : (plan : Plan) (n : ℕ) (table : NameTable) → process_count plan ≤ n → AreNamesTo plan n 0 table → AreNamesOf plan table
+pub names_plan : (plan : Plan) (n : ℕ) (table : NameTable) → process_count plan ≤ n → AreNamesTo plan n 0 table → AreNameCallsOf plan table
 names_plan plan n table le are = record {
   calls = listed_plan plan NameCalls n table.calls le are.calls;
   publishes = λ name. publishes_listed plan name (events_listed table.publishes name) (listed_plan plan Publishes n table.publishes le are.publishes name);

@@ -6,7 +6,7 @@ use Rattle.wire_runs.specs.Plan.{Plan, Event, Kind, Leave, kind, event_of}
 use Rattle.wire_types.specs.declared.Event.{Event as CodeEvent}
 use Rattle.wire_runs.specs.Fences.{arrivals}
 use Rattle.wire_runs.specs.Order.{Edge, Follows, Meets, Feeds, Announces}
-use Rattle.wire_plan.specs.Index.{AreSources, AreArrivals, Awaits, AwaitsCommit, AwaitsPublish, IsAwaited, previous_at, previous_of, source_list}
+use Rattle.wire_plan.specs.Index.{AreSources, AreArrivals, AwaitsOnly, AwaitsCommit, AwaitsPublish, FindsAwaited, previous_at, previous_of, source_list}
 use Rattle.wire_runs.proofs.Due.{place_path}
 
 -- what stands in a list behind an option
@@ -33,7 +33,7 @@ is_previous p zero z proc at = absurd (omega (arith, at))
 is_previous p (suc i) z proc at = ap Some (sym (place_path z p i proc (omega (arith, at))))
 
 -- what it awaits is a source of it
-awaited_edge : (plan : Plan) (y z : Event) → Awaits plan y z → Edge plan z y
+awaited_edge : (plan : Plan) (y z : Event) → AwaitsOnly plan y z → Edge plan z y
 awaited_edge plan y z (AwaitsCommit key is other once stores) = Feeds key is other once stores
 awaited_edge plan y z (AwaitsPublish name is once) = Announces name is once
 
@@ -44,7 +44,7 @@ ends_fence None = inr (λ members is. cc)
 ends_fence (Some _) = inr (λ members is. cc)
 
 module _ (plan : Plan) (y : Event) (previous awaited : Option CodeEvent) (came : List CodeEvent) (first : option_map event_of previous ≡ previous_of y)
-    (second : IsAwaited plan y (option_map event_of awaited)) (leave : (members : List ℕ) → kind plan y ≡ Some (Leave members) →
+    (second : FindsAwaited plan y (option_map event_of awaited)) (leave : (members : List ℕ) → kind plan y ≡ Some (Leave members) →
     AreArrivals plan members (arrivals plan y.proc members y.at) (map event_of came)) (others : ((members : List ℕ) → kind plan y ≡ Some (Leave members) → ⊥) → came ≡ []) where
   an_arrival : (j : ℕ) (z : Event) → slice_get (map event_of came) j ≡ Some z → Edge plan z y
   an_arrival j z is = elim (ends_fence (kind plan y)) [

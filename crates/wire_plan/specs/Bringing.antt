@@ -22,21 +22,21 @@ abbrev pub AreBringingTo : Plan → ℕ → ℕ → BringingArrivals → Type 0
 AreBringingTo plan p i table = AreAll (λ x. BringsData plan x × IsLower x (record { proc = p; at = i })) (map event_of table.arrivals.items)
 
 -- x is an arrival of p, from its event number `from` on, that brings data to the node
-pub record IsArrivalFrom (plan : Plan) (p node from : ℕ) (x : Event) : Type 0 where
+pub record IsBringingFrom (plan : Plan) (p node from : ℕ) (x : Event) : Type 0 where
   pub proc : x.proc ≡ p
   pub from_there : from ≤ x.at
   pub brings : BringsTo plan node x
 
 -- none of them stands in front of this place of a list
 abbrev pub NoneInFront : Plan → ℕ → ℕ → ℕ → List Event → ℕ → Type 0
-NoneInFront plan p node from xs k = (l : ℕ) (x : Event) → l < k → slice_get xs l ≡ Some x → IsArrivalFrom plan p node from x → ⊥
+NoneInFront plan p node from xs k = (l : ℕ) (x : Event) → l < k → slice_get xs l ≡ Some x → IsBringingFrom plan p node from x → ⊥
 
 -- what is found, if anything, is the first of them
 abbrev pub IsFirstFrom : Plan → ℕ → ℕ → ℕ → Option CodeEvent → Type 0
 IsFirstFrom plan p node from found =
     MatchOption found
-    ((x : Event) → IsArrivalFrom plan p node from x → ⊥)
-    (λ e. IsArrivalFrom plan p node from (event_of e) × ((x : Event) → IsArrivalFrom plan p node from x → e.at ≤ x.at))
+    ((x : Event) → IsBringingFrom plan p node from x → ⊥)
+    (λ e. IsBringingFrom plan p node from (event_of e) × ((x : Event) → IsBringingFrom plan p node from x → e.at ≤ x.at))
 
 -- what p has stored under the key is for processes of other nodes exactly after its event of this number, if ever
 abbrev pub IsSentAfter : Plan → ℕ → ℕ → Option ℕ → Type 0

@@ -31,14 +31,14 @@ source_list previous single arrivals = option_to_list (option_map event_of previ
 
 -- y is a get of another process's key that is put once, and z the commit that stores the key; or y is a waiting lookup
 -- of a name that is published once, and z that publish
-pub data Awaits (plan : Plan) (y z : Event) : Type 0 where
-  AwaitsCommit : (key : ℕ) → kind plan y ≡ Some (Get z.proc key) → z.proc ≢ y.proc → IsPutOnce plan z.proc key → Stores plan z key → Awaits plan y z
-  AwaitsPublish : (name : ℕ) → kind plan y ≡ Some (LookupWait name) → PublishesOnce plan z name → Awaits plan y z
+pub data AwaitsOnly (plan : Plan) (y z : Event) : Type 0 where
+  AwaitsCommit : (key : ℕ) → kind plan y ≡ Some (Get z.proc key) → z.proc ≢ y.proc → IsPutOnce plan z.proc key → Stores plan z key → AwaitsOnly plan y z
+  AwaitsPublish : (name : ℕ) → kind plan y ≡ Some (LookupWait name) → PublishesOnce plan z name → AwaitsOnly plan y z
 
 -- what is found, if anything, is that commit or that publish
-pub record IsAwaited (plan : Plan) (y : Event) (found : Option Event) : Type 0 where
-  pub only : (z : Event) → found ≡ Some z → Awaits plan y z
-  pub all : (z : Event) → Awaits plan y z → found ≡ Some z
+pub record FindsAwaited (plan : Plan) (y : Event) (found : Option Event) : Type 0 where
+  pub only : (z : Event) → found ≡ Some z → AwaitsOnly plan y z
+  pub all : (z : Event) → AwaitsOnly plan y z → found ≡ Some z
 
 -- x is its process's first put of the key
 pub record IsFirstPut (plan : Plan) (x : Event) (key : ℕ) : Type 0 where

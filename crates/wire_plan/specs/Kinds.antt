@@ -4,8 +4,8 @@ use Rattle.wire_runs.specs.Plan.{Kind, Call, kinds_of, set_of}
 use Rattle.wire_runs.specs.Plan as plan
 use Rattle.wire_types.specs.declared.Call.{Call as Written}
 use Rattle.wire_types.specs.declared.Call.TheVariants.{Fence}
-use Rattle.wire_content.specs.Scripts.{Scripts, IsSound, set_at}
-use Rattle.wire_content.specs.Planned.{planned_call}
+use Rattle.wire_scripts.specs.Scripts.{Scripts, IsSound, set_at}
+use Rattle.wire_scripts.specs.Planned.{planned_call}
 use Rattle.wire_runs.specs.Ends.{call_size}
 use Rattle.wire_plan.specs.declared.kind.Kind.{Kind as CodeKind}
 use Rattle.wire_plan.specs.declared.kind.Kind.TheVariants.{Put, Commit, Arrive, Leave, Get, GetNow, Publish, Lookup}

@@ -15,8 +15,8 @@ pub use Rattle.wire_runs.specs.Puts
 pub use Rattle.wire_runs.specs.Fences
 pub use Rattle.wire_types.specs.Outcome
 pub use Rattle.wire_types.specs.Replies
-pub use Rattle.wire_content.specs.Scripts
-pub use Rattle.wire_content.specs.Planned
+pub use Rattle.wire_scripts.specs.Scripts
+pub use Rattle.wire_scripts.specs.Planned
 pub mod Index
 pub mod Kinds
 pub mod Meetings

@@ -4,8 +4,8 @@ use Rattle.std.specs.Prelude.{◌==◌, if◌then◌else◌}
 use Rattle.wire_runs.specs.Plan.{Kind, Arrive, Leave, Event, kind, event_of}
 use Rattle.wire_runs.specs.Fences.{arrivals, is_member}
 use Rattle.wire_types.specs.declared.Event.{Event as CodeEvent}
-use Rattle.wire_content.specs.Scripts.{Scripts}
-use Rattle.wire_content.specs.Planned.{plan_of}
+use Rattle.wire_scripts.specs.Scripts.{Scripts}
+use Rattle.wire_scripts.specs.Planned.{plan_of}
 use Rattle.wire_fence.specs.FenceTable.{FenceInfo, FenceTable, fence_at}
 use Rattle.wire_runs.specs.Order.{IsArrival}
 use Rattle.wire_runs.specs.EventLists.{IsLower, AreAll}
@@ -48,5 +48,5 @@ AreArrivalListsTo s table p at lists =
     AreAll (λ z. IsArrival (plan_of s) info.members info.nth z × IsLower z (record { proc = p; at = at })) (arrivals_in lists number)
 
 -- one event more in the list of this number
-abbrev pub IsAdded : ℕ → CodeEvent → List (List CodeEvent) → List (List CodeEvent) → Type 0
-IsAdded number kind old new = (n : ℕ) → arrivals_in new n ≡ if n == number then arrivals_in old n ++ event_of kind ∷ [] else arrivals_in old n
+abbrev pub IsArrivalAdded : ℕ → CodeEvent → List (List CodeEvent) → List (List CodeEvent) → Type 0
+IsArrivalAdded number kind old new = (n : ℕ) → arrivals_in new n ≡ if n == number then arrivals_in old n ++ event_of kind ∷ [] else arrivals_in old n

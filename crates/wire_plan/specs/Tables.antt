@@ -21,9 +21,9 @@ is_listed plan Sweeps p x (Some UnpublishAll) = x.proc == p
 is_listed plan Sweeps p x _ = false
 
 -- whether it is this number
-abbrev pub is_number : Option ℕ → ℕ → Bool
-is_number None number = false
-is_number (Some n) number = n == number
+abbrev pub is_this_number : Option ℕ → ℕ → Bool
+is_this_number None number = false
+is_this_number (Some n) number = n == number
 
 -- the list of a number, empty where the number has none
 abbrev pub events_listed : List (List Event) → ℕ → List Event
@@ -50,7 +50,7 @@ IsUnswept plan publish found = MatchOption found ((z : Event) × (z.proc ≡ pub
 
 -- the table has the calls on each name alone, of these the publishes and the unpublishes, and the calls of each process
 -- that take away all its names
-pub record AreNamesOf (plan : Plan) (table : NameTable) : Type 0 where
+pub record AreNameCallsOf (plan : Plan) (table : NameTable) : Type 0 where
   pub calls : (name : ℕ) → AreNameCalls plan name (events_listed table.calls name)
   pub publishes : (name : ℕ) → ArePublishes plan name (events_listed table.publishes name)
   pub takes : (name : ℕ) → AreAll (λ x. kind plan x ≡ Some (Unpublish name)) (events_listed table.takes name)

@@ -3,7 +3,7 @@
 ghost use Rattle.std.specs.Prelude.{◌≡◌, ◌<◌, ◌≤◌, ◌&&◌, ℕ, length, suc, Some, slice_get, map, option_map, nat_lt, IfOk, IfSome, OnOk};
 ghost use Rattle.wire_runs.specs.Plan.{event_of, event_count};
 ghost use Rattle.wire_runs.specs.Plan as runs;
-ghost use Rattle.wire_content.specs.Planned.{plan_of};
+ghost use Rattle.wire_scripts.specs.Planned.{plan_of};
 ghost use Rattle.wire_fence.specs.FenceTable.{AreFencesOf, fence_at as the_fence_at, full_in, collects_in};
 ghost use Rattle.wire_plan.specs.Index.{IsLastBringingArrival};
 ghost use Rattle.wire_plan.specs.Bringing.{AreBringing, AreBringingTo, IsFirstFrom, IsRising, is_below};

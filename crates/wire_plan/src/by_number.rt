@@ -4,7 +4,7 @@ ghost use Rattle.std.specs.Prelude.{◌≡◌, ◌≢◌, ◌<◌, ◌++◌, ◌
 ghost use Rattle.wire_runs.specs.Plan.{event_of, kind_at};
 ghost use Rattle.wire_runs.specs.Plan as runs;
 ghost use Rattle.wire_plan.specs.Kinds.{kind_of};
-ghost use Rattle.wire_plan.specs.Tables.{is_listed, is_number, events_listed, AreListedTo};
+ghost use Rattle.wire_plan.specs.Tables.{is_listed, is_this_number, events_listed, AreListedTo};
 
 use crate::kind::Kind;
 use std::alloc::{AllocError, Global};
@@ -28,7 +28,7 @@ impl Listing {
     /// The number that an event of a process is listed under, if it is listed.
     fn number_of(self, proc: Proc, kind: Kind) -> Option<u32>
         ensures { (plan : runs.Plan) (sets : List (List ℕ)) (number at : ℕ) →
-            is_listed plan self number (record { proc = proc.number; at = at }) (Some (kind_of sets kind)) ≡ is_number result number }
+            is_listed plan self number (record { proc = proc.number; at = at }) (Some (kind_of sets kind)) ≡ is_this_number result number }
     {
         match self {
             Listing::NameCalls => name_called(kind),
@@ -42,7 +42,7 @@ impl Listing {
 /// The name of a call on one name.
 fn name_called(kind: Kind) -> Option<u32>
     ensures { (plan : runs.Plan) (sets : List (List ℕ)) (number : ℕ) (x : runs.Event) →
-        is_listed plan Listing.NameCalls number x (Some (kind_of sets kind)) ≡ is_number result number }
+        is_listed plan Listing.NameCalls number x (Some (kind_of sets kind)) ≡ is_this_number result number }
 {
     match kind {
         Kind::Publish { name } => Some(name),
@@ -56,7 +56,7 @@ fn name_called(kind: Kind) -> Option<u32>
 /// The name of a publish.
 fn name_published(kind: Kind) -> Option<u32>
     ensures { (plan : runs.Plan) (sets : List (List ℕ)) (number : ℕ) (x : runs.Event) →
-        is_listed plan Listing.Publishes number x (Some (kind_of sets kind)) ≡ is_number result number }
+        is_listed plan Listing.Publishes number x (Some (kind_of sets kind)) ≡ is_this_number result number }
 {
     match kind {
         Kind::Publish { name } => Some(name),
@@ -67,7 +67,7 @@ fn name_published(kind: Kind) -> Option<u32>
 /// The name of an unpublish of one name.
 fn name_taken(kind: Kind) -> Option<u32>
     ensures { (plan : runs.Plan) (sets : List (List ℕ)) (number : ℕ) (x : runs.Event) →
-        is_listed plan Listing.Takes number x (Some (kind_of sets kind)) ≡ is_number result number }
+        is_listed plan Listing.Takes number x (Some (kind_of sets kind)) ≡ is_this_number result number }
 {
     match kind {
         Kind::Unpublish { name } => Some(name),
@@ -78,7 +78,7 @@ fn name_taken(kind: Kind) -> Option<u32>
 /// The process whose names a call takes away.
 fn proc_swept(proc: Proc, kind: Kind) -> Option<u32>
     ensures { (plan : runs.Plan) (sets : List (List ℕ)) (number at : ℕ) →
-        is_listed plan Listing.Sweeps number (record { proc = proc.number; at = at }) (Some (kind_of sets kind)) ≡ is_number result number }
+        is_listed plan Listing.Sweeps number (record { proc = proc.number; at = at }) (Some (kind_of sets kind)) ≡ is_this_number result number }
 {
     match kind {
         Kind::UnpublishAll => Some(proc.number),

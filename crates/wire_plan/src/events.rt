@@ -2,8 +2,8 @@
 
 ghost use Rattle.std.specs.Prelude.{◌≡◌, ◌<◌, ◌^◌, Some, length, map, sum_by, vec_len, IfOk, IfErr};
 ghost use Rattle.wire_runs.specs.Plan.{event_of, process_count, kinds, kind_at, event_count, node_of};
-ghost use Rattle.wire_content.specs.Scripts.{IsSound};
-ghost use Rattle.wire_content.specs.Planned.{plan_of};
+ghost use Rattle.wire_scripts.specs.Scripts.{IsSound};
+ghost use Rattle.wire_scripts.specs.Planned.{plan_of};
 ghost use Rattle.wire_procmap.specs.Map.{map_of};
 ghost use Rattle.wire_plan.specs.Kinds.{kind_of, kinds_planned, calls_planned, starts_planned};
 ghost use Rattle.wire_runs.specs.Ends.{call_of, calls_of, first_event};
@@ -13,8 +13,8 @@ use crate::kind::Kind;
 use crate::row::{ProcessEvents, events_of};
 use std::alloc::{AllocError, Global};
 use std::marker::Model;
-use wire_content::Scripts;
 use wire_procmap::ProcMap;
+use wire_scripts::Scripts;
 use wire_types::{CallAt, Event, Fault, Proc};
 
 /// Scripts, with their process map, their fences, and the events of each process.
@@ -37,7 +37,7 @@ impl Drop for Events {
 
 impl Model for Events {
     ghost use Rattle.std.specs.Prelude.{◌≡◌, map};
-    ghost use Rattle.wire_content.specs.Scripts as spec;
+    ghost use Rattle.wire_scripts.specs.Scripts as spec;
     ghost use Rattle.wire_procmap.specs.Map.{map_of};
     ghost use Rattle.wire_plan.specs.Kinds.{kind_of, AreEventsOf};
 

@@ -7,7 +7,7 @@ ghost use Rattle.std.specs.Prelude.{IfOk, OnOk, IsTrue, MatchOption};
 ghost use Rattle.wire_runs.specs.Plan.{Plan, event_of, kind_at, event_count, admits};
 ghost use Rattle.wire_runs.specs.Plan as runs;
 ghost use Rattle.wire_runs.specs.Puts.{own, stored, put_count};
-ghost use Rattle.wire_content.specs.Planned.{plan_of};
+ghost use Rattle.wire_scripts.specs.Planned.{plan_of};
 ghost use Rattle.wire_plan.specs.Kinds.{kind_of};
 ghost use Rattle.wire_runs.specs.Order.{Stores};
 ghost use Rattle.wire_runs.specs.Races.{IsPutOnce};

@@ -4,13 +4,13 @@ ghost use Rattle.std.specs.Prelude.{◌≡◌, ◌∷◌, [], if◌then◌else�
 ghost use Rattle.wire_runs.specs.Plan.{kinds_of};
 ghost use Rattle.wire_types.specs.Replies.{bare};
 ghost use Rattle.wire_types.specs.Said.{is_reserved as is_reserved_text};
-ghost use Rattle.wire_content.specs.Scripts.{text_at};
-ghost use Rattle.wire_content.specs.Planned.{planned_call, reply_of_key};
+ghost use Rattle.wire_scripts.specs.Scripts.{text_at};
+ghost use Rattle.wire_scripts.specs.Planned.{planned_call, reply_of_key};
 ghost use Rattle.wire_procmap.specs.Map.{map_of};
 ghost use Rattle.wire_plan.specs.Kinds.{kind_of, kinds_after};
 
-use wire_content::Scripts;
 use wire_procmap::ProcMap;
+use wire_scripts::Scripts;
 use wire_types::{Call, Proc, Reply, Scope, Status, is_reserved};
 
 /// What an event of a process is: one of the events that its calls are made of. Sets of processes, keys

@@ -3,12 +3,12 @@
 ghost use Rattle.std.specs.Prelude.{◌≡◌, ◌<◌, ◌∷◌, [], ℕ, suc, List, true, Some, length, map as map_list, IfOk, OnOk};
 ghost use Rattle.wire_runs.specs.Plan.{Leave, event_of, process_count, event_count, kind};
 ghost use Rattle.wire_runs.specs.Fences.{arrivals as arrivals_of, is_full as is_full_fence};
-ghost use Rattle.wire_content.specs.Scripts.{Scripts as TheScripts};
-ghost use Rattle.wire_content.specs.Planned.{plan_of};
+ghost use Rattle.wire_scripts.specs.Scripts.{Scripts as TheScripts};
+ghost use Rattle.wire_scripts.specs.Planned.{plan_of};
 ghost use Rattle.wire_fence.specs.FenceTable.{FenceInfo, FenceTable, AreFencesOf, fence_at as the_fence_at};
 ghost use Rattle.wire_plan.specs.Index.{AreArrivals};
 ghost use Rattle.wire_plan.specs.Meetings.{is_of_fence, IsMet, arrivals_in, AreArrivalLists, AreArrivalListsTo};
-ghost use Rattle.wire_plan.specs.Meetings.{IsAdded};
+ghost use Rattle.wire_plan.specs.Meetings.{IsArrivalAdded};
 
 use crate::events::Events;
 use crate::kind::Kind;
@@ -62,7 +62,7 @@ fn add_arrival(
     fence: FenceId,
     event: Event,
 ) -> Result<(), AllocError>
-    ensures { OnOk result (IsAdded fence.number event (map_list (λ v. v.items) lists.old.items) (map_list (λ v. v.items) lists.new.items)) }
+    ensures { OnOk result (IsArrivalAdded fence.number event (map_list (λ v. v.items) lists.old.items) (map_list (λ v. v.items) lists.new.items)) }
 {
     let number = fence.number as usize;
     make_room(lists, alloc, number)?;

@@ -3,11 +3,11 @@
 ghost use Rattle.std.specs.Prelude.{◌≡◌, ℕ, suc, List, Some, map, OnOk, IfOk, MatchOption};
 ghost use Rattle.wire_runs.specs.Plan.{event_of, kind_at};
 ghost use Rattle.wire_runs.specs.Plan as runs;
-ghost use Rattle.wire_content.specs.Planned.{plan_of};
+ghost use Rattle.wire_scripts.specs.Planned.{plan_of};
 ghost use Rattle.wire_runs.specs.Order.{PublishesOnce};
 ghost use Rattle.wire_plan.specs.Index.{AreNameCalls, ArePublishes, AreSweeps};
 ghost use Rattle.wire_plan.specs.Kinds.{kind_of};
-ghost use Rattle.wire_plan.specs.Tables.{only_of, IsUnswept, AreNamesTo, AreNamesOf};
+ghost use Rattle.wire_plan.specs.Tables.{only_of, IsUnswept, AreNamesTo, AreNameCallsOf};
 
 use crate::by_number::{ByNumber, Listing};
 use crate::events::Events;
@@ -86,7 +86,7 @@ impl NameTable {
 
     /// The calls on each name. The only error is that memory ran out.
     pub(crate) fn of(alloc: Global, events: &Events) -> Result<NameTable, AllocError>
-        ensures { IfOk result (λ table. AreNamesOf (plan_of events.now) table) }
+        ensures { IfOk result (λ table. AreNameCallsOf (plan_of events.now) table) }
     {
         let mut table = NameTable::empty(alloc);
         for number in 0..events.process_count() {
@@ -98,28 +98,28 @@ impl NameTable {
     /// The calls on a name alone, in process order: publishes, lookups and unpublishes (PMIx Standard 5.0,
     /// PMIx_Publish, PMIx_Lookup, PMIx_Unpublish). None where no event calls it.
     pub(crate) fn calls(&self, name: u32) -> &[Event]
-        ensures { (plan : runs.Plan) → AreNamesOf plan self.now → AreNameCalls plan name (map event_of result.now) }
+        ensures { (plan : runs.Plan) → AreNameCallsOf plan self.now → AreNameCalls plan name (map event_of result.now) }
     {
         self.calls.list(name)
     }
 
     /// The publishes of a name, in process order.
     pub(crate) fn publishes(&self, name: u32) -> &[Event]
-        ensures { (plan : runs.Plan) → AreNamesOf plan self.now → ArePublishes plan name (map event_of result.now) }
+        ensures { (plan : runs.Plan) → AreNameCallsOf plan self.now → ArePublishes plan name (map event_of result.now) }
     {
         self.publishes.list(name)
     }
 
     /// The calls of a process that take away all names that it has published, in their order.
     pub(crate) fn sweeps(&self, proc: Proc) -> &[Event]
-        ensures { (plan : runs.Plan) → AreNamesOf plan self.now → AreSweeps plan proc.number (map event_of result.now) }
+        ensures { (plan : runs.Plan) → AreNameCallsOf plan self.now → AreSweeps plan proc.number (map event_of result.now) }
     {
         self.sweeps.list(proc.number)
     }
 
     /// A publish, where its process never takes away all its names.
     fn find_unswept(&self, publish: Event) -> Option<Event>
-        ensures { (plan : runs.Plan) → AreNamesOf plan self.now → IsUnswept plan publish result }
+        ensures { (plan : runs.Plan) → AreNameCallsOf plan self.now → IsUnswept plan publish result }
     {
         if self.sweeps(publish.proc).is_empty() {
             Some(publish)
@@ -130,7 +130,7 @@ impl NameTable {
 
     /// The publish of a name that is published once and that nobody unpublishes. None of any other name.
     pub(crate) fn once_published(&self, name: u32) -> Option<Event>
-        ensures { (plan : runs.Plan) → AreNamesOf plan self.now →
+        ensures { (plan : runs.Plan) → AreNameCallsOf plan self.now →
             MatchOption result ((x : runs.Event) → PublishesOnce plan x name → ⊥) (λ x. PublishesOnce plan (event_of x) name) }
     {
         match only_publish(self.publishes(name), self.takes.list(name)) {

@@ -6,8 +6,8 @@ ghost use Rattle.wire_runs.specs.Plan.{Get, Leave, event_of, process_count, kind
 ghost use Rattle.wire_runs.specs.Plan as runs;
 ghost use Rattle.wire_runs.specs.Puts.{put_count};
 ghost use Rattle.wire_runs.specs.Fences.{arrivals as arrivals_of};
-ghost use Rattle.wire_content.specs.Scripts.{IsSound};
-ghost use Rattle.wire_content.specs.Planned.{plan_of};
+ghost use Rattle.wire_scripts.specs.Scripts.{IsSound};
+ghost use Rattle.wire_scripts.specs.Planned.{plan_of};
 ghost use Rattle.wire_procmap.specs.Map.{map_of};
 ghost use Rattle.wire_fence.specs.FenceTable.{AreFencesOf};
 ghost use Rattle.wire_plan.specs.Kinds.{kind_of};
@@ -17,7 +17,7 @@ ghost use Rattle.wire_runs.specs.Order.{may_come, Stores, PublishesOnce};
 ghost use Rattle.wire_runs.specs.Races.{IsPutOnce};
 ghost use Rattle.wire_plan.specs.Index.{AreSources, AreArrivals, AreNameCalls, ArePublishes, AreSweeps};
 ghost use Rattle.wire_plan.specs.Index.{AreGetDeliveries, IsLastBringingArrival, IsSent};
-ghost use Rattle.wire_plan.specs.Index.{IsAwaited, IsFirstPut, IsNextDelivery, source_list, previous_of};
+ghost use Rattle.wire_plan.specs.Index.{FindsAwaited, IsFirstPut, IsNextDelivery, source_list, previous_of};
 ghost use Rattle.wire_plan.specs.Indexed.{IsIndexed};
 ghost use Rattle.wire_plan.specs.Meetings.{is_of_fence, IsMet};
 
@@ -29,9 +29,9 @@ use crate::meetings::{arrivals_at, fence_at, is_full};
 use crate::sources::{Sources, previous_event};
 use std::alloc::{AllocError, Global};
 use std::marker::Model;
-use wire_content::Scripts;
 use wire_fence::{FenceId, Fences};
 use wire_procmap::ProcMap;
+use wire_scripts::Scripts;
 use wire_types::{CallAt, Event, Fault, Proc};
 
 /// The scripts of a plan with their events, their fences, and the index of the events.
@@ -67,7 +67,7 @@ impl Drop for Plan {
 }
 
 impl Model for Plan {
-    ghost use Rattle.wire_content.specs.Scripts as spec;
+    ghost use Rattle.wire_scripts.specs.Scripts as spec;
     ghost use Rattle.wire_fence.specs.FenceTable.{AreFencesOf};
     ghost use Rattle.wire_plan.specs.Indexed.{IsIndexed};
 
@@ -228,7 +228,7 @@ impl Plan {
     /// The commit or the publish that an event of the plan waits for.
     fn awaited(&self, event: Event) -> Option<Event>
         requires { event.at < event_count (plan_of self.now) event.proc.number }
-        ensures { IsAwaited (plan_of self.now) (event_of event) (option_map event_of result) }
+        ensures { FindsAwaited (plan_of self.now) (event_of event) (option_map event_of result) }
     {
         match self.kind(event) {
             Kind::Get { owner, key } => {
@@ -269,7 +269,7 @@ impl Plan {
         requires { event.at < event_count (plan_of self.now) event.proc.number }
         ensures sources { AreSources (plan_of self.now) (event_of event) (source_list result.previous result.awaited result.arrivals.now) }
         ensures previous { option_map event_of result.previous ≡ previous_of (event_of event) }
-        ensures awaited { IsAwaited (plan_of self.now) (event_of event) (option_map event_of result.awaited) }
+        ensures awaited { FindsAwaited (plan_of self.now) (event_of event) (option_map event_of result.awaited) }
         ensures leave { (members : List ℕ) → kind (plan_of self.now) (event_of event) ≡ Some (Leave members)
             → AreArrivals (plan_of self.now) members (arrivals_of (plan_of self.now) event.proc.number members event.at) (map event_of result.arrivals.now) }
         ensures others { ((members : List ℕ) → kind (plan_of self.now) (event_of event) ≡ Some (Leave members) → ⊥) → result.arrivals.now ≡ [] }
@@ -396,7 +396,7 @@ pub fn fence_of(plan: &Plan, fences: &Fences, event: Event) -> FenceId
 impl PartialEq for Plan {
     ghost use Rattle.std.specs.Prelude.{◌≡◌};
     ghost use Rattle.std.specs.Bool.{Decides};
-    ghost use Rattle.wire_content.specs.Same.{same_scripts, scripts_alike};
+    ghost use Rattle.wire_scripts.specs.Same.{same_scripts, scripts_alike};
 
     ghost eq = { same_scripts };
 

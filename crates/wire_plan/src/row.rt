@@ -2,14 +2,14 @@
 
 ghost use Rattle.std.specs.Prelude.{◌≡◌, ◌+◌, ◌<◌, ◌≤◌, ◌^◌, ◌∷◌, ◌++◌, [], ℕ, List, length, map, replicate, OnOk, IfOk};
 ghost use Rattle.wire_runs.specs.Plan.{kinds_of};
-ghost use Rattle.wire_content.specs.Planned.{planned_call};
+ghost use Rattle.wire_scripts.specs.Planned.{planned_call};
 ghost use Rattle.wire_procmap.specs.Map.{map_of};
 ghost use Rattle.wire_plan.specs.Kinds.{kind_of, kinds_after, calls_from, starts_from};
 
 use crate::kind::{Kind, first_kind};
 use std::alloc::{AllocError, Global};
-use wire_content::Scripts;
 use wire_procmap::ProcMap;
+use wire_scripts::Scripts;
 use wire_types::Call;
 
 /// What the events of a process are, in their order, and the number of the call of each; and for each

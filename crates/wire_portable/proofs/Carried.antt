@@ -26,7 +26,7 @@ use Rattle.wire_library_laws.specs.Anywhere.{MayBringAway, fence as fence_away, 
 use Rattle.wire_portable.specs.Gets.{place_in}
 use Rattle.wire_portable.specs.Judging.{NoRewrites, IsLiveStore, AreFor}
 use Rattle.wire_portable.specs.Searched.{MayBe}
-use Rattle.wire_portable.specs.Nows.{GetsAreFor, AreGetsOf, AreListed, AreForReaders, NeverAway, IsFoundAway, MayCarry, GetsComeLater, FencesComeLater}
+use Rattle.wire_portable.specs.Nows.{GetsAreFor, AreGetsOf, AreListedGets, AreForReaders, NeverAway, IsFoundAway, MayCarry, GetsComeLater, FencesComeLater}
 use Rattle.wire_portable.proofs.Firsts.{live_asked}
 use Rattle.wire_portable.proofs.AtMostOnce.{got_commit}
 
@@ -226,11 +226,11 @@ module _ (plan : Plan) (p key : ℕ) (g : Event) (places : List Event) where
   away_never never members j b lives = never (here p b.at) b.at b.put refl (lives (here p b.at) b.arrival) (omega arith) b.committed b.admitted
 
   -- a get at g's node is listed
-  listed : (anywhere : Bool) → AreListed anywhere plan p g places → (z : Event) (other : ℕ) → kind plan z ≡ Some (Get p other) → z.proc ≢ p → place_in anywhere plan z.proc ≡ place_in anywhere plan g.proc →
+  listed : (anywhere : Bool) → AreListedGets anywhere plan p g places → (z : Event) (other : ℕ) → kind plan z ≡ Some (Get p other) → z.proc ≢ p → place_in anywhere plan z.proc ≡ place_in anywhere plan g.proc →
       Live plan z → (k : ℕ) × (slice_get places k ≡ Some z)
   listed anywhere are z other is ne there l = are.all z (record { key = other; is = is; other = ne; asked = live_asked plan z l; there = there })
 
-  get_never : (anywhere : Bool) → NoRewrites plan → NeverAway plan p key → AreListed anywhere plan p g places → AreForReaders plan p places → (z : Event) (other : ℕ) → kind plan z ≡ Some (Get p other) →
+  get_never : (anywhere : Bool) → NoRewrites plan → NeverAway plan p key → AreListedGets anywhere plan p g places → AreForReaders plan p places → (z : Event) (other : ℕ) → kind plan z ≡ Some (Get p other) →
       z.proc ≢ p → place_in anywhere plan z.proc ≡ place_in anywhere plan g.proc → Live plan z → (other ≢ key → ComesWithin plan p key z) → ⊥
   get_never anywhere once never are fits z other is ne there l within = elim (cases_eq other key) [
     | inl e ↦
@@ -240,11 +240,11 @@ module _ (plan : Plan) (p key : ℕ) (g : Event) (places : List Event) where
     | inr differ ↦ within_never never z (within differ)
   ]
 
-  pub nothing_there : same_node plan p g.proc ≡ false → NoRewrites plan → NeverAway plan p key → AreListed false plan p g places → AreForReaders plan p places → SeesNothing plan p key g
+  pub nothing_there : same_node plan p g.proc ≡ false → NoRewrites plan → NeverAway plan p key → AreListedGets false plan p g places → AreForReaders plan p places → SeesNothing plan p key g
   nothing_there far once never are fits _ (fence {members = members} {j = j} delivers lives) = absurd (away_never never members j delivers.away lives)
   nothing_there far once never are fits _ (get {g = z} other is there l within) = absurd (get_never false once never are fits z other is (near_or_not far z there) there l within)
 
-  pub nothing_away : NoRewrites plan → NeverAway plan p key → AreListed true plan p g places → AreForReaders plan p places → (d : Delivery) → MayBringAway plan p key d → (z : Event) × IsOf plan d z × Before plan g z
+  pub nothing_away : NoRewrites plan → NeverAway plan p key → AreListedGets true plan p g places → AreForReaders plan p places → (d : Delivery) → MayBringAway plan p key d → (z : Event) × IsOf plan d z × Before plan g z
   nothing_away once never are fits _ (fence_away {members = members} {j = j} brings lives) = absurd (away_never never members j brings lives)
   nothing_away once never are fits _ (get_away {g = z} other is ne l within) = absurd (get_never true once never are fits z other is ne refl l within)
 
@@ -252,14 +252,14 @@ module _ (plan : Plan) (p key : ℕ) (g : Event) (places : List Event) where
   carried : (z : Event) (other : ℕ) → kind plan z ≡ Some (Get p other) → Live plan z → (other ≢ key → ComesWithin plan p key z) → MayCarry plan p key z
   carried z other is l within = record { other_key = other; is = is; is_live = l; within = within }
 
-  pub later_there : same_node plan p g.proc ≡ false → FencesComeLater plan p key (node_of plan g.proc) g → GetsComeLater plan p key g places → AreListed false plan p g places → SeesNothing plan p key g
+  pub later_there : same_node plan p g.proc ≡ false → FencesComeLater plan p key (node_of plan g.proc) g → GetsComeLater plan p key g places → AreListedGets false plan p g places → SeesNothing plan p key g
   later_there far fences gets are _ (fence {members = members} {j = j} delivers lives) =
       fences delivers.away.at (record { members = members; j = j; arrival = delivers.away.arrival; brings = delivers }) lives
   later_there far fences gets are _ (get {g = z} other is there l within) =
       let at = listed false are z other is (near_or_not far z there) there l in
       (z, refl, gets at.0 z at.1 (carried z other is l within))
 
-  pub later_away : FencesComeLater plan p key (node_of plan p) g → GetsComeLater plan p key g places → AreListed true plan p g places → (d : Delivery) → MayBringAway plan p key d →
+  pub later_away : FencesComeLater plan p key (node_of plan p) g → GetsComeLater plan p key g places → AreListedGets true plan p g places → (d : Delivery) → MayBringAway plan p key d →
       (z : Event) × IsOf plan d z × Before plan g z
   later_away fences gets are _ (fence_away {members = members} {j = j} b lives) =
       fences b.at (record { members = members; j = j; arrival = b.arrival; brings = record { away = b; reaches = member_there plan members p b.member } }) lives
@@ -273,7 +273,7 @@ module _ (plan : Plan) (p : ℕ) (g : Event) (places : List Event) where
   also_far true z there far a = absurd (true≢false a)
   also_far false z there far a = ap (λ n. node_of plan p == n) there ∙ far a
 
-  pub for_readers : (anywhere : Bool) → GetsAreFor anywhere plan → AreListed anywhere plan p g places → MayBe anywhere plan false p g.proc → AreForReaders plan p places
+  pub for_readers : (anywhere : Bool) → GetsAreFor anywhere plan → AreListedGets anywhere plan p g places → MayBe anywhere plan false p g.proc → AreForReaders plan p places
   for_readers anywhere all are far k z key is asks =
       let o = are.only k z is in
       all z p key asks o.other o.asked (also_far anywhere z o.there far)

@@ -4,10 +4,10 @@ use Rattle.std.proofs.lemmas.Bool.{cases_eq}
 use Rattle.wire_runs.specs.Plan.{Plan, Event}
 use Rattle.wire_runs.specs.Order.{Live, Before}
 use Rattle.wire_runs.proofs.Histories.{before_live, joined, same_process}
-use Rattle.wire_library_laws.specs.Portable.{IsLast, EndsFirst, IsAsked}
+use Rattle.wire_library_laws.specs.Portable.{IsRightBefore, EndsFirst, IsAsked}
 
 -- the event right before one is the one that is last
-pub one_last : (x y g : Event) → IsLast x g → IsLast y g → x ≡ y
+pub one_last : (x y g : Event) → IsRightBefore x g → IsRightBefore y g → x ≡ y
 one_last x y g a b =
     let p = a.same ∙ sym b.same in
     let m = a.next in
@@ -19,10 +19,10 @@ pub asked_first : (plan : Plan) (g : Event) → g.at ≡ 0 → IsAsked plan g
 asked_first plan g z y last = let n = last.next in absurd (omega (arith, n, z))
 
 -- the event right before a call is live
-pub asked_live : (plan : Plan) (g last : Event) → IsLast last g → Live plan last → IsAsked plan g
+pub asked_live : (plan : Plan) (g last : Event) → IsRightBefore last g → Live plan last → IsAsked plan g
 asked_live plan g last is l y other = subst (Live plan) (one_last last y g is other) l
 
-pub asked_back : (plan : Plan) (g last : Event) → IsLast last g → IsAsked plan g → Live plan last
+pub asked_back : (plan : Plan) (g last : Event) → IsRightBefore last g → IsAsked plan g → Live plan last
 asked_back plan g last is asked = asked last is
 
 -- a live call is asked
@@ -30,20 +30,20 @@ pub live_asked : (plan : Plan) (g : Event) → Live plan g → IsAsked plan g
 live_asked plan g l y last = let n = last.next in before_live (same_process plan y g l last.same (omega (arith, n)))
 
 -- the event right before one that isn't the first
-pub last_of : (p at : ℕ) → (at ≡ 0 → ⊥) → IsLast (record { proc = p; at = at - 1 }) (record { proc = p; at = at })
+pub last_of : (p at : ℕ) → (at ≡ 0 → ⊥) → IsRightBefore (record { proc = p; at = at - 1 }) (record { proc = p; at = at })
 last_of p at some = record { same = refl; next = omega (arith, some) }
 
 -- before the first event of a process nothing has ended
 pub none_first : (plan : Plan) (x g : Event) → g.at ≡ 0 → EndsFirst plan x g → ⊥
 none_first plan x g z first = let n = first.is.next in omega (arith, n, z)
 
-pub here_first : (plan : Plan) (x g last : Event) → IsLast last g → x ≡ last → EndsFirst plan x g
+pub here_first : (plan : Plan) (x g last : Event) → IsRightBefore last g → x ≡ last → EndsFirst plan x g
 here_first plan x g last is e = record { last = last; is = is; leads = inl e }
 
-pub before_first : (plan : Plan) (x g last : Event) → IsLast last g → Before plan x last → EndsFirst plan x g
+pub before_first : (plan : Plan) (x g last : Event) → IsRightBefore last g → Before plan x last → EndsFirst plan x g
 before_first plan x g last is b = record { last = last; is = is; leads = inr b }
 
-pub first_before : (plan : Plan) (x g last : Event) → IsLast last g → (x ≡ last → ⊥) → EndsFirst plan x g → Before plan x last
+pub first_before : (plan : Plan) (x g last : Event) → IsRightBefore last g → (x ≡ last → ⊥) → EndsFirst plan x g → Before plan x last
 first_before plan x g last is other first =
     let same = one_last first.last last g first.is is in
     elim first.leads [

@@ -6,7 +6,7 @@ use Rattle.wire_library_laws.specs.Portable.{IsFor, IsPortableFar}
 use Rattle.wire_portable.specs.declared.libraries.Library.{Library}
 use Rattle.wire_portable.specs.declared.listed.Unportable.{Unportable}
 use Rattle.wire_portable.specs.Libraries.{family_of}
-use Rattle.wire_portable.specs.Adding.{Adds}
+use Rattle.wire_portable.specs.Adding.{AddsUnportable}
 use Rattle.wire_portable.specs.Gets.{place_in, AreOpenGets}
 use Rattle.wire_portable.specs.Sharing.{AreAskedGets}
 use Rattle.wire_portable.specs.Judging.{NoRewrites, IsEndedNear, IsEndedFar, AreFineMates}
@@ -14,14 +14,14 @@ use Rattle.wire_portable.specs.Searched.{MayBe, may_be, HasNoMate, IsNearFine, I
 
 -- two that are added one after the other
 pub both_added : (old more new : List Unportable) (P Q R : Library → Type 0) → ((library : Library) → P library → Q library → R library) →
-    Adds old more P → Adds more new Q → Adds old new R
+    AddsUnportable old more P → AddsUnportable more new Q → AddsUnportable old new R
 both_added old more new P Q R join first second library free =
     let b = second library free in
     let a = first library b.0 in
     (a.0, join library a.1 b.1)
 
 -- nothing is added, and nothing asked
-pub none_added : (old : List Unportable) (P : Library → Type 0) → ((library : Library) → P library) → Adds old old P
+pub none_added : (old : List Unportable) (P : Library → Type 0) → ((library : Library) → P library) → AddsUnportable old old P
 none_added old P holds library free = (free, holds library)
 
 -- where it may not be

@@ -24,7 +24,7 @@ use Rattle.wire_portable.specs.declared.libraries.Library.{Library}
 use Rattle.wire_portable.specs.declared.libraries.Library.TheVariants.{V4, V5, V7}
 use Rattle.wire_portable.specs.Libraries.{family_of, has, only_v5}
 use Rattle.wire_portable.specs.Judging.{AreFor}
-use Rattle.wire_portable.specs.Nows.{IsLiveNow, AreListed, AreGetsOf, IsStoreAway, IsGot, AreOfFence, HasMate, HasLeft, HasArrived, IsLeftThere, IsLeft, HasLeftItself, HasKept, HasGotItself}
+use Rattle.wire_portable.specs.Nows.{IsLiveNow, AreListedGets, AreGetsOf, IsStoreAway, IsGotAmong, AreOfFence, HasMate, HasLeft, HasArrived, IsLeftThere, IsLeft, HasLeftItself, HasKept, HasGotItself}
 use Rattle.wire_portable.proofs.Carried.{some_of, same_owner}
 
 -- the owner's arrival, its process told by another name, is an arrival
@@ -42,7 +42,7 @@ pub left_at : (plan : Plan) (g : Event) (end : CodeEvent) (q at : ℕ) → end.p
 left_at plan g end q at own next b = subst (λ x. Before plan x g) (place_path (event_of end) q (suc at) own next) b
 
 -- gets that are listed are gets of the owner's keys
-pub gets_of : (anywhere : Bool) (plan : Plan) (p : ℕ) (g : Event) (places : List Event) → AreListed anywhere plan p g places → AreGetsOf plan p places
+pub gets_of : (anywhere : Bool) (plan : Plan) (p : ℕ) (g : Event) (places : List Event) → AreListedGets anywhere plan p g places → AreGetsOf plan p places
 gets_of anywhere plan p g places are = record { only = λ k z is. let o = are.only k z is in (o.key, o.is); rising = are.rising }
 
 -- the commit that stores a key is an event of the owner
@@ -175,7 +175,7 @@ module _ (plan : Plan) (p key : ℕ) (g : Event) where
         }
 
     module _ (family : Family) (words : Words) (places : List Event) where
-      pub have_got : AreListed false plan p g places → IsGot plan s.at g places → LibrariesHave family words plan p key g
+      pub have_got : AreListedGets false plan p g places → IsGotAmong plan s.at g places → LibrariesHave family words plan p key g
       have_got are h =
           let o = are.only h.k h.get h.is in
           let q = same_owner plan h.get h.got.owner p h.got.key o.key h.got.is o.is in
@@ -183,7 +183,7 @@ module _ (plan : Plan) (p key : ℕ) (g : Event) where
           let u = there_after (suc h.got.commit.at) (omega (arith, le)) in
           got h.get h.got.commit h.got.key u.0 (subst (λ r. kind plan h.get ≡ Some (Get r h.got.key)) q h.got.is) o.there h.got.before (h.got.its ∙ q) h.got.stores u.1 u.2
 
-      pub got_itself : AreListed true plan p g places → HasGotItself plan s.at g places → OwnCallsHave family words plan p key g
+      pub got_itself : AreListedGets true plan p g places → HasGotItself plan s.at g places → OwnCallsHave family words plan p key g
       got_itself are i =
           let h = i.among in
           let o = are.only h.k h.get h.is in

@@ -12,7 +12,7 @@ use Rattle.wire_portable.specs.declared.libraries.Libraries.{Libraries}
 use Rattle.wire_portable.specs.declared.libraries.Library.{Library}
 use Rattle.wire_portable.specs.declared.libraries.Library.TheVariants.{V4, V5, V7}
 use Rattle.wire_portable.specs.declared.listed.Unportable.{Unportable}
-use Rattle.wire_portable.specs.Adding.{Adds}
+use Rattle.wire_portable.specs.Adding.{AddsUnportable}
 use Rattle.wire_portable.specs.Libraries.{has, is_empty}
 use Rattle.wire_portable.specs.Unportable.{IsUnblamed}
 use Rattle.wire_portable.proofs.Gathered.{index_some}
@@ -89,8 +89,8 @@ pub all_blamed : (xs : List Unportable) (k : ℕ) (d : Unportable) → k < lengt
 all_blamed xs k d lt a b e library u = true≢false (sym (full_has (get_or xs k d).libraries a b e library) ∙ u k (get_or xs k d) (slice_get-get_or xs k d lt))
 
 -- nothing is said where no library is blamed
-pub adds_none : (s : Libraries) (xs : List Unportable) → is_empty s ≡ true → Adds xs xs (λ library. has s library ≡ false)
+pub adds_none : (s : Libraries) (xs : List Unportable) → is_empty s ≡ true → AddsUnportable xs xs (λ library. has s library ≡ false)
 adds_none s xs e = λ library u. (u, empty_has s e library)
 
-pub adds_line : (xs ys : List Unportable) (x : Unportable) → ys ≡ xs ++ x ∷ [] → Adds xs ys (λ library. has x.libraries library ≡ false)
+pub adds_line : (xs ys : List Unportable) (x : Unportable) → ys ≡ xs ++ x ∷ [] → AddsUnportable xs ys (λ library. has x.libraries library ≡ false)
 adds_line xs ys x e = λ library u. pushed library xs x (subst (IsUnblamed library) e u)

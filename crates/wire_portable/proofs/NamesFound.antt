@@ -24,7 +24,7 @@ use Rattle.std.proofs.lemmas.List.{map_push}
 use Rattle.wire_runs.proofs.Basics.{event_within}
 use Rattle.wire_plan.proofs.FirstBringing.{shown}
 use Rattle.wire_plan.specs.Index.{ArePublishes, AreNameCalls, is_plain_call}
-use Rattle.wire_portable.specs.Named.{FindsFree, FindsOwn, IsOnlyPublish, IsNever, AreNever}
+use Rattle.wire_portable.specs.Named.{FindsFree, FindsOwnName, IsOnlyPublish, IsNever, AreNever}
 
 -- the one publish of a name finds it free
 pub only_free : (plan : Plan) (name : ℕ) (y : Event) → kind plan y ≡ Some (Publish name) → IsOnlyPublish plan name y → FindsFree plan name y
@@ -66,7 +66,7 @@ never_duplicate plan name y settled is never s r next = go (s.names name) refl
 
 pub never_missed : (plan : Plan) (name : ℕ) (y : Event) → IsSettled plan → kind plan y ≡ Some (Unpublish name) →
     ((s : State) (answer : Answer) → IsReachable plan s → slice_get (s.replies y.proc) y.at ≡ Some answer → answer_told plan answer ≡ told.Says (bare status.NotFound) → ⊥) →
-    FindsOwn plan name y
+    FindsOwnName plan name y
 never_missed plan name y settled is never s r next = elim (cases_Bool (is_publisher y.proc (s.names name))) [
   | inl t ↦ t
   | inr f ↦ absurd (not_said plan settled y (λ a. answer_told plan a ≡ told.Says (bare status.NotFound)) never s r next

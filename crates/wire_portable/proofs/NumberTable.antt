@@ -14,7 +14,7 @@ use Rattle.std.proofs.lemmas.Slice.Eq.{bytes_eq-Decides}
 use Rattle.std.proofs.Common.{◌<◌, ◌≤◌, length, get_or, arith, cond}
 use Rattle.wire_types.specs.Texts.{lists_of}
 use Rattle.wire_portable.specs.Spelling.{SpelledSet, HasTwice, items_of, times}
-use Rattle.wire_portable.specs.Numbering.{AreApart, AreAscending, AreFrom, IsInOrder, IsTold, Keeps, has_neighbours}
+use Rattle.wire_portable.specs.Numbering.{AreSetsDistinct, AreAscending, AreFrom, IsSetInOrder, IsSetNumbered, KeepsSets, has_neighbours}
 use Rattle.wire_portable.proofs.ItemOrder.{neighbours_twice, twice_neighbours}
 
 abbrev Text : Type 0
@@ -67,7 +67,7 @@ kept_push [] v n items is = absurd (none-some items is)
 kept_push (k ∷ keys) v zero items is = is
 kept_push (k ∷ keys) v (suc n) items is = kept_push keys v n items is
 
-pub keeps_inserted : (old new : List Key) (v : Key) → new ≡ (if list_any (same_keys v) old then old else old ++ v ∷ []) → Keeps (map view old) (map view new)
+pub keeps_inserted : (old new : List Key) (v : Key) → new ≡ (if list_any (same_keys v) old then old else old ++ v ∷ []) → KeepsSets (map view old) (map view new)
 keeps_inserted old new v e n items is = go (list_any (same_keys v) old) e
   where
     go : (b : Bool) → new ≡ (if b then old else old ++ v ∷ []) → slice_get (map view new) n ≡ Some items
@@ -80,7 +80,7 @@ absent k [] all n is = none-some (view k) is
 absent k (x ∷ keys) all zero is = true≢false (sym (texts_same k.items x.items (sym (same_Some _ _ is))) ∙ all.0)
 absent k (x ∷ keys) all (suc n) is = absent k keys all.1 n is
 
-pub apart : (keys : List Key) → IsDistinct same_keys keys → AreApart (map view keys)
+pub apart : (keys : List Key) → IsDistinct same_keys keys → AreSetsDistinct (map view keys)
 unfolding IsDistinct
 apart [] d m n items at_m at_n = absurd (none-some items at_m)
 apart (k ∷ keys) d zero zero items at_m at_n = refl
@@ -104,15 +104,15 @@ ascending (x ∷ xs) f = (
 )
 
 pub in_order : (set : SpelledSet) (old new : List Text) → lists_of old ≡ items_of set → IsPermutation old new →
-    IsSorted (λ (x y : Text). slice_cmp nat_cmp x.items y.items) new → IsInOrder set (lists_of new)
+    IsSorted (λ (x y : Text). slice_cmp nat_cmp x.items y.items) new → IsSetInOrder set (lists_of new)
 in_order set old new is moved sorted = record {
   ascending = ascending new (sorted_far lt (ranks_by nat_list_cmp_total (λ (v : Text). v.items)) new sorted);
   same = λ item. sum_by-IsPermutation (λ (other : List ℕ). cond {A = ℕ} (bytes_eq other item) 1 0) (lists_of old) (lists_of new) (IsPermutation-map (λ (v : Text). v.items) old new moved) ∙ ap (times item) is;
 }
 
 -- a set with its number is told
-pub told : (table : List (List (List ℕ))) (set : SpelledSet) (items : List (List ℕ)) (number : ℕ) (repeats : Bool) → IsInOrder set items →
-    slice_get table number ≡ Some items → repeats ≡ has_neighbours items → IsTold table set (record { number = number; repeats = repeats })
+pub told : (table : List (List (List ℕ))) (set : SpelledSet) (items : List (List ℕ)) (number : ℕ) (repeats : Bool) → IsSetInOrder set items →
+    slice_get table number ≡ Some items → repeats ≡ has_neighbours items → IsSetNumbered table set (record { number = number; repeats = repeats })
 told table set items number repeats order there is = record {
   items = items;
   order = order;

@@ -5,31 +5,31 @@ use Rattle.wire_portable.specs.Spelled.{row_by, rows_by, set_by}
 use Rattle.wire_portable.specs.declared.spelled.SpelledSet.{SpelledSet as CodeSet}
 use Rattle.std.specs.Prelude.{slice_get, slice_index_or}
 use Rattle.std.proofs.lemmas.Option.{same_Some}
-use Rattle.wire_portable.specs.Spelling.{SpelledSet, AreSpeltAlike, AreNumbered, at_call, times}
-use Rattle.wire_portable.specs.Numbering.{AreApart, Keeps, IsTold, IsCallTold, IsRowTold, AreRowsTold}
+use Rattle.wire_portable.specs.Spelling.{SpelledSet, AreSpeltAlike, AreSetsNumbered, at_call, times}
+use Rattle.wire_portable.specs.Numbering.{AreSetsDistinct, KeepsSets, IsSetNumbered, IsCallTold, IsRowTold, AreRowsTold}
 use Rattle.wire_portable.specs.declared.spelling.Spelt.{Spelt}
 use Rattle.wire_portable.proofs.ItemOrder.{one_order}
 
-pub keeps_all : (table : List (List (List ℕ))) → Keeps table table
+pub keeps_all : (table : List (List (List ℕ))) → KeepsSets table table
 keeps_all table n items is = is
 
-pub keeps_both : (a b c : List (List (List ℕ))) → Keeps a b → Keeps b c → Keeps a c
+pub keeps_both : (a b c : List (List (List ℕ))) → KeepsSets a b → KeepsSets b c → KeepsSets a c
 keeps_both a b c one two n items is = two n items (one n items is)
 
 -- what is told stays told
-call_kept : (old new : List (List (List ℕ))) → Keeps old new → (set : Option SpelledSet) (spelt : Option Spelt) → IsCallTold old set spelt → IsCallTold new set spelt
+call_kept : (old new : List (List (List ℕ))) → KeepsSets old new → (set : Option SpelledSet) (spelt : Option Spelt) → IsCallTold old set spelt → IsCallTold new set spelt
 call_kept old new keeps None None t = tt
 call_kept old new keeps None (Some spelt) t = t
 call_kept old new keeps (Some set) None t = t
 call_kept old new keeps (Some set) (Some spelt) t = record { items = t.items; order = t.order; there = keeps spelt.number t.items t.there; twice = t.twice }
 
-row_kept : (old new : List (List (List ℕ))) → Keeps old new → (sets : List (Option SpelledSet)) (spelts : List (Option Spelt)) → IsRowTold old sets spelts → IsRowTold new sets spelts
+row_kept : (old new : List (List (List ℕ))) → KeepsSets old new → (sets : List (Option SpelledSet)) (spelts : List (Option Spelt)) → IsRowTold old sets spelts → IsRowTold new sets spelts
 row_kept old new keeps [] [] t = tt
 row_kept old new keeps [] (spelt ∷ spelts) t = t
 row_kept old new keeps (set ∷ sets) [] t = t
 row_kept old new keeps (set ∷ sets) (spelt ∷ spelts) t = (call_kept old new keeps set spelt t.0, row_kept old new keeps sets spelts t.1)
 
-rows_kept : (old new : List (List (List ℕ))) → Keeps old new → (sets : List (List (Option SpelledSet))) (spelts : List (List (Option Spelt))) → AreRowsTold old sets spelts → AreRowsTold new sets spelts
+rows_kept : (old new : List (List (List ℕ))) → KeepsSets old new → (sets : List (List (Option SpelledSet))) (spelts : List (List (Option Spelt))) → AreRowsTold old sets spelts → AreRowsTold new sets spelts
 rows_kept old new keeps [] [] t = tt
 rows_kept old new keeps [] (spelt ∷ spelts) t = t
 rows_kept old new keeps (set ∷ sets) [] t = t
@@ -51,11 +51,11 @@ rows_pushed table (x ∷ sets) [] set spelt t new = absurd t
 rows_pushed table (x ∷ sets) (y ∷ spelts) set spelt t new = (t.0, rows_pushed table sets spelts set spelt t.1 new)
 
 pub row_more : (old new : List (List (List ℕ))) (sets : List (Option SpelledSet)) (spelts : List (Option Spelt)) (set : Option SpelledSet) (spelt : Option Spelt) →
-    Keeps old new → IsRowTold old sets spelts → IsCallTold new set spelt → IsRowTold new (sets ++ set ∷ []) (spelts ++ spelt ∷ [])
+    KeepsSets old new → IsRowTold old sets spelts → IsCallTold new set spelt → IsRowTold new (sets ++ set ∷ []) (spelts ++ spelt ∷ [])
 row_more old new sets spelts set spelt keeps t told = row_pushed new sets spelts set spelt (row_kept old new keeps sets spelts t) told
 
 pub rows_more : (old new : List (List (List ℕ))) (sets : List (List (Option SpelledSet))) (spelts : List (List (Option Spelt))) (set : List (Option SpelledSet)) (spelt : List (Option Spelt)) →
-    Keeps old new → AreRowsTold old sets spelts → IsRowTold new set spelt → AreRowsTold new (sets ++ set ∷ []) (spelts ++ spelt ∷ [])
+    KeepsSets old new → AreRowsTold old sets spelts → IsRowTold new set spelt → AreRowsTold new (sets ++ set ∷ []) (spelts ++ spelt ∷ [])
 rows_more old new sets spelts set spelt keeps t told = rows_pushed new sets spelts set spelt (rows_kept old new keeps sets spelts t) told
 
 module _ (table : List (List (List ℕ))) where
@@ -83,7 +83,7 @@ module _ (table : List (List (List ℕ))) where
   some_told set None t = absurd t
   some_told set (Some spelt) t = (spelt, refl)
 
-  module _ (apart : AreApart table) (one other : SpelledSet) (a b : Spelt) (t : IsTold table one a) (u : IsTold table other b) where
+  module _ (apart : AreSetsDistinct table) (one other : SpelledSet) (a b : Spelt) (t : IsSetNumbered table one a) (u : IsSetNumbered table other b) where
     alike_told : a.number ≡ b.number → AreSpeltAlike one other
     alike_told e item =
         let same : t.items ≡ u.items = same_Some _ _ (sym t.there ∙ ap (slice_get table) e ∙ u.there) in
@@ -94,7 +94,7 @@ module _ (table : List (List (List ℕ))) where
         let same = one_order t.items u.items t.order.ascending u.order.ascending (λ item. t.order.same item ∙ alike item ∙ sym (u.order.same item)) in
         apart a.number b.number u.items (t.there ∙ ap Some same) u.there
 
-  pub numbered : AreApart table → (sets : List (List (Option SpelledSet))) (spelts : List (List (Option Spelt))) → AreRowsTold table sets spelts → AreNumbered sets spelts
+  pub numbered : AreSetsDistinct table → (sets : List (List (Option SpelledSet))) (spelts : List (List (Option Spelt))) → AreRowsTold table sets spelts → AreSetsNumbered sets spelts
   numbered apart sets spelts t = record {
     none = λ p c is. none_told (at_call spelts p c) (subst (λ o. IsCallTold table o (at_call spelts p c)) is (at p c));
     some = λ p c set is. some_told set (at_call spelts p c) (subst (λ o. IsCallTold table o (at_call spelts p c)) is (at p c));
@@ -108,20 +108,20 @@ module _ (table : List (List (List ℕ))) where
       at : (p c : ℕ) → IsCallTold table (at_call sets p c) (at_call spelts p c)
       at p c = in_row _ _ (in_rows sets spelts t p) c
 
-      told : (p c : ℕ) (set : SpelledSet) (spelt : Spelt) → at_call sets p c ≡ Some set → at_call spelts p c ≡ Some spelt → IsTold table set spelt
+      told : (p c : ℕ) (set : SpelledSet) (spelt : Spelt) → at_call sets p c ≡ Some set → at_call spelts p c ≡ Some spelt → IsSetNumbered table set spelt
       told p c set spelt is has =
           subst (λ o. IsCallTold table (Some set) o) has (subst (λ o. IsCallTold table o (at_call spelts p c)) is (at p c))
 
 -- one more call, as vectors hold them
 pub row_next : (old new : List (List (List ℕ))) (row : List (Option CodeSet)) (i m : ℕ) (d : Option CodeSet) (spelts : List (Option Spelt)) (spelt : Option Spelt) →
-    m ≡ i + 1 → i < length row → Keeps old new → IsRowTold old (row_by (take i row)) spelts → IsCallTold new (option_map set_by (get_or row i d)) spelt →
+    m ≡ i + 1 → i < length row → KeepsSets old new → IsRowTold old (row_by (take i row)) spelts → IsCallTold new (option_map set_by (get_or row i d)) spelt →
     IsRowTold new (row_by (take m row)) (spelts ++ spelt ∷ [])
 row_next old new row i m d spelts spelt e lt keeps t told =
     subst (λ sets. IsRowTold new sets (spelts ++ spelt ∷ [])) (sym (ap (λ k. row_by (take k row)) e ∙ map_more (option_map set_by) row i d lt))
     (row_more old new (row_by (take i row)) spelts (option_map set_by (get_or row i d)) spelt keeps t told)
 
 pub rows_next : (old new : List (List (List ℕ))) (rows : List (Vec (Option CodeSet) Global)) (i m : ℕ) (d : Vec (Option CodeSet) Global) (spelts : List (List (Option Spelt)))
-    (spelt : List (Option Spelt)) → m ≡ i + 1 → i < length rows → Keeps old new → AreRowsTold old (rows_by (take i rows)) spelts →
+    (spelt : List (Option Spelt)) → m ≡ i + 1 → i < length rows → KeepsSets old new → AreRowsTold old (rows_by (take i rows)) spelts →
     IsRowTold new (row_by (get_or rows i d).items) spelt → AreRowsTold new (rows_by (take m rows)) (spelts ++ spelt ∷ [])
 rows_next old new rows i m d spelts spelt e lt keeps t told =
     subst (λ sets. AreRowsTold new sets (spelts ++ spelt ∷ [])) (sym (ap (λ k. rows_by (take k rows)) e ∙ map_more (λ (v : Vec (Option CodeSet) Global). row_by v.items) rows i d lt))

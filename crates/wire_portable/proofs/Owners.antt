@@ -9,9 +9,9 @@ use Rattle.wire_types.specs.declared.Call.TheVariants as written
 use Rattle.wire_types.specs.Said.{is_reserved}
 use Rattle.wire_runs.specs.Plan.{Event, Kind, Get, GetNow, Call, CallPut, CallCommit, CallFence, CallGet, CallGetNow, CallPublish, CallLookup, CallLookupWait, CallUnpublish, CallUnpublishAll, CallFixed, kind, kinds, kind_at, kinds_of, process_count}
 use Rattle.wire_runs.proofs.Lists.{slice_get-map_back}
-use Rattle.wire_content.specs.Scripts.{Scripts, IsSound, owner_in, calls_in, text_at}
-use Rattle.wire_content.specs.Planned.{plan_of, planned_call}
-use Rattle.wire_content.proofs.PlannedCalls.{events_are}
+use Rattle.wire_scripts.specs.Scripts.{Scripts, IsSound, owner_in, calls_in, text_at}
+use Rattle.wire_scripts.specs.Planned.{plan_of, planned_call}
+use Rattle.wire_scripts.proofs.PlannedCalls.{events_are}
 
 -- the owner of the key that an event, or a call, reads
 abbrev owner_of : Kind → Option ℕ

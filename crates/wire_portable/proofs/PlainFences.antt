@@ -13,8 +13,8 @@ use Rattle.wire_runs.specs.Order.{IsArrival, Live}
 use Rattle.wire_runs.proofs.Arrivals.{one_arrival}
 use Rattle.wire_runs.proofs.Basics.{event_within}
 use Rattle.wire_runs.proofs.Lists.{one_longer}
-use Rattle.wire_content.specs.Scripts.{Scripts, IsSound, set_at, call_at}
-use Rattle.wire_content.specs.Planned.{plan_of}
+use Rattle.wire_scripts.specs.Scripts.{Scripts, IsSound, set_at, call_at}
+use Rattle.wire_scripts.specs.Planned.{plan_of}
 use Rattle.wire_plan.specs.Index.{AreArrivals}
 use Rattle.wire_plan.specs.Kinds.{kind_of}
 use Rattle.wire_plan.specs.declared.kind.Kind.{Kind as CodeKind}
@@ -25,14 +25,14 @@ use Rattle.wire_library_laws.specs.Library.{IsPlainFence}
 use Rattle.std.specs.Prelude.{not}
 use Rattle.wire_portable.specs.declared.libraries.Libraries.{Libraries}
 use Rattle.wire_portable.specs.declared.listed.Unportable.{Unportable}
-use Rattle.wire_portable.specs.Adding.{Adds}
+use Rattle.wire_portable.specs.Adding.{AddsUnportable}
 use Rattle.wire_portable.specs.Libraries.{has}
 use Rattle.wire_portable.specs.Words.{words_of, sign_by, spelled, unrepeated, is_one_job, takes}
 use Rattle.wire_portable.specs.declared.libraries.Library.{Library}
 use Rattle.wire_portable.specs.declared.spelling.Spelt.{Spelt}
 use Rattle.wire_portable.specs.declared.fences.SetTable.{SetTable}
 use Rattle.wire_portable.specs.declared.fences.FenceCall.{FenceCall}
-use Rattle.wire_portable.specs.Fences.{numbered, spelt_first, number_of, spelt_at, AreWithin, NoneSpelt, IsSpelled, IsSpeltAt, IsLowestSpelt, IsPlainCall, IsPlainArrival, KeepsRules}
+use Rattle.wire_portable.specs.Fences.{numbered, spelt_first, number_of, spelt_at, AreEventsOfPlan, NoneSpelt, NamesNobodyTwice, IsSpeltAt, IsLowestSpelt, IsPlainCall, IsPlainArrival, KeepsFenceRules}
 
 -- the place of a list in a table, if it is there
 find : (sets : List (List ℕ)) (members : List ℕ) → ((n : ℕ) × (slice_get sets n ≡ Some members)) ⊎ ((n : ℕ) → slice_get sets n ≡ Some members → ⊥)
@@ -194,7 +194,7 @@ module _ (s : Scripts) (sound : IsSound s) where
     ]
 
 -- the arrivals at a fence are events of the plan
-pub arrivals_within : (plan : Plan) (members : List ℕ) (j : ℕ) (places : List Event) → AreArrivals plan members j places → AreWithin plan places
+pub arrivals_within : (plan : Plan) (members : List ℕ) (j : ℕ) (places : List Event) → AreArrivals plan members j places → AreEventsOfPlan plan places
 arrivals_within plan members j places are k x is = let a = are.only k x is in event_within plan x.proc x.at _ a.is
 
 -- the first of these that spells the set so is of the lowest process
@@ -221,7 +221,7 @@ lowest_of s rows number members j places first are f = record {
 pub plain_call : (library : Library) (s : Scripts) (rows : List (List (Option Spelt))) (table : SetTable) (call : FenceCall) (places : List Event) (first : Event) →
     kind (plan_of s) (event_of call.arrival) ≡ Some (Arrive (set_of (set_at s.sets call.set)) call.collect) →
     ((members : List ℕ) (j : ℕ) → IsArrival (plan_of s) members j (event_of call.arrival) → AreArrivals (plan_of s) members j places) →
-    IsSound s → IsSpeltAt s rows (numbered s rows (event_of call.arrival)) places first → KeepsRules library s rows table first call →
+    IsSound s → IsSpeltAt s rows (numbered s rows (event_of call.arrival)) places first → KeepsFenceRules library s rows table first call →
     IsPlainCall library s rows table (set_of (set_at s.sets call.set)) call.collect (event_of call.arrival)
 plain_call library s rows table call places first is those sound f keeps =
     let members = set_of (set_at s.sets call.set) in
@@ -241,8 +241,8 @@ plain_call library s rows table call places first is those sound f keeps =
       agrees = at.is ∙ ap (λ c. Some (Arrive members c)) (keeps.agrees members at.collect at.is);
     }
 
-pub unrepeating : (spelt : Option Spelt) (one : Spelt) → spelt ≡ Some one → one.repeats ≡ false → IsSpelled spelt
-unrepeating spelt one is once = subst IsSpelled (sym is) (one.number, ap (λ b. cond b None (Some one.number)) once, refl)
+pub unrepeating : (spelt : Option Spelt) (one : Spelt) → spelt ≡ Some one → one.repeats ≡ false → NamesNobodyTwice spelt
+unrepeating spelt one is once = subst NamesNobodyTwice (sym is) (one.number, ap (λ b. cond b None (Some one.number)) once, refl)
 
 -- one more event that doesn't spell the set so
 pub none_more : (s : Scripts) (rows : List (List (Option Spelt))) (number : Option ℕ) (places : List Event) (n m : ℕ) (x : Event) → m ≡ n + 1 →
@@ -302,7 +302,7 @@ tells_all s n told le t set = elim (cases_lt set n) [
 pub keeps_rules : (library : Library) (s : Scripts) (rows : List (List (Option Spelt))) (table : SetTable) (first : Event) (call : FenceCall) (spelt : Option Spelt) →
     spelt ≡ spelt_at s rows (event_of call.arrival) →
     ((members : List ℕ) (collect : Bool) → kind (plan_of s) first ≡ Some (Arrive members collect) → collect ≡ call.collect) →
-    takes library s (set_at s.sets call.set) ≡ true → IsSpelled spelt → number_of spelt ≡ spelt_first table call.set → KeepsRules library s rows table first call
+    takes library s (set_at s.sets call.set) ≡ true → NamesNobodyTwice spelt → number_of spelt ≡ spelt_first table call.set → KeepsFenceRules library s rows table first call
 keeps_rules library s rows table first call spelt is agree taken one same = record {
   agrees = agree;
   taken = taken;
@@ -339,8 +339,8 @@ no_arrival sets (code.Fixed reply) other members collect is = cc
 -- four lines, none of which is the library's
 pub four_added : (a b c d e : List Unportable) (k l m n : Libraries) (P : Library → Type 0) →
     ((library : Library) → has k library ≡ false → has l library ≡ false → has m library ≡ false → has n library ≡ false → P library) →
-    Adds a b (λ library. has k library ≡ false) → Adds b c (λ library. has l library ≡ false) → Adds c d (λ library. has m library ≡ false) →
-    Adds d e (λ library. has n library ≡ false) → Adds a e P
+    AddsUnportable a b (λ library. has k library ≡ false) → AddsUnportable b c (λ library. has l library ≡ false) → AddsUnportable c d (λ library. has m library ≡ false) →
+    AddsUnportable d e (λ library. has n library ≡ false) → AddsUnportable a e P
 four_added a b c d e k l m n P so one two three four = λ library u.
     let z = four library u in
     let y = three library z.0 in

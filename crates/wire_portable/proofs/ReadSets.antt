@@ -3,7 +3,7 @@ use Rattle.std.proofs.Common.{◌≡◌, ℕ, List, [], ◌∷◌, ◌++◌, Opt
 use Rattle.std.specs.Str.Lines.{strip_carriage_return}
 use Rattle.wire_lines.specs.Text.{pieces_of, lines_of, words_of}
 use Rattle.std.proofs.lemmas.List.{append-nil}
-use Rattle.wire_portable.specs.Spelling.{Said, SpelledSet, CallRows, Rank, calls_in, calls_of_text, calls_with, job_after, no_calls, said_of}
+use Rattle.wire_portable.specs.Spelling.{SaidOfCalls, SpelledSet, CallRows, Rank, calls_in, calls_of_text, calls_with, job_after, no_calls, said_of}
 use Rattle.wire_portable.specs.Spelled.{Progress, all_rows, joined}
 
 abbrev Row : Type 0
@@ -23,7 +23,7 @@ pub last_joined : (now : Progress) → joined now no_calls ≡ now.done ++ now.r
 last_joined now = ap (λ (r : Row). now.done ++ r ∷ []) (append-nil now.row)
 
 -- one more line is taken
-pub line_joined : (old new : Progress) (said : Said) (rest after line : List ℕ) → pieces_of rest ≡ line ∷ pieces_of after →
+pub line_joined : (old new : Progress) (said : SaidOfCalls) (rest after line : List ℕ) → pieces_of rest ≡ line ∷ pieces_of after →
     said ≡ said_of (words_of (strip_carriage_return line)) → new.job ≡ job_after old.job said →
     ((behind : CallRows) → joined new behind ≡ joined old (calls_with old.job said behind)) →
     joined new (calls_in new.job (map words_of (lines_of after))) ≡ joined old (calls_in old.job (map words_of (lines_of rest)))
@@ -31,7 +31,7 @@ line_joined old new said rest after line pieces is job step =
     let ws = map words_of (lines_of after) in
     step (calls_in new.job ws)
     ∙ ap (λ j. joined old (calls_with old.job said (calls_in j ws))) job
-    ∙ ap (λ (s : Said). joined old (calls_with old.job s (calls_in (job_after old.job s) ws))) is
+    ∙ ap (λ (s : SaidOfCalls). joined old (calls_with old.job s (calls_in (job_after old.job s) ws))) is
     ∙ ap (λ ps. joined old (calls_in old.job (map words_of (map strip_carriage_return ps)))) (sym pieces)
 
 pub none_left : (now : Progress) (rest : List ℕ) → length rest ≡ 0 → joined now (calls_in now.job (map words_of (lines_of rest))) ≡ joined now no_calls

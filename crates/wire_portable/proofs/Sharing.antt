@@ -10,7 +10,7 @@ use Rattle.wire_runs.specs.Order.{Live, Before, Stores}
 use Rattle.wire_runs.proofs.Histories.{before_live, same_process, joined}
 use Rattle.wire_fates.specs.Deliveries.{AreOfOne}
 use Rattle.wire_library_laws.specs.Library.{Family}
-use Rattle.wire_library_laws.specs.Portable.{IsLast, EndsFirst, IsAsked, Lacks}
+use Rattle.wire_library_laws.specs.Portable.{IsRightBefore, EndsFirst, IsAsked, Lacks}
 use Rattle.wire_portable.specs.Judging.{IsFineMate, AreFineMates}
 use Rattle.wire_portable.specs.Sharing.{AreAskedGets, AreTurns, IsApart}
 use Rattle.wire_portable.proofs.Keys.{never_there}
@@ -38,7 +38,7 @@ ends_later plan x h i same le asked first = elim (cases_eq h.at i.at) [
   | inl e ↦ subst (EndsFirst plan x) (λ t. record { proc = same t; at = e t }) first
   | inr ne ↦
       (let n = first.is.next in
-      let is : IsLast (record { proc = i.proc; at = i.at - 1 }) i = record { same = refl; next = omega (arith, le, ne) } in
+      let is : IsRightBefore (record { proc = i.proc; at = i.at - 1 }) i = record { same = refl; next = omega (arith, le, ne) } in
       let up : Before plan first.last (record { proc = i.proc; at = i.at - 1 }) =
       same_process plan first.last (record { proc = i.proc; at = i.at - 1 }) (asked _ is) (first.is.same ∙ same) (omega (arith, n, le, ne)) in
       record {

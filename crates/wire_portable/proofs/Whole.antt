@@ -2,7 +2,7 @@
 use Rattle.std.proofs.Common.{◌≡◌, ◌≢◌, ℕ, ◌<◌, List, Bool, true, false, Some, refl, sym, ap, ◌∙◌, subst, arith}
 use Rattle.std.specs.Prelude.{if◌then◌else◌}
 use Rattle.std.proofs.lemmas.Bool.{true≢false, eq-eqb}
-use Rattle.wire_content.specs.Scripts.{IsSound}
+use Rattle.wire_scripts.specs.Scripts.{IsSound}
 use Rattle.wire_runs.specs.Plan.{Plan, Event, Kind, Get, GetNow, Publish, Unpublish, UnpublishAll, Fixed, kind, event_count, node_of, same_node}
 use Rattle.wire_runs.specs.State.{State, next_event}
 use Rattle.wire_runs.specs.Step.{IsReachable}

@@ -5,5 +5,5 @@ use Rattle.wire_portable.specs.declared.listed.Unportable.{Unportable}
 use Rattle.wire_portable.specs.Unportable.{IsUnblamed}
 
 -- a library of which the new list has no line has none on the old list, and this holds of it
-abbrev pub Adds : List Unportable → List Unportable → (Library → Type 0) → Type 0
-Adds old new holds = (library : Library) → IsUnblamed library new → IsUnblamed library old × holds library
+abbrev pub AddsUnportable : List Unportable → List Unportable → (Library → Type 0) → Type 0
+AddsUnportable old new holds = (library : Library) → IsUnblamed library new → IsUnblamed library old × holds library

@@ -4,8 +4,8 @@ use Rattle.wire_types.specs.declared.Event.{Event as CodeEvent}
 use Rattle.wire_runs.specs.Plan.{Plan, Event, Arrive, kind, event_of, event_count, set_of}
 use Rattle.wire_runs.specs.Ends.{call_of}
 use Rattle.wire_runs.specs.Order.{IsArrival, Live}
-use Rattle.wire_content.specs.Scripts.{Scripts, set_at}
-use Rattle.wire_content.specs.Planned.{plan_of}
+use Rattle.wire_scripts.specs.Scripts.{Scripts, set_at}
+use Rattle.wire_scripts.specs.Planned.{plan_of}
 use Rattle.wire_portable.specs.Words.{spelled, unrepeated, is_one_job, takes}
 use Rattle.wire_portable.specs.declared.libraries.Library.{Library}
 use Rattle.wire_portable.specs.declared.spelling.Spelt.{Spelt}
@@ -34,8 +34,8 @@ abbrev pub spelt_first : SetTable → ℕ → Option ℕ
 spelt_first table set = slice_index_or table.spelt.items set None
 
 -- each of these is an event of the plan
-abbrev pub AreWithin : Plan → List Event → Type 0
-AreWithin plan places = (k : ℕ) (x : Event) → slice_get places k ≡ Some x → x.at < event_count plan x.proc
+abbrev pub AreEventsOfPlan : Plan → List Event → Type 0
+AreEventsOfPlan plan places = (k : ℕ) (x : Event) → slice_get places k ≡ Some x → x.at < event_count plan x.proc
 
 -- none of the first n of these spells its set so
 abbrev pub NoneSpelt : Scripts → List (List (Option Spelt)) → Option ℕ → List Event → ℕ → Type 0
@@ -49,8 +49,8 @@ pub record IsSpeltAt (s : Scripts) (rows : List (List (Option Spelt))) (number :
   pub others : NoneSpelt s rows number places k
 
 -- the first of these that does
-abbrev pub IsFirstOf : Scripts → List (List (Option Spelt)) → Option ℕ → List Event → Option CodeEvent → Type 0
-IsFirstOf s rows number places found = MatchOption found (Unit {0}) (λ x. IsSpeltAt s rows number places (event_of x))
+abbrev pub IsFirstSpelt : Scripts → List (List (Option Spelt)) → Option ℕ → List Event → Option CodeEvent → Type 0
+IsFirstSpelt s rows number places found = MatchOption found (Unit {0}) (λ x. IsSpeltAt s rows number places (event_of x))
 
 -- of the arrivals at a fence whose calls spell the set so, that of the lowest process
 pub record IsLowestSpelt (s : Scripts) (rows : List (List (Option Spelt))) (number : Option ℕ) (members : List ℕ) (j : ℕ) (first : Event) : Type 0 where
@@ -78,11 +78,11 @@ IsPlainArrival library s rows table z =
     IsPlainCall library s rows table members collect z
 
 -- how a call spells a set, where it names nobody twice
-abbrev pub IsSpelled : Option Spelt → Type 0
-IsSpelled spelt = (number : ℕ) × (unrepeated spelt ≡ Some number) × (number_of spelt ≡ Some number)
+abbrev pub NamesNobodyTwice : Option Spelt → Type 0
+NamesNobodyTwice spelt = (number : ℕ) × (unrepeated spelt ≡ Some number) × (number_of spelt ≡ Some number)
 
 -- what a call of a fence keeps, `first` being the first arrival there that spells the set alike
-pub record KeepsRules (library : Library) (s : Scripts) (rows : List (List (Option Spelt))) (table : SetTable) (first : Event) (call : FenceCall) : Type 0 where
+pub record KeepsFenceRules (library : Library) (s : Scripts) (rows : List (List (Option Spelt))) (table : SetTable) (first : Event) (call : FenceCall) : Type 0 where
   pub agrees : (members : List ℕ) (collect : Bool) → kind (plan_of s) first ≡ Some (Arrive members collect) → collect ≡ call.collect
   pub taken : takes library s (set_at s.sets call.set) ≡ true
   pub number : ℕ

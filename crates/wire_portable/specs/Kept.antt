@@ -7,7 +7,7 @@ use Rattle.wire_portable.specs.declared.libraries.Library.{Library}
 use Rattle.wire_portable.specs.Fences.{IsPlainArrival}
 use Rattle.wire_portable.specs.Judging.{NoRewrites}
 use Rattle.wire_portable.specs.Libraries.{family_of}
-use Rattle.wire_portable.specs.Named.{FindsFree, FindsOwn}
+use Rattle.wire_portable.specs.Named.{FindsFree, FindsOwnName}
 use Rattle.wire_portable.specs.Nows.{GetsAreFor, IsFineNow}
 use Rattle.wire_portable.specs.Searched.{Searched, plan_in, words_in, IsGetFine}
 
@@ -21,7 +21,7 @@ abbrev pub IsCallFine : Searched → Library → Event → Option Kind → Type 
 IsCallFine v library y (Some (Get p key)) = y.proc ≢ p → IsGetFine v.anywhere library (plan_in v) p key y
 IsCallFine v library y (Some (GetNow p key)) = y.proc ≢ p → IsNowFine v library p key y
 IsCallFine v library y (Some (Publish name)) = FindsFree (plan_in v) name y
-IsCallFine v library y (Some (Unpublish name)) = FindsOwn (plan_in v) name y
+IsCallFine v library y (Some (Unpublish name)) = FindsOwnName (plan_in v) name y
 IsCallFine v library y (Some UnpublishAll) = (family_of library).star ≡ true
 IsCallFine v library y (Some (Fixed r)) = (words_in v library).known y ≡ true
 IsCallFine v library y _ = Unit {0}

@@ -9,8 +9,8 @@ abbrev pub FindsFree : Plan → ℕ → Event → Type 0
 FindsFree plan name y = (s : State) → IsReachable plan s → next_event s y.proc ≡ y → s.names name ≡ None
 
 -- wherever y comes next, its own process has published the name
-abbrev pub FindsOwn : Plan → ℕ → Event → Type 0
-FindsOwn plan name y = (s : State) → IsReachable plan s → next_event s y.proc ≡ y → is_publisher y.proc (s.names name) ≡ true
+abbrev pub FindsOwnName : Plan → ℕ → Event → Type 0
+FindsOwnName plan name y = (s : State) → IsReachable plan s → next_event s y.proc ≡ y → is_publisher y.proc (s.names name) ≡ true
 
 -- y is the one publish of the name
 abbrev pub IsOnlyPublish : Plan → ℕ → Event → Type 0

@@ -43,8 +43,8 @@ pub record IsLiveNow (plan : Plan) (p key : ℕ) (g : Event) : Type 0 where
   pub is_live : Live plan g
 
 -- these are the gets of p's keys that are listed where g is made
-abbrev pub AreListed : Bool → Plan → ℕ → Event → List Event → Type 0
-AreListed anywhere plan p g places = AreOpenGets anywhere plan p (place_in anywhere plan g.proc) places
+abbrev pub AreListedGets : Bool → Plan → ℕ → Event → List Event → Type 0
+AreListedGets anywhere plan p g places = AreOpenGets anywhere plan p (place_in anywhere plan g.proc) places
 
 -- it is surely there, by the rules and in each library
 abbrev pub IsSureNow : Family → Words → Plan → ℕ → ℕ → Event → Type 0
@@ -113,7 +113,7 @@ pub record HasGot (plan : Plan) (n : ℕ) (g z : Event) : Type 0 where
   pub before : Before plan z g
 
 -- one of these is
-pub record IsGot (plan : Plan) (n : ℕ) (g : Event) (places : List Event) : Type 0 where
+pub record IsGotAmong (plan : Plan) (n : ℕ) (g : Event) (places : List Event) : Type 0 where
   pub k : ℕ
   pub get : Event
   pub is : slice_get places k ≡ Some get
@@ -193,5 +193,5 @@ pub record HasKept (plan : Plan) (p key : ℕ) (g : Event) (places : List Event)
 
 -- g's own process has got a key that comes no earlier than its owner's n-th event, before g
 pub record HasGotItself (plan : Plan) (n : ℕ) (g : Event) (places : List Event) : Type 0 where
-  pub among : IsGot plan n g places
+  pub among : IsGotAmong plan n g places
   pub own : among.get.proc ≡ g.proc

@@ -27,22 +27,22 @@ has_neighbours [] = false
 has_neighbours (x ∷ xs) = repeats_after x xs
 
 -- the items of a set in ascending order
-pub record IsInOrder (set : SpelledSet) (items : List (List ℕ)) : Type 0 where
+pub record IsSetInOrder (set : SpelledSet) (items : List (List ℕ)) : Type 0 where
   pub ascending : AreAscending items
   pub same : (item : List ℕ) → times item items ≡ times item (items_of set)
 
 -- no list stands there twice
-abbrev pub AreApart : List (List (List ℕ)) → Type 0
-AreApart table = (m n : ℕ) (items : List (List ℕ)) → slice_get table m ≡ Some items → slice_get table n ≡ Some items → m ≡ n
+abbrev pub AreSetsDistinct : List (List (List ℕ)) → Type 0
+AreSetsDistinct table = (m n : ℕ) (items : List (List ℕ)) → slice_get table m ≡ Some items → slice_get table n ≡ Some items → m ≡ n
 
 -- what stands in a table stands in the other at the same place
-abbrev pub Keeps : List (List (List ℕ)) → List (List (List ℕ)) → Type 0
-Keeps old new = (n : ℕ) (items : List (List ℕ)) → slice_get old n ≡ Some items → slice_get new n ≡ Some items
+abbrev pub KeepsSets : List (List (List ℕ)) → List (List (List ℕ)) → Type 0
+KeepsSets old new = (n : ℕ) (items : List (List ℕ)) → slice_get old n ≡ Some items → slice_get new n ≡ Some items
 
 -- the number of a set is the place of its items in order
-pub record IsTold (table : List (List (List ℕ))) (set : SpelledSet) (spelt : Spelt) : Type 0 where
+pub record IsSetNumbered (table : List (List (List ℕ))) (set : SpelledSet) (spelt : Spelt) : Type 0 where
   pub items : List (List ℕ)
-  pub order : IsInOrder set items
+  pub order : IsSetInOrder set items
   pub there : slice_get table spelt.number ≡ Some items
   pub twice : IsTrue spelt.repeats ↔ HasTwice set
 
@@ -50,7 +50,7 @@ abbrev pub IsCallTold : List (List (List ℕ)) → Option SpelledSet → Option 
 IsCallTold table None None = Unit {0}
 IsCallTold table None (Some spelt) = ⊥
 IsCallTold table (Some set) None = ⊥
-IsCallTold table (Some set) (Some spelt) = IsTold table set spelt
+IsCallTold table (Some set) (Some spelt) = IsSetNumbered table set spelt
 
 -- so it is of each call of a row, and of each row
 abbrev pub IsRowTold : List (List (List ℕ)) → List (Option SpelledSet) → List (Option Spelt) → Type 0

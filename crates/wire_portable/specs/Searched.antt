@@ -1,8 +1,8 @@
 -- What each event of a plan has to keep for a library, on the plan's nodes or wherever its processes are: for the contracts
 -- of private functions.
 use Rattle.std.specs.Prelude.{◌≡◌, ◌≢◌, ℕ, List, Bool, true, false, not, ◌||◌, Option, Some}
-use Rattle.wire_content.specs.Scripts.{Scripts}
-use Rattle.wire_content.specs.Planned.{plan_of}
+use Rattle.wire_scripts.specs.Scripts.{Scripts}
+use Rattle.wire_scripts.specs.Planned.{plan_of}
 use Rattle.wire_runs.specs.Plan.{Plan, Event, Get, kind, same_node}
 use Rattle.wire_library_laws.specs.Library.{Words}
 use Rattle.wire_library_laws.specs.Portable.{IsAsked, IsPortableNear, IsPortableFar, AreMates}

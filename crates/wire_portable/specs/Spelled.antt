@@ -2,16 +2,16 @@
 use Rattle.std.specs.Prelude.{ℕ, List, ◌∷◌, ◌++◌, Option, Vec, map, option_map}
 use Rattle.std.specs.Borrow.{Bor}
 use Rattle.std.specs.declared.alloc.Global.{Global}
-use Rattle.wire_portable.specs.Spelling.{Said, SpelledSet, CallRows}
+use Rattle.wire_portable.specs.Spelling.{SaidOfCalls, SpelledSet, CallRows}
 use Rattle.wire_portable.specs.Spelling as spec
-use Rattle.wire_portable.specs.declared.spelled.Said.{Said as CodeSaid}
-use Rattle.wire_portable.specs.declared.spelled.Said.TheVariants.{Nothing, Rank, Job, Call}
+use Rattle.wire_portable.specs.declared.spelled.SaidOfCalls.{SaidOfCalls as CodeSaid}
+use Rattle.wire_portable.specs.declared.spelled.SaidOfCalls.TheVariants.{Nothing, Rank, Job, Call}
 use Rattle.wire_portable.specs.declared.spelled.SpelledSet.{SpelledSet as CodeSet}
 
 abbrev pub word_by : Option (Bor (List ℕ)) → Option (List ℕ)
 word_by word = option_map (λ w. w.now) word
 
-abbrev pub said_by : CodeSaid → Said
+abbrev pub said_by : CodeSaid → SaidOfCalls
 said_by Nothing = spec.Nothing
 said_by Rank = spec.Rank
 said_by (Job name) = spec.Job name.now

@@ -8,11 +8,11 @@ use Rattle.wire_portable.specs.declared.spelling.Spelt.{Spelt}
 
 -- what a line says of calls: the calls of the next process follow, the calls that follow are of a job, or it is a call,
 -- that of a fence with its set
-pub data Said : Type 0 where
-  Nothing : Said
-  Rank : Said
-  Job : (name : List ℕ) → Said
-  Call : (set : Option (List ℕ)) → Said
+pub data SaidOfCalls : Type 0 where
+  Nothing : SaidOfCalls
+  Rank : SaidOfCalls
+  Job : (name : List ℕ) → SaidOfCalls
+  Call : (set : Option (List ℕ)) → SaidOfCalls
 
 -- the line is a note, or says something of the whole plan
 abbrev pub is_note : List ℕ → Bool
@@ -30,7 +30,7 @@ abbrev pub set_in : List ℕ → List (List ℕ) → Option (List ℕ)
 set_in verb words = if bytes_eq verb (codes "fence") then slice_get words 0 else None
 
 -- what a line says by its first word and its other words
-abbrev pub said_with : List ℕ → List (List ℕ) → Said
+abbrev pub said_with : List ℕ → List (List ℕ) → SaidOfCalls
 said_with word words =
     if is_note word || is_header word then Nothing
     else if bytes_eq word (codes "rank") then Rank
@@ -38,7 +38,7 @@ said_with word words =
     else Call (set_in word words)
 
 -- what the words of a line say
-abbrev pub said_of : List (List ℕ) → Said
+abbrev pub said_of : List (List ℕ) → SaidOfCalls
 said_of [] = Nothing
 said_of (word ∷ words) = said_with word words
 
@@ -60,12 +60,12 @@ abbrev pub no_calls : CallRows
 no_calls = record { before = []; rows = [] }
 
 -- the job of the calls behind a line
-abbrev pub job_after : List ℕ → Said → List ℕ
+abbrev pub job_after : List ℕ → SaidOfCalls → List ℕ
 job_after job (Job name) = name
 job_after job _ = job
 
 -- the calls of a line and of those behind it
-abbrev pub calls_with : List ℕ → Said → CallRows → CallRows
+abbrev pub calls_with : List ℕ → SaidOfCalls → CallRows → CallRows
 calls_with job Rank behind = record { before = []; rows = behind.before ∷ behind.rows }
 calls_with job (Call set) behind = record { before = of_job job set ∷ behind.before; rows = behind.rows }
 calls_with job _ behind = behind
@@ -104,7 +104,7 @@ at_call rows p c = slice_index_or (slice_index_or rows p []) c None
 
 -- each set has a number, two of them the same exactly where they are spelt alike, and it is told whether an item stands
 -- there twice
-pub record AreNumbered (sets : List (List (Option SpelledSet))) (rows : List (List (Option Spelt))) : Type 0 where
+pub record AreSetsNumbered (sets : List (List (Option SpelledSet))) (rows : List (List (Option Spelt))) : Type 0 where
   pub none : (p c : ℕ) → at_call sets p c ≡ None → at_call rows p c ≡ None
   pub some : (p c : ℕ) (set : SpelledSet) → at_call sets p c ≡ Some set → (spelt : Spelt) × (at_call rows p c ≡ Some spelt)
   pub twice : (p c : ℕ) (set : SpelledSet) (spelt : Spelt) → at_call sets p c ≡ Some set → at_call rows p c ≡ Some spelt →

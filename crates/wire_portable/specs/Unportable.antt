@@ -1,7 +1,7 @@
 -- What the list of the calls by which a plan isn't portable tells.
 use Rattle.std.specs.Prelude.{◌≡◌, ℕ, List, Bool, true, false, Option, Some, slice_get}
-use Rattle.wire_content.specs.Scripts.{Scripts}
-use Rattle.wire_content.specs.Planned.{plan_of}
+use Rattle.wire_scripts.specs.Scripts.{Scripts}
+use Rattle.wire_scripts.specs.Planned.{plan_of}
 use Rattle.wire_library_laws.specs.Portable.{IsPortable}
 use Rattle.wire_library_laws.specs.Anywhere.{IsPortableAnywhere}
 use Rattle.wire_portable.specs.Libraries.{family_of, has}

@@ -8,9 +8,9 @@ use Rattle.wire_types.specs.declared.Call.{Call}
 use Rattle.wire_types.specs.declared.Call.TheVariants.{Fence, Get, GetNow}
 use Rattle.wire_types.specs.declared.CallAt.{CallAt}
 use Rattle.wire_runs.specs.Ends.{call_of}
-use Rattle.wire_content.specs.Scripts.{Scripts, call_at, set_at, text_at}
-use Rattle.wire_content.specs.Map.{job_at}
-use Rattle.wire_content.specs.Planned.{plan_of}
+use Rattle.wire_scripts.specs.Scripts.{Scripts, call_at, set_at, text_at}
+use Rattle.wire_scripts.specs.Map.{job_at}
+use Rattle.wire_scripts.specs.Planned.{plan_of}
 use Rattle.wire_library_laws.specs.Library.{Words}
 use Rattle.wire_portable.specs.declared.libraries.Library.{Library}
 use Rattle.wire_portable.specs.declared.spelling.Spelt.{Spelt}

@@ -2,10 +2,10 @@
 
 ghost use Rattle.std.specs.Prelude.{◌≡◌, ◌↔◌, IsTrue};
 ghost use Rattle.wire_runs.specs.Plan.{event_of};
-ghost use Rattle.wire_content.specs.Planned.{plan_of};
+ghost use Rattle.wire_scripts.specs.Planned.{plan_of};
 ghost use Rattle.wire_library_laws.specs.Portable.{IsAsked, EndsFirst};
 
-use wire_marks::MarkedPlan;
+use wire_happens_before::MarkedPlan;
 use wire_types::Event;
 
 /// Whether a call comes to be made, by its first event: the event before it is live.

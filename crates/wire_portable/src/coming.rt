@@ -3,12 +3,12 @@
 
 ghost use Rattle.std.specs.Prelude.{◌<◌};
 ghost use Rattle.wire_runs.specs.Plan.{event_count};
-ghost use Rattle.wire_content.specs.Planned.{plan_of};
+ghost use Rattle.wire_scripts.specs.Planned.{plan_of};
 
 use crate::spelling::Spelling;
 use std::alloc::{AllocError, Global};
 use std::collections::HashMap;
-use wire_marks::MarkedPlan;
+use wire_happens_before::MarkedPlan;
 use wire_plan::Kind;
 use wire_types::{Event, Proc};
 

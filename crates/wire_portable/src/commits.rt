@@ -3,12 +3,12 @@
 ghost use Rattle.std.specs.Prelude.{◌≡◌, ◌<◌, ◌≤◌, ◌↔◌, ℕ, Some, [], map, length, nat_lt, IfOk, IsTrue, slice_get, slice_index_or};
 ghost use Rattle.wire_runs.specs.Plan.{event_of, event_count};
 ghost use Rattle.wire_runs.specs.Plan as runs;
-ghost use Rattle.wire_content.specs.Planned.{plan_of};
+ghost use Rattle.wire_scripts.specs.Planned.{plan_of};
 ghost use Rattle.wire_portable.specs.Commits.{IsLiveCommit, AreCommitRows, AreCommitsOf, IsLastOf, IsCommitBelow, AreOfOneRising};
 
 use std::alloc::{AllocError, Global};
 use std::marker::Model;
-use wire_marks::MarkedPlan;
+use wire_happens_before::MarkedPlan;
 use wire_plan::Kind;
 use wire_types::{Event, Proc};
 

@@ -3,16 +3,16 @@
 ghost use Rattle.std.specs.Prelude.{◌≡◌, ◌<◌, ◌==◌, ◌↔◌, ℕ, List, Bool, true, false, Some, map, slice_index_or, IfOk, IsTrue, OnOk};
 ghost use Rattle.std.specs.List.{list_all};
 ghost use Rattle.wire_runs.specs.Plan.{Arrive, kind, event_of, event_count, set_of};
-ghost use Rattle.wire_content.specs.Scripts.{numbers_of, set_at};
-ghost use Rattle.wire_content.specs.Scripts as content;
-ghost use Rattle.wire_content.specs.Map.{job_at};
-ghost use Rattle.wire_content.specs.Planned.{plan_of};
+ghost use Rattle.wire_scripts.specs.Scripts.{numbers_of, set_at};
+ghost use Rattle.wire_scripts.specs.Scripts as content;
+ghost use Rattle.wire_scripts.specs.Map.{job_at};
+ghost use Rattle.wire_scripts.specs.Planned.{plan_of};
 ghost use Rattle.wire_fates.specs.Deliveries.{Arrives};
 ghost use Rattle.wire_portable.specs.declared.libraries.Library.{Library as L};
-ghost use Rattle.wire_portable.specs.Adding.{Adds};
+ghost use Rattle.wire_portable.specs.Adding.{AddsUnportable};
 ghost use Rattle.wire_portable.specs.Libraries.{has};
 ghost use Rattle.wire_portable.specs.Words.{is_one_job as is_of_one, takes};
-ghost use Rattle.wire_portable.specs.Fences.{AreWithin, IsFirstOf, IsPlainArrival, IsPlainCall, IsSpelled, KeepsRules, TellsJobs};
+ghost use Rattle.wire_portable.specs.Fences.{AreEventsOfPlan, IsFirstSpelt, IsPlainArrival, IsPlainCall, NamesNobodyTwice, KeepsFenceRules, TellsJobs};
 ghost use Rattle.wire_portable.specs.Fences as spec;
 
 use crate::jobs::job_of;
@@ -20,10 +20,10 @@ use crate::libraries::Libraries;
 use crate::listed::{Rule, UnportableList};
 use crate::spelling::{Spelling, Spelt};
 use std::alloc::{AllocError, Global};
-use wire_content::Scripts;
 use wire_fates::all_arrivals;
-use wire_marks::MarkedPlan;
+use wire_happens_before::MarkedPlan;
 use wire_plan::{Kind, Plan};
+use wire_scripts::Scripts;
 use wire_types::{Event, Proc};
 
 /// What is asked of each set: whether its processes are of one job, and how the first live call over it spells it.
@@ -159,7 +159,7 @@ fn number_of(spelt: Option<Spelt>) -> Option<usize>
 
 /// Whether a call names a process or a job twice.
 fn repeats(spelt: Option<Spelt>) -> bool
-    ensures { result ≡ false → IsSpelled spelt }
+    ensures { result ≡ false → NamesNobodyTwice spelt }
 {
     match spelt {
         Some(spelt) => spelt.repeats,
@@ -214,8 +214,8 @@ fn first_spelt(
     arrivals: &[Event],
     number: Option<usize>,
 ) -> Option<Event>
-    requires { AreWithin (plan_of plan.now) (map event_of arrivals.now) }
-    ensures { IsFirstOf plan.now spelling.now number (map event_of arrivals.now) result }
+    requires { AreEventsOfPlan (plan_of plan.now) (map event_of arrivals.now) }
+    ensures { IsFirstSpelt plan.now spelling.now number (map event_of arrivals.now) result }
 {
     for other in arrivals {
         if is_spelt(plan, spelling, *other, number) {
@@ -246,7 +246,7 @@ fn agree(
     number: Option<usize>,
     collect: bool,
 ) -> bool
-    requires { AreWithin (plan_of plan.now) (map event_of arrivals.now) }
+    requires { AreEventsOfPlan (plan_of plan.now) (map event_of arrivals.now) }
 {
     for other in arrivals {
         if is_otherwise(plan, spelling, *other, number, collect) {
@@ -334,7 +334,7 @@ fn differs(plan: &Plan, spelling: &Spelling, first: Event, call: FenceCall) -> b
 
 /// The libraries for which a call names a process or a job twice.
 fn repeating(spelt: Option<Spelt>) -> Libraries
-    ensures { (library : L) → has result library ≡ false → IsSpelled spelt }
+    ensures { (library : L) → has result library ≡ false → NamesNobodyTwice spelt }
 {
     all_if(repeats(spelt))
 }
@@ -354,7 +354,7 @@ fn spelt_at(plan: &Plan, spelling: &Spelling, event: Event) -> Option<Spelt>
     spelling.of(plan.call_of(event))
 }
 
-/// Adds what a call of a fence breaks, at the first arrival there that spells the set alike.
+/// AddsUnportable what a call of a fence breaks, at the first arrival there that spells the set alike.
 fn add_first(
     plan: &Plan,
     spelling: &Spelling,
@@ -366,8 +366,8 @@ fn add_first(
     requires here { compared.call.arrival.at < event_count (plan_of plan.now) compared.call.arrival.proc.number }
     requires arrives { Arrives (plan_of plan.now) (event_of compared.call.arrival) }
     requires jobs { TellsJobs plan.now sets.now }
-    ensures { OnOk result (Adds found.old found.new (λ library.
-        KeepsRules library plan.now spelling.now sets.now (event_of compared.first) compared.call)) }
+    ensures { OnOk result (AddsUnportable found.old found.new (λ library.
+        KeepsFenceRules library plan.now spelling.now sets.now (event_of compared.first) compared.call)) }
 {
     let Compared { call, first } = compared;
     let spelt = spelt_at(plan, spelling, call.arrival);
@@ -381,7 +381,7 @@ fn add_first(
     found.blame(plan, first, Rule::FenceSpelling, apart)
 }
 
-/// Adds what a call of a fence breaks.
+/// AddsUnportable what a call of a fence breaks.
 fn add_call(
     plan: &Plan,
     spelling: &Spelling,
@@ -392,7 +392,7 @@ fn add_call(
     requires is { kind (plan_of plan.now) (event_of call.arrival)
         ≡ Some (Arrive (set_of (set_at plan.now.sets call.set)) call.collect) }
     requires jobs { TellsJobs plan.now sets.now }
-    ensures { OnOk result (Adds found.old found.new (λ library. IsPlainCall library plan.now spelling.now sets.now
+    ensures { OnOk result (AddsUnportable found.old found.new (λ library. IsPlainCall library plan.now spelling.now sets.now
         (set_of (set_at plan.now.sets call.set)) call.collect (event_of call.arrival))) }
 {
     // Scripts are sound, so who calls a fence is one of its members.
@@ -405,7 +405,7 @@ fn add_call(
     }
 }
 
-/// Adds what an event breaks, if it is an arrival at a fence.
+/// AddsUnportable what an event breaks, if it is an arrival at a fence.
 fn add_arrival(
     plan: &Plan,
     spelling: &Spelling,
@@ -415,7 +415,7 @@ fn add_arrival(
 ) -> Result<(), AllocError>
     requires within { arrival.at < event_count (plan_of plan.now) arrival.proc.number }
     requires jobs { TellsJobs plan.now sets.now }
-    ensures { OnOk result (Adds found.old found.new (λ library. IsPlainArrival library plan.now spelling.now sets.now (event_of arrival))) }
+    ensures { OnOk result (AddsUnportable found.old found.new (λ library. IsPlainArrival library plan.now spelling.now sets.now (event_of arrival))) }
 {
     match plan.kind(arrival) {
         Kind::Arrive { set, collect } => {
@@ -430,7 +430,7 @@ fn add_arrival(
     }
 }
 
-/// Adds what an event breaks, if it is a live arrival at a fence.
+/// AddsUnportable what an event breaks, if it is a live arrival at a fence.
 pub(crate) fn add_fence(
     marked: &MarkedPlan<'_>,
     spelling: &Spelling,
@@ -440,7 +440,7 @@ pub(crate) fn add_fence(
 ) -> Result<(), AllocError>
     requires within { arrival.at < event_count (plan_of marked.now) arrival.proc.number }
     requires jobs { TellsJobs marked.now sets.now }
-    ensures { OnOk result (Adds found.old found.new (λ library. IsPlainArrival library marked.now spelling.now sets.now (event_of arrival))) }
+    ensures { OnOk result (AddsUnportable found.old found.new (λ library. IsPlainArrival library marked.now spelling.now sets.now (event_of arrival))) }
 {
     if marked.live(arrival) {
         add_arrival(marked.plan(), spelling, sets, found, arrival)

@@ -3,14 +3,14 @@
 ghost use Rattle.std.specs.Prelude.{◌≡◌, ◌≢◌, ◌<◌, ◌++◌, ◌∷◌, [], ℕ, suc, map, IfOk, OnOk};
 ghost use Rattle.wire_runs.specs.Plan.{Get, event_of, event_count, process_count, kind};
 ghost use Rattle.wire_runs.specs.Plan as runs;
-ghost use Rattle.wire_content.specs.Planned.{plan_of};
+ghost use Rattle.wire_scripts.specs.Planned.{plan_of};
 ghost use Rattle.wire_library_laws.specs.Portable.{IsAsked};
 ghost use Rattle.wire_portable.specs.Gets.{place_in, gets_under, AreGetsTo, AreGetLists, AreOpenGets};
 
 use crate::asked::is_asked;
 use std::alloc::{AllocError, Global};
 use std::collections::HashMap;
-use wire_marks::MarkedPlan;
+use wire_happens_before::MarkedPlan;
 use wire_plan::Kind;
 use wire_types::{Event, Proc};
 

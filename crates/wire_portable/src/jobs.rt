@@ -1,9 +1,9 @@
 //! The jobs of processes.
 
 ghost use Rattle.std.specs.Prelude.{◌≡◌};
-ghost use Rattle.wire_content.specs.Map.{job_at};
+ghost use Rattle.wire_scripts.specs.Map.{job_at};
 
-use wire_content::Scripts;
+use wire_scripts::Scripts;
 use wire_types::Proc;
 
 /// The number of a process's job.

@@ -5,7 +5,7 @@ ghost use Rattle.wire_runs.specs.Plan.{event_of};
 ghost use Rattle.wire_runs.specs.Plan as runs;
 ghost use Rattle.wire_runs.specs.Puts.{scope_of as scope_in};
 ghost use Rattle.wire_plan.specs.Index.{IsFirstPut};
-ghost use Rattle.wire_content.specs.Planned.{plan_of};
+ghost use Rattle.wire_scripts.specs.Planned.{plan_of};
 ghost use Rattle.wire_library_laws.specs.Portable.{Lacks, Lacked, IsThereFirst, IsFor};
 ghost use Rattle.wire_portable.specs.Commits.{IsLastOf};
 ghost use Rattle.wire_portable.specs.Judging.{NoRewrites, IsLiveStore, AreFor};
@@ -14,7 +14,7 @@ use crate::asked::ends_first;
 use crate::commits::LiveCommits;
 use std::alloc::{AllocError, Global};
 use std::marker::Model;
-use wire_marks::{MarkedPlan, Marks};
+use wire_happens_before::{HappensBefore, MarkedPlan};
 use wire_plan::{Kind, Plan};
 use wire_types::{Event, Proc, Scope};
 
@@ -29,14 +29,14 @@ pub(crate) struct Key {
 #[derive(Drop)]
 pub(crate) struct Judge<'a> {
     plan: &'a Plan,
-    marks: &'a Marks,
+    marks: &'a HappensBefore,
     commits: LiveCommits,
 }
 
 impl<'a> Model for Judge<'a> {
-    ghost use Rattle.wire_content.specs.Scripts as spec;
-    ghost use Rattle.wire_content.specs.Planned.{plan_of};
-    ghost use Rattle.wire_marks.specs.Clocks.{AreMarks};
+    ghost use Rattle.wire_scripts.specs.Scripts as spec;
+    ghost use Rattle.wire_scripts.specs.Planned.{plan_of};
+    ghost use Rattle.wire_happens_before.specs.Clocks.{AreMarks};
     ghost use Rattle.wire_portable.specs.Commits.{AreCommitRows};
 
     ghost Value = { spec.Scripts };

@@ -2,9 +2,9 @@
 
 ghost use Rattle.std.specs.Prelude.{◌≡◌, ◌==◌, ◌++◌, ◌∷◌, [], true, false, OnOk, length, slice_get, ◌<◌};
 ghost use Rattle.wire_runs.specs.Plan.{event_count};
-ghost use Rattle.wire_content.specs.Planned.{plan_of};
+ghost use Rattle.wire_scripts.specs.Planned.{plan_of};
 ghost use Rattle.wire_portable.specs.declared.libraries.Library.{Library as L};
-ghost use Rattle.wire_portable.specs.Adding.{Adds};
+ghost use Rattle.wire_portable.specs.Adding.{AddsUnportable};
 ghost use Rattle.wire_portable.specs.Libraries.{has};
 ghost use Rattle.wire_portable.specs.Unportable.{IsUnblamed};
 
@@ -121,7 +121,7 @@ impl UnportableList {
         libraries: Libraries,
     ) -> Result<(), AllocError>
         requires { event.at < event_count (plan_of plan.now) event.proc.number }
-        ensures { OnOk result (Adds self.old self.new (λ library. has libraries library ≡ false)) }
+        ensures { OnOk result (AddsUnportable self.old self.new (λ library. has libraries library ≡ false)) }
     {
         if libraries.is_empty() {
             return Ok(());

@@ -4,7 +4,7 @@ ghost use Rattle.std.specs.Prelude.{◌≡◌, ◌<◌, ◌≤◌, ℕ, suc, Som
 ghost use Rattle.wire_runs.specs.Plan.{Get, event_of, event_count, kind};
 ghost use Rattle.wire_runs.specs.Puts.{stored};
 ghost use Rattle.wire_runs.specs.Plan as runs;
-ghost use Rattle.wire_content.specs.Planned.{plan_of};
+ghost use Rattle.wire_scripts.specs.Planned.{plan_of};
 ghost use Rattle.wire_library_laws.specs.Portable.{EndsFirst, IsAsked, Lacks};
 ghost use Rattle.wire_portable.specs.declared.libraries.Library.{Library as L};
 ghost use Rattle.wire_portable.specs.Commits.{IsLastOf};

@@ -6,14 +6,14 @@ ghost use Rattle.wire_runs.specs.Plan.{Publish, Unpublish, event_of, event_count
 ghost use Rattle.wire_runs.specs.State.{Answer, State};
 ghost use Rattle.wire_runs.specs.Step.{IsReachable};
 ghost use Rattle.wire_runs.specs.Races.{IsSettled};
-ghost use Rattle.wire_content.specs.Planned.{plan_of};
+ghost use Rattle.wire_scripts.specs.Planned.{plan_of};
 ghost use Rattle.wire_fates.specs.Fates.{answer_told};
 ghost use Rattle.wire_fates.specs.declared.fate.Fate.TheVariants as told;
-ghost use Rattle.wire_portable.specs.Named.{AreNever, FindsFree, FindsOwn, IsNever, IsOnlyPublish};
+ghost use Rattle.wire_portable.specs.Named.{AreNever, FindsFree, FindsOwnName, IsNever, IsOnlyPublish};
 
 use std::alloc::{AllocError, Global};
 use wire_fates::{Fate, fate_of};
-use wire_marks::MarkedPlan;
+use wire_happens_before::MarkedPlan;
 use wire_plan::Kind;
 use wire_types::{Event, Proc, Status};
 
@@ -181,7 +181,7 @@ pub(crate) fn is_missed(
     requires settled { settled ≡ true → IsSettled (plan_of marked.now) }
     requires never { AreNever (plan_of marked.now) (map event_of stuck.now) }
     ensures { result ≡ false → (name : ℕ) → kind (plan_of marked.now) (event_of event) ≡ Some (Unpublish name) →
-        FindsOwn (plan_of marked.now) name (event_of event) }
+        FindsOwnName (plan_of marked.now) name (event_of event) }
 {
     if settled {
         is_replied(marked, stuck, event, Status::NotFound)

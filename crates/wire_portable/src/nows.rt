@@ -3,7 +3,7 @@
 ghost use Rattle.std.specs.Prelude.{◌≡◌, ◌<◌, ℕ, suc, Some, false, true, IsTrue, map};
 ghost use Rattle.wire_runs.specs.Plan.{Get, GetNow, kind, event_of, event_count};
 ghost use Rattle.wire_runs.specs.Races.{IsPutOnce};
-ghost use Rattle.wire_content.specs.Planned.{plan_of};
+ghost use Rattle.wire_scripts.specs.Planned.{plan_of};
 ghost use Rattle.wire_library_laws.specs.Portable.{SeesNoRemote};
 ghost use Rattle.wire_portable.specs.Judging.{NoRewrites};
 ghost use Rattle.wire_portable.specs.Nows.{AreGetsOf, IsFoundAway, IsStoreOf, MayCarry, GetsComeLater, FencesComeLater, HasGot};

@@ -3,9 +3,9 @@
 ghost use Rattle.std.specs.Prelude.{◌≡◌, ◌++◌, ◌∷◌, ◌==◌, [], Some, codes, slice_get, IfOk, List, OnOk, Option, map, option_map};
 ghost use Rattle.std.specs.List.{slice_split};
 ghost use Rattle.wire_types.specs.Texts.{lists_of};
-ghost use Rattle.wire_portable.specs.Spelling.{AreNumbered, SpelledSet as Set, items_of as items_in};
+ghost use Rattle.wire_portable.specs.Spelling.{AreSetsNumbered, SpelledSet as Set, items_of as items_in};
 ghost use Rattle.wire_portable.specs.Spelled.{row_by, rows_by, set_by};
-ghost use Rattle.wire_portable.specs.Numbering.{AreApart, IsCallTold, IsInOrder, IsRowTold, IsTold, Keeps, has_neighbours};
+ghost use Rattle.wire_portable.specs.Numbering.{AreSetsDistinct, IsCallTold, IsSetInOrder, IsRowTold, IsSetNumbered, KeepsSets, has_neighbours};
 ghost use Rattle.wire_portable.specs.Numbering as spec;
 
 use crate::spelled::{SpelledSet, is_word};
@@ -52,7 +52,7 @@ fn items_of(alloc: Global, spelled: SpelledSet<'_>) -> Result<Vec<Vec<u8>>, Allo
 
 /// The items of a set in ascending order.
 fn ordered_items(alloc: Global, spelled: SpelledSet<'_>) -> Result<Vec<Vec<u8>>, AllocError>
-    ensures { IfOk result (λ items. IsInOrder (set_by spelled.entry) (lists_of items.items)) }
+    ensures { IfOk result (λ items. IsSetInOrder (set_by spelled.entry) (lists_of items.items)) }
 {
     let mut items = items_of(alloc, spelled)?;
     items.sort_unstable();
@@ -98,13 +98,13 @@ impl Drop for Numbers {
 impl Model for Numbers {
     ghost use Rattle.std.specs.Prelude.{List, ℕ, map};
     ghost use Rattle.wire_types.specs.Texts.{lists_of};
-    ghost use Rattle.wire_portable.specs.Numbering.{AreApart};
+    ghost use Rattle.wire_portable.specs.Numbering.{AreSetsDistinct};
 
     ghost Value = { List (List (List ℕ)) };
 
     ghost view = { λ n. map (λ v. lists_of v.items) n.table.keys };
 
-    ghost invariant = { λ n. AreApart (map (λ v. lists_of v.items) n.table.keys) };
+    ghost invariant = { λ n. AreSetsDistinct (map (λ v. lists_of v.items) n.table.keys) };
 }
 
 impl Numbers {
@@ -119,7 +119,7 @@ impl Numbers {
 
     /// No list stands there twice.
     fn are_apart(&self)
-        ensures { AreApart self.now }
+        ensures { AreSetsDistinct self.now }
     {
         let _ = &self.table;
     }
@@ -127,7 +127,7 @@ impl Numbers {
     /// The number of a list, which is added if it isn't there.
     fn number(&mut self, items: Vec<Vec<u8>>) -> Result<usize, AllocError>
         ensures there { IfOk result (λ number. slice_get self.new number ≡ Some (lists_of items.items)) }
-        ensures kept { OnOk result (Keeps self.old self.new) }
+        ensures kept { OnOk result (KeepsSets self.old self.new) }
     {
         let added = self.table.insert_full(items)?;
         Ok(added.0)
@@ -135,8 +135,8 @@ impl Numbers {
 
     /// How a call spells a set.
     fn spelt(&mut self, alloc: Global, spelled: SpelledSet<'_>) -> Result<Spelt, AllocError>
-        ensures told { IfOk result (λ spelt. IsTold self.new (set_by spelled.entry) spelt) }
-        ensures kept { OnOk result (Keeps self.old self.new) }
+        ensures told { IfOk result (λ spelt. IsSetNumbered self.new (set_by spelled.entry) spelt) }
+        ensures kept { OnOk result (KeepsSets self.old self.new) }
     {
         let items = ordered_items(alloc, spelled)?;
         let repeats = has_repeats(items.as_slice());
@@ -151,7 +151,7 @@ impl Numbers {
         call: Option<SpelledSet<'_>>,
     ) -> Result<Option<Spelt>, AllocError>
         ensures told { IfOk result (λ spelt. IsCallTold self.new (option_map set_by call.entry) spelt) }
-        ensures kept { OnOk result (Keeps self.old self.new) }
+        ensures kept { OnOk result (KeepsSets self.old self.new) }
     {
         match call {
             Some(spelled) => {
@@ -169,7 +169,7 @@ impl Numbers {
         row: &[Option<SpelledSet<'_>>],
     ) -> Result<Vec<Option<Spelt>>, AllocError>
         ensures told { IfOk result (λ spelt. IsRowTold self.new (row_by row.now) spelt.items) }
-        ensures kept { OnOk result (Keeps self.old self.new) }
+        ensures kept { OnOk result (KeepsSets self.old self.new) }
     {
         let mut spelt = Vec::new(alloc);
         for call in row {
@@ -185,7 +185,7 @@ fn number_rows(
     alloc: Global,
     rows: &[Vec<Option<SpelledSet<'_>>>],
 ) -> Result<Vec<Vec<Option<Spelt>>>, AllocError>
-    ensures { IfOk result (λ spelt. AreNumbered (rows_by rows.now) (map (λ row. row.items) spelt.items)) }
+    ensures { IfOk result (λ spelt. AreSetsNumbered (rows_by rows.now) (map (λ row. row.items) spelt.items)) }
 {
     let mut numbers = Numbers::none(alloc);
     let mut spelt = Vec::new(alloc);
@@ -203,7 +203,7 @@ pub(crate) fn number_behind(
     rows: &[Vec<Option<SpelledSet<'_>>>],
 ) -> Result<Vec<Vec<Option<Spelt>>>, AllocError>
     ensures { IfOk result (λ spelt. (first : List (Option Set)) (others : List (List (Option Set))) → rows_by rows.now ≡ first ∷ others →
-        AreNumbered others (map (λ row. row.items) spelt.items)) }
+        AreSetsNumbered others (map (λ row. row.items) spelt.items)) }
 {
     match rows {
         [_, others @ ..] => number_rows(alloc, others),

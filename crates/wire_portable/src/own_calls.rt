@@ -3,13 +3,13 @@
 ghost use Rattle.std.specs.Prelude.{◌≡◌, ◌<◌, ℕ, Some, true, false, IsTrue, map};
 ghost use Rattle.wire_runs.specs.Plan.{Get, kind, event_of, process_count};
 ghost use Rattle.wire_runs.specs.Races.{IsPutOnce};
-ghost use Rattle.wire_content.specs.Map.{job_at};
-ghost use Rattle.wire_content.specs.Planned.{plan_of};
+ghost use Rattle.wire_scripts.specs.Map.{job_at};
+ghost use Rattle.wire_scripts.specs.Planned.{plan_of};
 ghost use Rattle.wire_library_laws.specs.Library.{Words};
 ghost use Rattle.wire_library_laws.specs.Anywhere.{IsPortableNowAnywhere};
 ghost use Rattle.wire_portable.specs.Judging.{NoRewrites};
 ghost use Rattle.wire_portable.specs.Libraries.{family_of, has};
-ghost use Rattle.wire_portable.specs.Nows.{IsLiveNow, AreListed, AreForReaders, AreGetsOf, IsStoreAway, IsSureItself};
+ghost use Rattle.wire_portable.specs.Nows.{IsLiveNow, AreListedGets, AreForReaders, AreGetsOf, IsStoreAway, IsSureItself};
 ghost use Rattle.wire_portable.specs.Nows.{HasLeftItself, HasBrought, HasKept, HasGotItself};
 ghost use Rattle.wire_portable.specs.declared.libraries.Library.{Library as L};
 
@@ -121,7 +121,7 @@ fn is_kept(judge: &Judge<'_>, gets: &[Event], get: Event, asked: Key) -> bool
 /// it.
 fn unsure_left(judge: &Judge<'_>, gets: &[Event], get: Event, asked: Key, store: Event) -> Libraries
     requires get { IsLiveNow (plan_of judge.now) asked.owner.number asked.key (event_of get) }
-    requires gets { AreListed true (plan_of judge.now) asked.owner.number (event_of get) (map event_of gets.now) }
+    requires gets { AreListedGets true (plan_of judge.now) asked.owner.number (event_of get) (map event_of gets.now) }
     requires store { IsStoreAway (plan_of judge.now) asked.owner asked.key store }
     requires left { HasLeftItself (plan_of judge.now) asked.owner.number asked.key (event_of get) }
     ensures { (library : L) (words : Words) → words.job ≡ job_at judge.now.processes → has result library ≡ false → NoRewrites (plan_of judge.now) →
@@ -143,7 +143,7 @@ fn unsure_left(judge: &Judge<'_>, gets: &[Event], get: Event, asked: Key, store:
 /// The libraries that don't surely have a key by the own gets of a get-now's process.
 fn unsure_got(judge: &Judge<'_>, gets: &[Event], get: Event, asked: Key, store: Event) -> Libraries
     requires get { IsLiveNow (plan_of judge.now) asked.owner.number asked.key (event_of get) }
-    requires gets { AreListed true (plan_of judge.now) asked.owner.number (event_of get) (map event_of gets.now) }
+    requires gets { AreListedGets true (plan_of judge.now) asked.owner.number (event_of get) (map event_of gets.now) }
     requires store { IsStoreAway (plan_of judge.now) asked.owner asked.key store }
     ensures { (library : L) (words : Words) → words.job ≡ job_at judge.now.processes → has result library ≡ false → NoRewrites (plan_of judge.now) →
         IsSureItself (family_of library) words (plan_of judge.now) asked.owner.number asked.key (event_of get) }
@@ -161,7 +161,7 @@ fn unsure_got(judge: &Judge<'_>, gets: &[Event], get: Event, asked: Key, store: 
 /// The libraries that don't surely have a key by the own calls of a get-now's process.
 fn unsure(judge: &Judge<'_>, gets: &[Event], get: Event, asked: Key, store: Event) -> Libraries
     requires get { IsLiveNow (plan_of judge.now) asked.owner.number asked.key (event_of get) }
-    requires gets { AreListed true (plan_of judge.now) asked.owner.number (event_of get) (map event_of gets.now) }
+    requires gets { AreListedGets true (plan_of judge.now) asked.owner.number (event_of get) (map event_of gets.now) }
     requires store { IsStoreAway (plan_of judge.now) asked.owner asked.key store }
     ensures { (library : L) (words : Words) → words.job ≡ job_at judge.now.processes → has result library ≡ false → NoRewrites (plan_of judge.now) →
         IsSureItself (family_of library) words (plan_of judge.now) asked.owner.number asked.key (event_of get) }
@@ -177,7 +177,7 @@ fn unsure(judge: &Judge<'_>, gets: &[Event], get: Event, asked: Key, store: Even
 /// given all gets of the owner's keys.
 pub(crate) fn now_anywhere(judge: &Judge<'_>, gets: &[Event], get: Event, asked: Key) -> Libraries
     requires get { IsLiveNow (plan_of judge.now) asked.owner.number asked.key (event_of get) }
-    requires gets { AreListed true (plan_of judge.now) asked.owner.number (event_of get) (map event_of gets.now) }
+    requires gets { AreListedGets true (plan_of judge.now) asked.owner.number (event_of get) (map event_of gets.now) }
     ensures { (library : L) (words : Words) → words.job ≡ job_at judge.now.processes → has result library ≡ false → NoRewrites (plan_of judge.now) →
         AreForReaders (plan_of judge.now) asked.owner.number (map event_of gets.now) →
         IsPortableNowAnywhere (family_of library) words (plan_of judge.now) asked.owner.number asked.key (event_of get) }

@@ -3,7 +3,7 @@
 ghost use Rattle.std.specs.Prelude.{◌≡◌, false, Some};
 ghost use Rattle.wire_types.specs.declared.Scope.{Scope};
 ghost use Rattle.wire_runs.specs.Plan.{Put, event_of, kind};
-ghost use Rattle.wire_content.specs.Planned.{plan_of};
+ghost use Rattle.wire_scripts.specs.Planned.{plan_of};
 ghost use Rattle.wire_portable.specs.Judging.{IsNoRewrite};
 
 use wire_plan::Plan;

@@ -2,13 +2,13 @@
 
 ghost use Rattle.std.specs.Prelude.{◌≡◌, ◌==◌};
 ghost use Rattle.std.specs.Str.{bytes_eq};
-ghost use Rattle.wire_content.specs.Map.{job_at};
-ghost use Rattle.wire_content.specs.Scripts.{call_at};
+ghost use Rattle.wire_scripts.specs.Map.{job_at};
+ghost use Rattle.wire_scripts.specs.Scripts.{call_at};
 ghost use Rattle.wire_portable.specs.Words as spec;
 ghost use Rattle.wire_portable.specs.Words.{script_call};
 
 use crate::jobs::job_of;
-use wire_content::Scripts;
+use wire_scripts::Scripts;
 use wire_types::{Call, CallAt, Proc};
 
 /// Whether two texts are the same.

@@ -1,18 +1,18 @@
 //! The search for calls by which a plan isn't portable.
 
 ghost use Rattle.std.specs.Prelude.{◌≡◌, ◌≢◌, ◌<◌, ℕ, true, false, Some, OnOk, IfOk, IsOkUnless};
-ghost use Rattle.wire_content.specs.Planned.{plan_of};
+ghost use Rattle.wire_scripts.specs.Planned.{plan_of};
 ghost use Rattle.wire_types.specs.declared.Scope.{Scope};
 ghost use Rattle.wire_runs.specs.Plan as runs;
 ghost use Rattle.wire_runs.specs.Plan.{Get, GetNow, Publish, Put, Unpublish, kind, event_count, event_of, process_count, same_node};
 ghost use Rattle.wire_runs.specs.Races.{IsRewrite, IsSettled};
 ghost use Rattle.wire_library_laws.specs.Portable.{IsAsked};
 ghost use Rattle.wire_portable.specs.declared.libraries.Library.{Library as L};
-ghost use Rattle.wire_portable.specs.Adding.{Adds};
+ghost use Rattle.wire_portable.specs.Adding.{AddsUnportable};
 ghost use Rattle.wire_portable.specs.Judging.{IsNoRewrite};
 ghost use Rattle.wire_portable.specs.Kept.{IsNowFine, IsCallFine, IsEventFine, AreFineTo, AreAllFine};
 ghost use Rattle.wire_portable.specs.Libraries.{family_of, has};
-ghost use Rattle.wire_portable.specs.Named.{FindsFree, FindsOwn};
+ghost use Rattle.wire_portable.specs.Named.{FindsFree, FindsOwnName};
 ghost use Rattle.wire_portable.specs.Nows.{IsLiveNow, IsNearNowFine, IsFarNowFine};
 ghost use Rattle.wire_portable.specs.Searched.{plan_in, words_in, MayBe, may_be, IsNearFine, IsFarFine, IsGetFine};
 ghost use Rattle.wire_portable.specs.Unportable.{AreUnportable, AreUnportableAnywhere, AreUnportableOn, IsUnblamed};
@@ -35,7 +35,7 @@ use crate::sure::far_now;
 use crate::waiting::{far_get, near_get, outside};
 use std::alloc::{AllocError, Global};
 use std::marker::Model;
-use wire_marks::MarkedPlan;
+use wire_happens_before::MarkedPlan;
 use wire_plan::Kind;
 use wire_types::{Event, Fault, Proc};
 
@@ -54,8 +54,8 @@ struct Search<'a> {
 
 impl<'a> Model for Search<'a> {
     ghost use Rattle.std.specs.Prelude.{◌≡◌, true, map};
-    ghost use Rattle.wire_content.specs.Scripts.{IsSound};
-    ghost use Rattle.wire_content.specs.Planned.{plan_of};
+    ghost use Rattle.wire_scripts.specs.Scripts.{IsSound};
+    ghost use Rattle.wire_scripts.specs.Planned.{plan_of};
     ghost use Rattle.wire_runs.specs.Plan.{event_of};
     ghost use Rattle.wire_runs.specs.Races.{IsSettled};
     ghost use Rattle.wire_portable.specs.Fences.{TellsJobs};
@@ -105,7 +105,7 @@ impl Search<'_> {
         self.anywhere || !self.is_there(owner, proc)
     }
 
-    /// Adds what a get breaks on the owner's node, if its process may be there.
+    /// AddsUnportable what a get breaks on the owner's node, if its process may be there.
     fn add_near_get(
         &self,
         found: &mut UnportableList,
@@ -114,7 +114,7 @@ impl Search<'_> {
     ) -> Result<(), AllocError>
         requires is { kind (plan_in self.now) (event_of get) ≡ Some (Get asked.owner.number asked.key) }
         requires owner { asked.owner.number < process_count (plan_in self.now) }
-        ensures { OnOk result (Adds found.old found.new (λ library. MayBe self.now.anywhere (plan_in self.now) true asked.owner.number get.proc.number →
+        ensures { OnOk result (AddsUnportable found.old found.new (λ library. MayBe self.now.anywhere (plan_in self.now) true asked.owner.number get.proc.number →
             IsNearFine library (plan_in self.now) asked.owner.number asked.key (event_of get))) }
     {
         if !self.is_near(asked.owner, get.proc) {
@@ -130,7 +130,7 @@ impl Search<'_> {
         )
     }
 
-    /// Adds what a get breaks on another node, if its process may be there.
+    /// AddsUnportable what a get breaks on another node, if its process may be there.
     fn add_far_get(
         &self,
         found: &mut UnportableList,
@@ -140,7 +140,7 @@ impl Search<'_> {
         requires is { kind (plan_in self.now) (event_of get) ≡ Some (Get asked.owner.number asked.key) }
         requires asked { IsAsked (plan_in self.now) (event_of get) }
         requires owner { asked.owner.number < process_count (plan_in self.now) }
-        ensures { OnOk result (Adds found.old found.new (λ library. MayBe self.now.anywhere (plan_in self.now) false asked.owner.number get.proc.number →
+        ensures { OnOk result (AddsUnportable found.old found.new (λ library. MayBe self.now.anywhere (plan_in self.now) false asked.owner.number get.proc.number →
             IsFarFine self.now.anywhere library (plan_in self.now) asked.owner.number asked.key (event_of get))) }
     {
         if !self.is_far(asked.owner, get.proc) {
@@ -158,19 +158,19 @@ impl Search<'_> {
         )
     }
 
-    /// Adds what a get of another process's key breaks.
+    /// AddsUnportable what a get of another process's key breaks.
     fn add_get(&self, found: &mut UnportableList, get: Event, asked: Key) -> Result<(), AllocError>
         requires is { kind (plan_in self.now) (event_of get) ≡ Some (Get asked.owner.number asked.key) }
         requires asked { IsAsked (plan_in self.now) (event_of get) }
         requires owner { asked.owner.number < process_count (plan_in self.now) }
-        ensures { OnOk result (Adds found.old found.new (λ library.
+        ensures { OnOk result (AddsUnportable found.old found.new (λ library.
             IsGetFine self.now.anywhere library (plan_in self.now) asked.owner.number asked.key (event_of get))) }
     {
         self.add_near_get(found, get, asked)?;
         self.add_far_get(found, get, asked)
     }
 
-    /// Adds what a get-now breaks on the owner's node, where its process may be there.
+    /// AddsUnportable what a get-now breaks on the owner's node, where its process may be there.
     fn add_near_now(
         &self,
         found: &mut UnportableList,
@@ -179,7 +179,7 @@ impl Search<'_> {
     ) -> Result<(), AllocError>
         requires now { IsLiveNow (plan_in self.now) asked.owner.number asked.key (event_of get) }
         requires owner { asked.owner.number < process_count (plan_in self.now) }
-        ensures { OnOk result (Adds found.old found.new (λ library. MayBe self.now.anywhere (plan_in self.now) true asked.owner.number get.proc.number →
+        ensures { OnOk result (AddsUnportable found.old found.new (λ library. MayBe self.now.anywhere (plan_in self.now) true asked.owner.number get.proc.number →
             IsNearNowFine (plan_in self.now) asked.owner.number asked.key (event_of get))) }
     {
         if !self.is_near(asked.owner, get.proc) {
@@ -208,7 +208,7 @@ impl Search<'_> {
         }
     }
 
-    /// Adds what a get-now breaks on another node, where its process may be there.
+    /// AddsUnportable what a get-now breaks on another node, where its process may be there.
     fn add_far_now(
         &self,
         found: &mut UnportableList,
@@ -217,7 +217,7 @@ impl Search<'_> {
     ) -> Result<(), AllocError>
         requires now { IsLiveNow (plan_in self.now) asked.owner.number asked.key (event_of get) }
         requires owner { asked.owner.number < process_count (plan_in self.now) }
-        ensures { OnOk result (Adds found.old found.new (λ library. MayBe self.now.anywhere (plan_in self.now) false asked.owner.number get.proc.number →
+        ensures { OnOk result (AddsUnportable found.old found.new (λ library. MayBe self.now.anywhere (plan_in self.now) false asked.owner.number get.proc.number →
             IsFarNowFine self.now.anywhere (family_of library) (words_in self.now library) (plan_in self.now) asked.owner.number asked.key (event_of get))) }
     {
         if !self.is_far(asked.owner, get.proc) {
@@ -228,33 +228,33 @@ impl Search<'_> {
         Ok(())
     }
 
-    /// Adds what a get-now of another process's key breaks.
+    /// AddsUnportable what a get-now of another process's key breaks.
     fn add_now(&self, found: &mut UnportableList, get: Event, asked: Key) -> Result<(), AllocError>
         requires is { kind (plan_in self.now) (event_of get) ≡ Some (GetNow asked.owner.number asked.key) }
         requires other { get.proc.number ≢ asked.owner.number }
         requires asked { IsAsked (plan_in self.now) (event_of get) }
         requires owner { asked.owner.number < process_count (plan_in self.now) }
-        ensures { OnOk result (Adds found.old found.new (λ library. IsNowFine self.now library asked.owner.number asked.key (event_of get))) }
+        ensures { OnOk result (AddsUnportable found.old found.new (λ library. IsNowFine self.now library asked.owner.number asked.key (event_of get))) }
     {
         self.add_near_now(found, get, asked)?;
         self.add_far_now(found, get, asked)?;
         Ok(())
     }
 
-    /// Adds what a put breaks.
+    /// AddsUnportable what a put breaks.
     fn add_put(&self, found: &mut UnportableList, put: Event, key: u32) -> Result<(), AllocError>
         requires { (scope : Scope) × (kind (plan_in self.now) (event_of put) ≡ Some (Put key scope)) }
-        ensures { OnOk result (Adds found.old found.new (λ library. IsNoRewrite (plan_in self.now) (event_of put))) }
+        ensures { OnOk result (AddsUnportable found.old found.new (λ library. IsNoRewrite (plan_in self.now) (event_of put))) }
     {
         let plan = self.marked.plan();
         let again = all_if(is_put_again(plan, put, key));
         found.blame(plan, put, Rule::Rewrite, again)
     }
 
-    /// Adds what a call of a reserved key breaks that libraries don't answer as the plan says.
+    /// AddsUnportable what a call of a reserved key breaks that libraries don't answer as the plan says.
     fn add_untold(&self, found: &mut UnportableList, event: Event) -> Result<(), AllocError>
         requires { event.at < event_count (plan_in self.now) event.proc.number }
-        ensures { OnOk result (Adds found.old found.new (λ library. (words_in self.now library).known (event_of event) ≡ true)) }
+        ensures { OnOk result (AddsUnportable found.old found.new (λ library. (words_in self.now library).known (event_of event) ≡ true)) }
     {
         let plan = self.marked.plan();
         if is_known(plan.scripts(), plan.call_of(event)) {
@@ -263,10 +263,10 @@ impl Search<'_> {
         found.blame(plan, event, Rule::Reserved, Libraries::all())
     }
 
-    /// Adds what a call of a reserved key or name breaks.
+    /// AddsUnportable what a call of a reserved key or name breaks.
     fn add_fixed(&self, found: &mut UnportableList, event: Event) -> Result<(), AllocError>
         requires { event.at < event_count (plan_in self.now) event.proc.number }
-        ensures { OnOk result (Adds found.old found.new (λ library. (words_in self.now library).known (event_of event) ≡ true)) }
+        ensures { OnOk result (AddsUnportable found.old found.new (λ library. (words_in self.now library).known (event_of event) ≡ true)) }
     {
         self.add_untold(found, event)?;
         let plan = self.marked.plan();
@@ -276,7 +276,7 @@ impl Search<'_> {
         found.blame(plan, event, Rule::Unpublished, Libraries::all())
     }
 
-    /// Adds what a publish breaks.
+    /// AddsUnportable what a publish breaks.
     fn add_publish(
         &self,
         found: &mut UnportableList,
@@ -285,7 +285,7 @@ impl Search<'_> {
     ) -> Result<(), AllocError>
         requires there { event.at < event_count (plan_in self.now) event.proc.number }
         requires is { kind (plan_in self.now) (event_of event) ≡ Some (Publish name) }
-        ensures { OnOk result (Adds found.old found.new (λ library. FindsFree (plan_in self.now) name (event_of event))) }
+        ensures { OnOk result (AddsUnportable found.old found.new (λ library. FindsFree (plan_in self.now) name (event_of event))) }
     {
         if !is_published(self.marked, self.settled, self.stuck, event, name) {
             return Ok(());
@@ -294,11 +294,11 @@ impl Search<'_> {
         found.blame(plan, event, Rule::Published, Libraries::all())
     }
 
-    /// Adds what an unpublish breaks.
+    /// AddsUnportable what an unpublish breaks.
     fn add_unpublish(&self, found: &mut UnportableList, event: Event) -> Result<(), AllocError>
         requires { event.at < event_count (plan_in self.now) event.proc.number }
-        ensures { OnOk result (Adds found.old found.new (λ library. (name : ℕ) → kind (plan_in self.now) (event_of event) ≡ Some (Unpublish name) →
-            FindsOwn (plan_in self.now) name (event_of event))) }
+        ensures { OnOk result (AddsUnportable found.old found.new (λ library. (name : ℕ) → kind (plan_in self.now) (event_of event) ≡ Some (Unpublish name) →
+            FindsOwnName (plan_in self.now) name (event_of event))) }
     {
         if !is_missed(self.marked, self.settled, self.stuck, event) {
             return Ok(());
@@ -307,20 +307,20 @@ impl Search<'_> {
         found.blame(plan, event, Rule::Unpublished, Libraries::all())
     }
 
-    /// Adds what a call breaks that takes away all names of its process.
+    /// AddsUnportable what a call breaks that takes away all names of its process.
     fn add_sweep(&self, found: &mut UnportableList, event: Event) -> Result<(), AllocError>
         requires { event.at < event_count (plan_in self.now) event.proc.number }
-        ensures { OnOk result (Adds found.old found.new (λ library. (family_of library).star ≡ true)) }
+        ensures { OnOk result (AddsUnportable found.old found.new (λ library. (family_of library).star ≡ true)) }
     {
         let plan = self.marked.plan();
         found.blame(plan, event, Rule::UnpublishAll, Libraries::all())
     }
 
-    /// Adds what a get breaks, if it is of another process's key.
+    /// AddsUnportable what a get breaks, if it is of another process's key.
     fn add_read(&self, found: &mut UnportableList, get: Event, asked: Key) -> Result<(), AllocError>
         requires is { kind (plan_in self.now) (event_of get) ≡ Some (Get asked.owner.number asked.key) }
         requires asked { IsAsked (plan_in self.now) (event_of get) }
-        ensures { OnOk result (Adds found.old found.new (λ library.
+        ensures { OnOk result (AddsUnportable found.old found.new (λ library.
             IsCallFine self.now library (event_of get) (Some (Get asked.owner.number asked.key)))) }
     {
         if asked.owner.number == get.proc.number {
@@ -331,7 +331,7 @@ impl Search<'_> {
         self.add_get(found, get, asked)
     }
 
-    /// Adds what a get-now breaks, if it is of another process's key.
+    /// AddsUnportable what a get-now breaks, if it is of another process's key.
     fn add_read_now(
         &self,
         found: &mut UnportableList,
@@ -340,7 +340,7 @@ impl Search<'_> {
     ) -> Result<(), AllocError>
         requires is { kind (plan_in self.now) (event_of get) ≡ Some (GetNow asked.owner.number asked.key) }
         requires asked { IsAsked (plan_in self.now) (event_of get) }
-        ensures { OnOk result (Adds found.old found.new (λ library.
+        ensures { OnOk result (AddsUnportable found.old found.new (λ library.
             IsCallFine self.now library (event_of get) (Some (GetNow asked.owner.number asked.key)))) }
     {
         if asked.owner.number == get.proc.number {
@@ -351,11 +351,11 @@ impl Search<'_> {
         self.add_now(found, get, asked)
     }
 
-    /// Adds what a call that comes to be made breaks.
+    /// AddsUnportable what a call that comes to be made breaks.
     fn add_asked(&self, found: &mut UnportableList, event: Event) -> Result<(), AllocError>
         requires there { event.at < event_count (plan_in self.now) event.proc.number }
         requires asked { IsAsked (plan_in self.now) (event_of event) }
-        ensures { OnOk result (Adds found.old found.new (λ library.
+        ensures { OnOk result (AddsUnportable found.old found.new (λ library.
             IsCallFine self.now library (event_of event) (kind (plan_in self.now) (event_of event)))) }
     {
         match self.marked.plan().kind(event) {
@@ -370,10 +370,10 @@ impl Search<'_> {
         }
     }
 
-    /// Adds what a call breaks, if it comes to be made.
+    /// AddsUnportable what a call breaks, if it comes to be made.
     fn add_call(&self, found: &mut UnportableList, event: Event) -> Result<(), AllocError>
         requires { event.at < event_count (plan_in self.now) event.proc.number }
-        ensures { OnOk result (Adds found.old found.new (λ library. IsAsked (plan_in self.now) (event_of event) →
+        ensures { OnOk result (AddsUnportable found.old found.new (λ library. IsAsked (plan_in self.now) (event_of event) →
             IsCallFine self.now library (event_of event) (kind (plan_in self.now) (event_of event)))) }
     {
         if !is_asked(self.marked, event) {
@@ -382,10 +382,10 @@ impl Search<'_> {
         self.add_asked(found, event)
     }
 
-    /// Adds what an event breaks, if it is a put.
+    /// AddsUnportable what an event breaks, if it is a put.
     fn add_again(&self, found: &mut UnportableList, event: Event) -> Result<(), AllocError>
         requires { event.at < event_count (plan_in self.now) event.proc.number }
-        ensures { OnOk result (Adds found.old found.new (λ library. (x : runs.Event) → IsRewrite (plan_in self.now) x (event_of event) → ⊥)) }
+        ensures { OnOk result (AddsUnportable found.old found.new (λ library. (x : runs.Event) → IsRewrite (plan_in self.now) x (event_of event) → ⊥)) }
     {
         match self.marked.plan().kind(event) {
             Kind::Put { key, .. } => self.add_put(found, event, key),
@@ -396,19 +396,19 @@ impl Search<'_> {
         }
     }
 
-    /// Adds what an event of the plan breaks.
+    /// AddsUnportable what an event of the plan breaks.
     fn add_event(&self, found: &mut UnportableList, event: Event) -> Result<(), AllocError>
         requires { event.at < event_count (plan_in self.now) event.proc.number }
-        ensures { OnOk result (Adds found.old found.new (λ library. IsEventFine self.now library (event_of event))) }
+        ensures { OnOk result (AddsUnportable found.old found.new (λ library. IsEventFine self.now library (event_of event))) }
     {
         self.add_again(found, event)?;
         add_fence(self.marked, self.spelling, self.sets, found, event)?;
         self.add_call(found, event)
     }
 
-    /// Adds what the events of a process break.
+    /// AddsUnportable what the events of a process break.
     fn add_process(&self, found: &mut UnportableList, proc: Proc) -> Result<(), AllocError>
-        ensures { OnOk result (Adds found.old found.new (λ library.
+        ensures { OnOk result (AddsUnportable found.old found.new (λ library.
             AreFineTo self.now library proc.number (event_count (plan_in self.now) proc.number))) }
     {
         for at in 0..self.marked.plan().event_count(proc) {
@@ -417,9 +417,9 @@ impl Search<'_> {
         Ok(())
     }
 
-    /// Adds what all events break.
+    /// AddsUnportable what all events break.
     fn add_all(&self, found: &mut UnportableList) -> Result<(), AllocError>
-        ensures { OnOk result (Adds found.old found.new (AreAllFine self.now)) }
+        ensures { OnOk result (AddsUnportable found.old found.new (AreAllFine self.now)) }
     {
         for number in 0..self.marked.plan().process_count() {
             self.add_process(found, Proc { number })?;

@@ -1,7 +1,7 @@
 //! How the calls of fences spell their sets.
 
 ghost use Rattle.std.specs.Prelude.{◌≡◌, IfOk, IsOkUnless};
-ghost use Rattle.wire_portable.specs.Spelling.{AreNumbered, at_call, spelled_sets};
+ghost use Rattle.wire_portable.specs.Spelling.{AreSetsNumbered, at_call, spelled_sets};
 
 use crate::numbering::number_behind;
 use crate::spelled::sets_of;
@@ -54,7 +54,7 @@ impl Spelling {
 
 /// How the calls in a plan's text spell the sets of their fences. The one fault is `Fault::Memory`.
 pub fn read_spelling(alloc: Global, text: &[u8]) -> Result<Spelling, Fault>
-    ensures ok { IfOk result (λ rows. AreNumbered (spelled_sets text.now) rows) }
+    ensures ok { IfOk result (λ rows. AreSetsNumbered (spelled_sets text.now) rows) }
     ensures memory { IsOkUnless result Fault.Memory }
 {
     let sets = sets_of(alloc, text)?;

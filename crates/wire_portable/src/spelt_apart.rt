@@ -4,7 +4,7 @@
 ghost use Rattle.std.specs.Prelude.{◌≡◌, ◌<◌, true, length, IfOk};
 ghost use Rattle.wire_runs.specs.Plan.{event_count};
 ghost use Rattle.wire_runs.specs.Ends.{calls_of};
-ghost use Rattle.wire_content.specs.Planned.{plan_of};
+ghost use Rattle.wire_scripts.specs.Planned.{plan_of};
 ghost use Rattle.wire_portable.specs.declared.libraries.Library.{Library as L};
 ghost use Rattle.wire_portable.specs.Unportable.{IsUnblamed};
 
@@ -15,7 +15,7 @@ use crate::listed::{Rule, Unportable, UnportableList};
 use crate::spelling::Spelling;
 use std::alloc::{AllocError, Global};
 use std::collections::HashMap;
-use wire_marks::MarkedPlan;
+use wire_happens_before::MarkedPlan;
 use wire_plan::{Kind, Plan};
 use wire_types::{CallAt, Event, Proc};
 

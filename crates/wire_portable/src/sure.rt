@@ -3,15 +3,15 @@
 ghost use Rattle.std.specs.Prelude.{◌≡◌, ◌<◌, ℕ, false, IsTrue, MatchOption, map};
 ghost use Rattle.wire_runs.specs.Plan.{event_of, node_of, process_count, same_node};
 ghost use Rattle.wire_runs.specs.Races.{IsPutOnce};
-ghost use Rattle.wire_content.specs.Map.{job_at};
-ghost use Rattle.wire_content.specs.Planned.{plan_of};
+ghost use Rattle.wire_scripts.specs.Map.{job_at};
+ghost use Rattle.wire_scripts.specs.Planned.{plan_of};
 ghost use Rattle.wire_fates.specs.Deliveries.{IsAmong};
 ghost use Rattle.wire_library_laws.specs.Library.{Words};
 ghost use Rattle.wire_library_laws.specs.Portable.{IsPortableNow};
 ghost use Rattle.wire_portable.specs.Judging.{NoRewrites};
 ghost use Rattle.wire_portable.specs.Libraries.{family_of, has};
-ghost use Rattle.wire_portable.specs.Nows.{IsLiveNow, AreListed, AreForReaders, AreGetsOf, IsStoreAway, IsSureNow};
-ghost use Rattle.wire_portable.specs.Nows.{IsGot, AreOfFence, HasMate, HasLeft, HasArrived, IsLeftThere, IsLeft};
+ghost use Rattle.wire_portable.specs.Nows.{IsLiveNow, AreListedGets, AreForReaders, AreGetsOf, IsStoreAway, IsSureNow};
+ghost use Rattle.wire_portable.specs.Nows.{IsGotAmong, AreOfFence, HasMate, HasLeft, HasArrived, IsLeftThere, IsLeft};
 ghost use Rattle.wire_portable.specs.declared.libraries.Library.{Library as L};
 
 use crate::jobs::job_of;
@@ -24,7 +24,7 @@ use wire_types::{Event, Proc};
 /// Whether one of these gets is of a key that comes no earlier than this commit, and before a get-now.
 fn is_got(judge: &Judge<'_>, gets: &[Event], get: Event, store: Event) -> bool
     requires { (owner : ℕ) × AreGetsOf (plan_of judge.now) owner (map event_of gets.now) }
-    ensures { IsTrue result → IsGot (plan_of judge.now) store.at (event_of get) (map event_of gets.now) }
+    ensures { IsTrue result → IsGotAmong (plan_of judge.now) store.at (event_of get) (map event_of gets.now) }
 {
     for other in gets {
         if has_got(judge, get, store, *other) {
@@ -158,7 +158,7 @@ fn is_left(judge: &Judge<'_>, get: Event, asked: Key) -> bool
 /// The libraries that don't surely have a key where a get-now is, though something may have brought it.
 fn unsure(judge: &Judge<'_>, gets: &[Event], get: Event, asked: Key, store: Event) -> Libraries
     requires get { IsLiveNow (plan_of judge.now) asked.owner.number asked.key (event_of get) }
-    requires gets { AreListed false (plan_of judge.now) asked.owner.number (event_of get) (map event_of gets.now) }
+    requires gets { AreListedGets false (plan_of judge.now) asked.owner.number (event_of get) (map event_of gets.now) }
     requires store { IsStoreAway (plan_of judge.now) asked.owner asked.key store }
     ensures { (library : L) (words : Words) → words.job ≡ job_at judge.now.processes → has result library ≡ false → NoRewrites (plan_of judge.now) →
         IsSureNow (family_of library) words (plan_of judge.now) asked.owner.number asked.key (event_of get) }
@@ -189,7 +189,7 @@ fn unsure(judge: &Judge<'_>, gets: &[Event], get: Event, asked: Key, store: Even
 pub(crate) fn far_now(judge: &Judge<'_>, gets: &[Event], get: Event, asked: Key) -> Libraries
     requires get { IsLiveNow (plan_of judge.now) asked.owner.number asked.key (event_of get) }
     requires far { same_node (plan_of judge.now) asked.owner.number get.proc.number ≡ false }
-    requires gets { AreListed false (plan_of judge.now) asked.owner.number (event_of get) (map event_of gets.now) }
+    requires gets { AreListedGets false (plan_of judge.now) asked.owner.number (event_of get) (map event_of gets.now) }
     ensures { (library : L) (words : Words) → words.job ≡ job_at judge.now.processes → has result library ≡ false → NoRewrites (plan_of judge.now) →
         AreForReaders (plan_of judge.now) asked.owner.number (map event_of gets.now) →
         IsPortableNow (family_of library) words (plan_of judge.now) asked.owner.number asked.key (event_of get) }

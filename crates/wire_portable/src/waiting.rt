@@ -2,7 +2,7 @@
 
 ghost use Rattle.std.specs.Prelude.{◌≡◌, false, IsTrue};
 ghost use Rattle.wire_runs.specs.Plan.{event_of};
-ghost use Rattle.wire_content.specs.Planned.{plan_of};
+ghost use Rattle.wire_scripts.specs.Planned.{plan_of};
 ghost use Rattle.wire_portable.specs.declared.libraries.Library.{Library as L};
 ghost use Rattle.wire_portable.specs.Libraries.{family_of, has};
 ghost use Rattle.wire_library_laws.specs.Portable.{IsFor};

@@ -1,8 +1,8 @@
 -- What an empty list of findings tells of the plan as it is written.
 use Rattle.std.proofs.Common.{◌≡◌, ◌∙◌, ◌==◌, ◌↔◌, sym, refl, List, [], ◌∷◌, length, arith, Bool, true}
 use Rattle.std.proofs.lemmas.Bool.{eqb-true}
-use Rattle.wire_content.specs.Scripts.{Scripts}
-use Rattle.wire_content.specs.Planned.{plan_of}
+use Rattle.wire_scripts.specs.Scripts.{Scripts}
+use Rattle.wire_scripts.specs.Planned.{plan_of}
 use Rattle.wire_runs.specs.Plan.{Plan}
 use Rattle.wire_runs.specs.Placings.{IsPlacing}
 use Rattle.wire_runs.specs.Races.{IsSettled}

@@ -11,16 +11,16 @@ use Rattle.wire_types.specs.declared.Version.{Version}
 use Rattle.wire_runs.proofs.Lists.{one_longer, slice_get_push_cases}
 use Rattle.wire_types.specs.declared.Call.{Call as Written}
 use Rattle.wire_types.specs.declared.Call.TheVariants as written
-use Rattle.wire_types.specs.Said as said
+use Rattle.wire_types.specs.SaidOfCalls as said
 use Rattle.wire_lines.specs.Text.{lines_of, words_of}
-use Rattle.wire_content.specs.Map.{job_at, job_in as job_of}
-use Rattle.wire_content.specs.Process.{Process}
-use Rattle.wire_content.specs.Scripts.{Scripts, calls_in as calls_of, call_at, text_at}
-use Rattle.wire_script.specs.declared.limits.Size.{Size}
-use Rattle.wire_script.specs.FirstPass.{Name, Started, Declared, nothing, after, judged, is_in_place, is_short, is_known, is_again, has_room, with_call, Judges, JudgesAll, FirstPass}
-use Rattle.wire_script.specs.Reads.{Reads, ReadsShort, Seen, seen_in, numbered, process_of, scripts_of, second_pass, first_fault, unless_fault}
-use Rattle.wire_script.specs.Statements.{Statement, is_skipped, statements_from, statements}
-use Rattle.wire_portable.specs.Spelling.{Said, SpelledSet, CallRows, Nothing, Rank, Job, Call, at_call, calls_in, calls_with, calls_of_text, is_note, is_header, job_after, no_calls, of_job, said_of, said_with, set_in, spelled_sets}
+use Rattle.wire_scripts.specs.Map.{job_at, job_in as job_of}
+use Rattle.wire_scripts.specs.Process.{Process}
+use Rattle.wire_scripts.specs.Scripts.{Scripts, calls_in as calls_of, call_at, text_at}
+use Rattle.wire_reader.specs.declared.limits.Size.{Size}
+use Rattle.wire_reader.specs.FirstPass.{Name, Started, Declared, nothing, after, judged, is_in_place, is_short, is_known, is_again, has_room, with_call, Judges, JudgesAll, FirstPass}
+use Rattle.wire_reader.specs.Reads.{Reads, ReadsShort, Seen, seen_in, numbered, process_of, scripts_of, second_pass, first_fault, unless_fault}
+use Rattle.wire_reader.specs.Statements.{Statement, is_skipped, statements_from, statements}
+use Rattle.wire_portable.specs.Spelling.{SaidOfCalls, SpelledSet, CallRows, Nothing, Rank, Job, Call, at_call, calls_in, calls_with, calls_of_text, is_note, is_header, job_after, no_calls, of_job, said_of, said_with, set_in, spelled_sets}
 use Rattle.wire_portable_commands.specs.SpelledCalls.{AreSpelledIn, CallsAreSpelled}
 
 abbrev Row : Type 0
@@ -39,7 +39,7 @@ set_said (said.LookupWait name) = None
 set_said (said.Unpublish name) = None
 set_said said.UnpublishAll = None
 
-abbrev spelling_said : said.Said → Said
+abbrev spelling_said : said.SaidOfCalls → SaidOfCalls
 spelling_said (said.Header version) = Nothing
 spelling_said said.Keep = Nothing
 spelling_said (said.Node name) = Nothing
@@ -59,7 +59,7 @@ call_words (said.LookupWait name) = refl
 call_words (said.Unpublish name) = refl
 call_words said.UnpublishAll = refl
 
-line_words : (line : said.Said) → said_of (said.first_word line ∷ said.other_words line) ≡ spelling_said line
+line_words : (line : said.SaidOfCalls) → said_of (said.first_word line ∷ said.other_words line) ≡ spelling_said line
 line_words (said.Header version) = refl
 line_words said.Keep = refl
 line_words (said.Node name) = refl
@@ -67,11 +67,11 @@ line_words (said.Job name) = refl
 line_words (said.Rank node) = refl
 line_words (said.Calls call) = call_words call
 
-words_said : (words : List (List ℕ)) (line : said.Said) → said.Says words line → said_of words ≡ spelling_said line
+words_said : (words : List (List ℕ)) (line : said.SaidOfCalls) → said.Says words line → said_of words ≡ spelling_said line
 words_said words line says = ap said_of says.0 ∙ line_words line
 
 -- lines that are skipped say nothing
-skip_if : (b c : Bool) (x : Said) → b ≡ true → cond (b || c) Nothing x ≡ Nothing
+skip_if : (b c : Bool) (x : SaidOfCalls) → b ≡ true → cond (b || c) Nothing x ≡ Nothing
 skip_if true c x h = refl
 skip_if false c x h = absurd (true≢false (sym h))
 
@@ -82,7 +82,7 @@ skipped_says (word ∷ words) is = skip_if (is_note word) (is_header word) _ is
 one_line : (job : List ℕ) (words : List (List ℕ)) (lines : List (List (List ℕ))) (b : Bool) (others : List (List (List ℕ))) →
     is_skipped words ≡ b → ((j : List ℕ) → calls_in j lines ≡ calls_in j others) → calls_in job (words ∷ lines) ≡ calls_in job (cond b others (words ∷ others))
 one_line job words lines true others is same =
-    ap (λ (w : Said). calls_with job w (calls_in (job_after job w) lines)) (skipped_says words is) ∙ same job
+    ap (λ (w : SaidOfCalls). calls_with job w (calls_in (job_after job w) lines)) (skipped_says words is) ∙ same job
 one_line job words lines false others is same = ap (calls_with job (said_of words)) (same (job_after job (said_of words)))
 
 stated : (n : ℕ) (lines : List (List ℕ)) (job : List ℕ) → calls_in job (map words_of lines) ≡ calls_in job (map (λ (l : Statement). l.1) (statements_from n lines))
@@ -186,7 +186,7 @@ at_last [] p = refl
 at_last (x ∷ ps) p = at_last ps p
 
 -- one line more
-record IsStep (d : Declared) (line : said.Said) (new : Declared) : Type 0 where
+record IsStep (d : Declared) (line : said.SaidOfCalls) (new : Declared) : Type 0 where
   now : IsNow new
   job : last_job new.jobs ≡ job_after (last_job d.jobs) (spelling_said line)
   rows : (behind : CallRows) → extend (rows_of new) behind ≡ extend (rows_of d) (calls_with (last_job d.jobs) (spelling_said line) behind)
@@ -195,7 +195,7 @@ and_first : (a b : Bool) → (a && b) ≡ true → a ≡ true
 and_first true b h = refl
 and_first false b h = absurd (true≢false (sym h))
 
-step : (d : Declared) (n : ℕ) (line : said.Said) → is_in_place d line ≡ true → IsNow d → IsStep d line (after d n line)
+step : (d : Declared) (n : ℕ) (line : said.SaidOfCalls) → is_in_place d line ≡ true → IsNow d → IsStep d line (after d n line)
 step d n (said.Header version) placed now = absurd (true≢false (sym placed))
 step d n said.Keep placed now = record { now = record { within = now.within; last = now.last }; job = refl; rows = λ behind. refl }
 step d n (said.Node name) placed now = record { now = record { within = now.within; last = now.last }; job = refl; rows = λ behind. refl }
@@ -258,7 +258,7 @@ same_ok : {A : Type 0} {a b : A} → ◌≡◌ {A = Result A Fault} (Ok a) (Ok b
 same_ok e = cc
 
 -- a line that is judged without a fault
-judged_ok : (d : Declared) (n : ℕ) (line : said.Said) (new : Declared) → ◌≡◌ {A = Result Declared Fault} (Ok new) (judged d n line) → (is_in_place d line ≡ true) × (new ≡ after d n line)
+judged_ok : (d : Declared) (n : ℕ) (line : said.SaidOfCalls) (new : Declared) → ◌≡◌ {A = Result Declared Fault} (Ok new) (judged d n line) → (is_in_place d line ≡ true) × (new ≡ after d n line)
 judged_ok d n line new e = place (is_in_place d line) refl e
   where
     room : (b : Bool) → ◌≡◌ {A = Result Declared Fault} (Ok new) (cond (not b) (Err (TooMany n)) (Ok (after d n line))) → new ≡ after d n line
@@ -293,7 +293,7 @@ module _ (e : Declared) where
   all_said [] d now judges = ap rows_of (same_ok judges) ∙ sym (extend_none (rows_of d))
   all_said (line ∷ lines) d now judges = go judges.0 judges.1 judges.2 (all_said lines)
     where
-      taken : (said_line : said.Said) (new : Declared) → said.Says line.1 said_line → is_in_place d said_line ≡ true → new ≡ after d line.0 said_line → JudgesAll new lines (Ok e) →
+      taken : (said_line : said.SaidOfCalls) (new : Declared) → said.Says line.1 said_line → is_in_place d said_line ≡ true → new ≡ after d line.0 said_line → JudgesAll new lines (Ok e) →
           ((d : Declared) → IsNow d → JudgesAll d lines (Ok e) → rows_of e ≡ extend (rows_of d) (calls_in (last_job d.jobs) (map (λ (l : Statement). l.1) lines))) →
           rows_of e ≡ extend (rows_of d) (calls_in (last_job d.jobs) (map (λ (l : Statement). l.1) (line ∷ lines)))
       taken said_line new says placed is rest ih =
@@ -302,7 +302,7 @@ module _ (e : Declared) where
           ih d' next.now (subst (λ v. JudgesAll v lines (Ok e)) is rest)
           ∙ next.rows (calls_in (last_job d'.jobs) (map (λ (l : Statement). l.1) lines))
           ∙ ap (λ (j : List ℕ). extend (rows_of d) (calls_with (last_job d.jobs) (spelling_said said_line) (calls_in j (map (λ (l : Statement). l.1) lines)))) next.job
-          ∙ ap (λ (w : Said). extend (rows_of d) (calls_with (last_job d.jobs) w (calls_in (job_after (last_job d.jobs) w) (map (λ (l : Statement). l.1) lines)))) (sym (words_said line.1 said_line says))
+          ∙ ap (λ (w : SaidOfCalls). extend (rows_of d) (calls_with (last_job d.jobs) w (calls_in (job_after (last_job d.jobs) w) (map (λ (l : Statement). l.1) lines)))) (sym (words_said line.1 said_line says))
 
       go : (q : Result Declared Fault) → Judges d line q → MatchResult q (λ v. JudgesAll v lines (Ok e)) (λ f. ◌≡◌ {A = Result Declared Fault} (Ok e) (Err f)) →
           ((d : Declared) → IsNow d → JudgesAll d lines (Ok e) → rows_of e ≡ extend (rows_of d) (calls_in (last_job d.jobs) (map (λ (l : Statement). l.1) lines))) →
@@ -395,7 +395,7 @@ first_said size [] n d pass = absurd (ok_err pass)
 first_said size (line ∷ lines) n d pass = elim pass [
   | inl good ↦
       all_said d lines (nothing size good.0) (nothing_now size good.0) good.2
-      ∙ ap (λ (w : Said). (calls_with [] w (calls_in (job_after [] w) (map (λ (l : Statement). l.1) lines))).rows) (sym (words_said line.1 (said.Header good.0) good.1))
+      ∙ ap (λ (w : SaidOfCalls). (calls_with [] w (calls_in (job_after [] w) (map (λ (l : Statement). l.1) lines))).rows) (sym (words_said line.1 (said.Header good.0) good.1))
   | inr bad ↦ absurd (ok_err bad.1)
 ]
 

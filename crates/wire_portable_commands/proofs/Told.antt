@@ -4,9 +4,9 @@ use Rattle.std.specs.Prelude.{slice_get, if◌then◌else◌}
 use Rattle.std.proofs.lemmas.Bool.{eqb-true, true≢false}
 use Rattle.std.proofs.lemmas.Option.{none-some, same_Some}
 use Rattle.wire_types.specs.declared.Fault.{Fault}
-use Rattle.wire_types.specs.declared.Form.{Form}
-use Rattle.wire_content.specs.Scripts.{Scripts}
-use Rattle.wire_content.specs.Planned.{plan_of}
+use Rattle.wire_types.specs.declared.OutputFormat.{OutputFormat}
+use Rattle.wire_scripts.specs.Scripts.{Scripts}
+use Rattle.wire_scripts.specs.Planned.{plan_of}
 use Rattle.wire_runs.specs.Plan.{Plan}
 use Rattle.wire_library_laws.specs.Library.{Family, Words}
 use Rattle.wire_library_laws.specs.Portable.{IsPortable}
@@ -20,7 +20,7 @@ use Rattle.wire_portable.specs.declared.libraries.Library.{Library}
 use Rattle.wire_portable.specs.declared.libraries.Library.TheVariants.{V4, V5, V7}
 use Rattle.wire_portable.specs.declared.listed.Unportable.{Unportable}
 use Rattle.wire_portable.specs.declared.spelling.Spelt.{Spelt}
-use Rattle.wire_script.specs.declared.Size.{Size}
+use Rattle.wire_reader.specs.declared.Size.{Size}
 use Rattle.wire_commands.specs.Answer.{ReadIn}
 use Rattle.wire_commands.specs.declared.ended.Ended.{Ended}
 use Rattle.wire_commands.specs.declared.ended.Ended.TheVariants.{Clean, Found}
@@ -75,7 +75,7 @@ module _ (refines : Refines) (ends : EndsByRules) (one : LibraryOneEnd) (there :
       (there (family_of library) (words_of library s spelling) (plan_of s) other placing (are library (unblamed lines library (free_of (blamed_in lines) library h))))
 
   -- what is told is the verdict
-  pub portable_so : (anywhere : Bool) (form : Form) (name : List ℕ) (s : Scripts) (rows : List (List ℕ)) (told text : List ℕ) (told_ended ended : Ended) (spelling : List (List (Option Spelt)))
+  pub portable_so : (anywhere : Bool) (form : OutputFormat) (name : List ℕ) (s : Scripts) (rows : List (List ℕ)) (told text : List ℕ) (told_ended ended : Ended) (spelling : List (List (Option Spelt)))
       (lines : List Unportable) → IsVerdictOn anywhere form name s rows told told_ended → AreUnportableOn anywhere s spelling lines → ended ≡ ended_beside told_ended (length lines) →
       text ≡ whole_text form name rows s told lines → TellsLibraries anywhere form name spelling s rows text ended
   portable_so anywhere form name s rows told text told_ended ended spelling lines verdict those count tells = record {
@@ -89,7 +89,7 @@ module _ (refines : Refines) (ends : EndsByRules) (one : LibraryOneEnd) (there :
     tells = tells;
   }
 
-one_end_on : (anywhere : Bool) (form : Form) (name : List ℕ) (s : Scripts) (rows : List (List ℕ)) (text : List ℕ) (ended : Ended) → IsVerdictOn anywhere form name s rows text ended → ended ≡ Clean →
+one_end_on : (anywhere : Bool) (form : OutputFormat) (name : List ℕ) (s : Scripts) (rows : List (List ℕ)) (text : List ℕ) (ended : Ended) → IsVerdictOn anywhere form name s rows text ended → ended ≡ Clean →
     HasOneEndOn anywhere (plan_of s)
 one_end_on false form name s rows text ended verdict clean = verdict.judged.one_end clean
 one_end_on true form name s rows text ended verdict clean = verdict.judged.one_end clean
@@ -107,7 +107,7 @@ none_blamed told [] clean = (refl, clean)
 none_blamed told (x ∷ xs) clean = let bad : Found (length (x ∷ xs)) ≡ Clean = sym (some_blamed told x xs) ∙ clean in absurd (cc)
 
 -- a check that is clean tells that each library ends as the plain run
-pub clean_kept : {size : Size} (anywhere : Bool) (form : Form) (name : List ℕ) (coming : Option (List ℕ)) (s : Scripts) (rows : List (List ℕ)) (text : List ℕ) (ended : Ended) (Wrote : Type 0)
+pub clean_kept : {size : Size} (anywhere : Bool) (form : OutputFormat) (name : List ℕ) (coming : Option (List ℕ)) (s : Scripts) (rows : List (List ℕ)) (text : List ℕ) (ended : Ended) (Wrote : Type 0)
     (r : Result Ended Fault) → IsPortableVerdict size coming anywhere form name s rows text ended → IfOk r (λ e. (e ≡ ended) × Wrote) → r ≡ Ok Clean →
     EndsOnLibraries anywhere size coming
 clean_kept anywhere form name coming s rows text ended Wrote (Ok e) verdict wrote clean =

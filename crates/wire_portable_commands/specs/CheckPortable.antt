@@ -1,8 +1,8 @@
 -- What `check --portable` writes: the findings, and on which libraries each run does as the rules say.
 use Rattle.std.specs.Prelude.{◌≡◌, ◌==◌, ℕ, Bool, true, false, List, Option, length, if◌then◌else◌}
-use Rattle.wire_types.specs.declared.Form.{Form}
-use Rattle.wire_content.specs.Scripts.{Scripts}
-use Rattle.wire_content.specs.Planned.{plan_of}
+use Rattle.wire_types.specs.declared.OutputFormat.{OutputFormat}
+use Rattle.wire_scripts.specs.Scripts.{Scripts}
+use Rattle.wire_scripts.specs.Planned.{plan_of}
 use Rattle.wire_runs.specs.Plan.{Plan}
 use Rattle.wire_runs.specs.Step.{run, IsEnd}
 use Rattle.wire_runs.specs.PlainRun.{plain_run}
@@ -11,13 +11,13 @@ use Rattle.wire_runs.specs.Placings.{IsPlacing}
 use Rattle.wire_library_laws.specs.Library.{Family, Words, Moment, told, completed, IsLibraryRun, IsLibraryEnd}
 use Rattle.wire_library_laws.specs.Promised.{IsByRules}
 use Rattle.wire_portable.specs.Libraries.{family_of, has}
-use Rattle.wire_portable.specs.Spelling.{AreNumbered, spelled_sets}
+use Rattle.wire_portable.specs.Spelling.{AreSetsNumbered, spelled_sets}
 use Rattle.wire_portable.specs.Unportable.{AreUnportableOn}
 use Rattle.wire_portable.specs.Words.{words_of}
 use Rattle.wire_portable.specs.declared.libraries.Library.{Library}
 use Rattle.wire_portable.specs.declared.listed.Unportable.{Unportable}
 use Rattle.wire_portable.specs.declared.spelling.Spelt.{Spelt}
-use Rattle.wire_script.specs.declared.Size.{Size}
+use Rattle.wire_reader.specs.declared.Size.{Size}
 use Rattle.wire_commands.specs.declared.ended.Ended.{Ended}
 use Rattle.wire_commands.specs.declared.ended.Ended.TheVariants.{Clean, Found}
 use Rattle.wire_commands.specs.Check.{IsVerdict}
@@ -41,7 +41,7 @@ KeepsRulesOn true s spelling library =
     (other : Plan) → IsPlacing (plan_of s) other → KeepsRules (family_of library) (words_of library s spelling) other
 
 -- the findings of the plan, or those of all its placings
-abbrev pub IsVerdictOn : (anywhere : Bool) → Form → List ℕ → Scripts → List (List ℕ) → List ℕ → Ended → Type 0
+abbrev pub IsVerdictOn : (anywhere : Bool) → OutputFormat → List ℕ → Scripts → List (List ℕ) → List ℕ → Ended → Type 0
 IsVerdictOn false form name s rows text ended = IsVerdict form name s rows text ended
 IsVerdictOn true form name s rows text ended = IsVerdictAnywhere form name s rows text ended
 
@@ -52,11 +52,11 @@ ended_beside ended count = if count == 0 then ended else Found count
 -- what was to come reads as these scripts, and the calls of its fences spell their sets so
 pub record IsSpelled (size : Size) (coming : Option (List ℕ)) (scripts : Scripts) (spelling : List (List (Option Spelt))) : Type 0 where
   pub read : ReadAs size coming scripts
-  pub numbered : AreNumbered (spelled_sets read.bytes) spelling
+  pub numbered : AreSetsNumbered (spelled_sets read.bytes) spelling
 
 -- the text of all findings and of all calls by which the plan isn't portable, and how the check ends. Each library that the
 -- last line names does as the rules say
-pub record TellsLibraries (anywhere : Bool) (form : Form) (name : List ℕ) (spelling : List (List (Option Spelt))) (scripts : Scripts)
+pub record TellsLibraries (anywhere : Bool) (form : OutputFormat) (name : List ℕ) (spelling : List (List (Option Spelt))) (scripts : Scripts)
     (rows : List (List ℕ)) (text : List ℕ) (ended : Ended) : Type 0 where
   pub told : List ℕ
   pub told_ended : Ended
@@ -68,7 +68,7 @@ pub record TellsLibraries (anywhere : Bool) (form : Form) (name : List ℕ) (spe
   pub tells : text ≡ whole_text form name rows scripts told lines
 
 -- so it is told of what was to come, as that spells the sets of its fences
-pub record IsPortableVerdict (size : Size) (coming : Option (List ℕ)) (anywhere : Bool) (form : Form) (name : List ℕ) (scripts : Scripts)
+pub record IsPortableVerdict (size : Size) (coming : Option (List ℕ)) (anywhere : Bool) (form : OutputFormat) (name : List ℕ) (scripts : Scripts)
     (rows : List (List ℕ)) (text : List ℕ) (ended : Ended) : Type 0 where
   pub spelling : List (List (Option Spelt))
   pub spelled : IsSpelled size coming scripts spelling

@@ -2,7 +2,7 @@
 -- object for each call and rule.
 use Rattle.std.specs.Prelude.{ℕ, Bool, true, false, List, [], ◌++◌, codes, map}
 use Rattle.wire_types.specs.declared.CallAt.{CallAt}
-use Rattle.wire_content.specs.Scripts.{Scripts}
+use Rattle.wire_scripts.specs.Scripts.{Scripts}
 use Rattle.wire_json.specs.Chains.{call_member, proc_member, verb_member}
 use Rattle.wire_json.specs.Json.{quoted, bracketed}
 use Rattle.wire_json.specs.Lined.{line_member}

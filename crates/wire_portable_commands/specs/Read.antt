@@ -1,7 +1,7 @@
 -- What is read of a plan's bytes.
 use Rattle.std.specs.Prelude.{◌≡◌, ℕ, Bool, true, false, List, []}
-use Rattle.wire_script.specs.declared.Size.{Size}
-use Rattle.wire_script.specs.Located.{AreCallLines}
+use Rattle.wire_reader.specs.declared.Size.{Size}
+use Rattle.wire_reader.specs.Located.{AreCallLines}
 
 -- the lines that are read of a text: where places are told those of its calls, else none
 abbrev pub AreLinesIn : (places : Bool) → Size → List ℕ → List (List ℕ) → Type 0

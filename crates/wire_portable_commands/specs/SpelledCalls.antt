@@ -1,10 +1,10 @@
 -- The calls that a text spells are those of its scripts.
 use Rattle.std.specs.Prelude.{◌≡◌, ℕ, List, Bool, Option, Some, None, Ok}
 use Rattle.wire_types.specs.declared.Call.TheVariants.{Fence}
-use Rattle.wire_content.specs.Map.{job_at}
-use Rattle.wire_content.specs.Scripts.{Scripts, call_at, text_at}
-use Rattle.wire_script.specs.declared.limits.Size.{Size}
-use Rattle.wire_script.specs.Reads.{Reads}
+use Rattle.wire_scripts.specs.Map.{job_at}
+use Rattle.wire_scripts.specs.Scripts.{Scripts, call_at, text_at}
+use Rattle.wire_reader.specs.declared.limits.Size.{Size}
+use Rattle.wire_reader.specs.Reads.{Reads}
 use Rattle.wire_portable.specs.Spelling.{SpelledSet, at_call, spelled_sets}
 
 -- each call of a fence spells a set, being one of the caller's job, and no other call does

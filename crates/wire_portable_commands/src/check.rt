@@ -17,23 +17,25 @@ use std::alloc::{AllocError, Global};
 use std::thread::Threads;
 use wire_anywhere::find_anywhere;
 use wire_anywhere::laws::settled_exactly as settled_anywhere_exactly;
-use wire_commands::{Answer, Ended, Manner, Telling, answer_findings, answer_found, write_answer};
-use wire_content::Scripts;
+use wire_commands::{
+    Answer, AnswerStyle, CommandOptions, Ended, answer_findings, answer_found, write_answer,
+};
+use wire_happens_before::{HappensBefore, MarkedPlan};
 use wire_library_laws::laws::{ends_by_rules, library_one_end, portable_there, refines};
-use wire_marks::{MarkedPlan, Marks};
 use wire_plan::Plan;
 use wire_portable::{
     Spelling, Unportable, UnportableList, find_unportable, find_unportable_anywhere,
 };
 use wire_races::finding_list;
 use wire_races::laws::settled_exactly;
-use wire_report::Places;
+use wire_report::SourceLines;
+use wire_scripts::Scripts;
 use wire_types::{Fault, Sink, Source};
 
 /// How the command is to work, and whether on every placement of the ranks.
 #[derive(Clone, Copy)]
 pub struct PortableAsked<'a> {
-    pub manner: Manner<'a>,
+    pub manner: CommandOptions<'a>,
     pub anywhere: bool,
 }
 
@@ -72,11 +74,11 @@ pub fn check_portable<R: Source, W: Sink>(
     ensures unfailed { IfErr result (λ e. e ≢ Memory → e ≢ Read → R.failures reader.new ≡ R.failures reader.old) }
 {
     let ((scripts, rows), spelling) = read_spelled(rt, alloc, asked.manner, reader)?;
-    let places = Places {
+    let places = SourceLines {
         name: asked.manner.name,
         rows: rows.as_slice(),
     };
-    let telling = Telling {
+    let telling = AnswerStyle {
         places,
         form: asked.manner.form,
     };
@@ -92,7 +94,7 @@ pub fn check_portable<R: Source, W: Sink>(
 /// How scripts are judged: how fences spell their sets, on which placements, and how the answer is told.
 #[derive(Clone, Copy)]
 struct Judging<'a> {
-    telling: Telling<'a>,
+    telling: AnswerStyle<'a>,
     spelling: &'a Spelling,
     anywhere: bool,
 }
@@ -125,7 +127,7 @@ fn answer_plan(
         judging.entry.spelling.now plan.now (rows_in judging.entry.telling.places) answer.text.items answer.ended) }
     ensures err { IfErr result (λ e. e ≡ Memory) }
 {
-    let marks = Marks::of(alloc, plan)?;
+    let marks = HappensBefore::of(alloc, plan)?;
     let marked = marks.with(plan);
     let judged = judge(rt, alloc, &marked, judging)?;
     tell(alloc, plan.scripts(), judging, judged)

@@ -8,9 +8,9 @@ ghost use Rattle.wire_portable_commands.specs.Lines as spec;
 use crate::lines::{push_portable, push_said};
 use crate::words::{blamed_in, names_text, rule_number, rule_word};
 use std::alloc::{AllocError, Global};
-use wire_content::Scripts;
 use wire_portable::{Rule, Unportable};
-use wire_report::{Places, push_place};
+use wire_report::{SourceLines, push_place};
+use wire_scripts::Scripts;
 use wire_types::CallAt;
 use wire_words::push_number;
 
@@ -86,7 +86,7 @@ fn push_counted(
 /// Appends the line of a group, none where it has no calls.
 fn push_group(
     out: &mut Vec<u8>,
-    places: Places<'_>,
+    places: SourceLines<'_>,
     scripts: &Scripts,
     rule: Rule,
     those: &[Unportable],
@@ -104,7 +104,7 @@ fn push_group(
 /// Appends the line of a rule's group.
 fn push_rule(
     out: &mut Vec<u8>,
-    places: Places<'_>,
+    places: SourceLines<'_>,
     scripts: &Scripts,
     lines: &[Unportable],
     rule: Rule,
@@ -119,7 +119,7 @@ fn push_rule(
 /// Appends the lines of all groups.
 fn push_all_groups(
     out: &mut Vec<u8>,
-    places: Places<'_>,
+    places: SourceLines<'_>,
     scripts: &Scripts,
     lines: &[Unportable],
 ) -> Result<(), AllocError>
@@ -151,7 +151,7 @@ fn push_all_groups(
 /// Appends the lines of all groups, and the last line.
 pub(crate) fn push_grouped(
     out: &mut Vec<u8>,
-    places: Places<'_>,
+    places: SourceLines<'_>,
     scripts: &Scripts,
     lines: &[Unportable],
 ) -> Result<(), AllocError>

@@ -10,12 +10,12 @@ ghost use Rattle.wire_portable_commands.specs.Json as spec;
 
 use crate::words::{names_json, portable_in, rule_word};
 use std::alloc::{AllocError, Global};
-use wire_commands::Telling;
-use wire_content::Scripts;
+use wire_commands::AnswerStyle;
 use wire_json::{push_list, push_quoted};
 use wire_portable::Unportable;
 use wire_report::line_of;
-use wire_types::{CallAt, Form, Proc};
+use wire_scripts::Scripts;
+use wire_types::{CallAt, OutputFormat, Proc};
 use wire_words::{push_number, push_proc, verb_at};
 
 /// Appends the brace that opens a call, and the member of its number.
@@ -30,7 +30,7 @@ fn push_number_of(out: &mut Vec<u8>, call: CallAt) -> Result<(), AllocError>
 fn push_line_in(
     out: &mut Vec<u8>,
     rows: &[Vec<u64>],
-    form: Form,
+    form: OutputFormat,
     call: CallAt,
 ) -> Result<(), AllocError>
     ensures { OnOk result (out.new.items ≡ out.old.items ++ spec.line_part (has_places form) (lists_of rows.now) call) }
@@ -46,7 +46,7 @@ fn push_line_in(
 fn first_members(
     alloc: Global,
     rows: &[Vec<u64>],
-    form: Form,
+    form: OutputFormat,
     line: Unportable,
 ) -> Result<Vec<u8>, AllocError>
     ensures { IfOk result (λ text. text.items ≡ spec.json_first (has_places form) (lists_of rows.now) line) }
@@ -103,7 +103,7 @@ fn unportable_json(
     alloc: Global,
     scripts: &Scripts,
     rows: &[Vec<u64>],
-    form: Form,
+    form: OutputFormat,
     line: Unportable,
 ) -> Result<Vec<u8>, AllocError>
     ensures { IfOk result (λ text. text.items ≡ spec.json_unportable (has_places form) (lists_of rows.now) scripts.now line) }
@@ -117,7 +117,7 @@ fn unportable_json(
 fn unportable_texts(
     alloc: Global,
     scripts: &Scripts,
-    telling: Telling<'_>,
+    telling: AnswerStyle<'_>,
     lines: &[Unportable],
 ) -> Result<Vec<Vec<u8>>, AllocError>
     ensures { IfOk result (λ texts. lists_of texts.items
@@ -152,7 +152,7 @@ pub(crate) fn push_members(
     alloc: Global,
     out: &mut Vec<u8>,
     scripts: &Scripts,
-    telling: Telling<'_>,
+    telling: AnswerStyle<'_>,
     lines: &[Unportable],
 ) -> Result<(), AllocError>
     ensures { OnOk result (out.new.items ≡ out.old.items

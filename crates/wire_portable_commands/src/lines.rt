@@ -7,8 +7,8 @@ ghost use Rattle.wire_portable_commands.specs.Lines as spec;
 
 use crate::words::{names_or_none, names_text, portable_in, rule_word};
 use std::alloc::AllocError;
-use wire_content::Scripts;
 use wire_portable::Unportable;
+use wire_scripts::Scripts;
 use wire_types::CallAt;
 use wire_words::{push_call, verb_at};
 

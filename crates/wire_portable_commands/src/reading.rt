@@ -5,7 +5,7 @@ ghost use Rattle.wire_types.specs.Counting.{one_more};
 ghost use Rattle.wire_types.specs.Forms.{has_places};
 ghost use Rattle.wire_types.specs.declared.Fault.TheVariants.{Memory, Read};
 ghost use Rattle.wire_types.specs.Texts.{lists_of};
-ghost use Rattle.wire_script.specs.Reads.{Reads};
+ghost use Rattle.wire_reader.specs.Reads.{Reads};
 ghost use Rattle.wire_commands.specs.Answer.{ReadIn};
 ghost use Rattle.wire_commands.specs.Plain.{Refuses};
 ghost use Rattle.wire_portable_commands.specs.CheckPortable.{IsSpelled};
@@ -13,11 +13,11 @@ ghost use Rattle.wire_portable_commands.specs.Read.{AreLinesIn};
 
 use std::alloc::Global;
 use std::thread::Threads;
-use wire_commands::{Manner, read_up_to};
-use wire_content::Scripts;
+use wire_commands::{CommandOptions, read_up_to};
 use wire_portable::{Spelling, read_spelling};
-use wire_script::{Size, read_located_shared, read_shared};
-use wire_types::{Fault, Form, Source};
+use wire_reader::{Size, read_located_shared, read_shared};
+use wire_scripts::Scripts;
+use wire_types::{Fault, OutputFormat, Source};
 
 /// The scripts in the bytes of a file, and what an answer in this form tells of the lines of their calls: none in a form
 /// without places.
@@ -25,7 +25,7 @@ fn read_lines(
     rt: &(impl Threads + Sync),
     alloc: Global,
     size: Size,
-    form: Form,
+    form: OutputFormat,
     bytes: &[u8],
 ) -> Result<(Scripts, Vec<Vec<u64>>), Fault>
     ensures ok { IfOk result (λ r. Reads size bytes.now (Ok r.0)) }
@@ -44,7 +44,7 @@ fn read_lines(
 pub(crate) fn read_spelled<R: Source>(
     rt: &(impl Threads + Sync),
     alloc: Global,
-    manner: Manner<'_>,
+    manner: CommandOptions<'_>,
     reader: &mut R,
 ) -> Result<((Scripts, Vec<Vec<u64>>), Spelling), Fault>
     ensures ok { IfOk result (λ r. ReadIn manner.entry.size manner.entry.form (R.coming reader.old) r.0.0 (lists_of r.0.1.items)) }

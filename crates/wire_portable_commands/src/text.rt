@@ -8,10 +8,10 @@ use crate::groups::push_grouped;
 use crate::json::push_members;
 use crate::lines::push_lines;
 use std::alloc::{AllocError, Global};
-use wire_commands::Telling;
-use wire_content::Scripts;
+use wire_commands::AnswerStyle;
 use wire_portable::Unportable;
-use wire_types::Form;
+use wire_scripts::Scripts;
+use wire_types::OutputFormat;
 
 /// Takes the end of an object away: a brace and a line feed.
 fn open_object(told: &mut Vec<u8>)
@@ -26,16 +26,16 @@ pub(crate) fn tell_libraries(
     alloc: Global,
     told: &mut Vec<u8>,
     scripts: &Scripts,
-    telling: Telling<'_>,
+    telling: AnswerStyle<'_>,
     lines: &[Unportable],
 ) -> Result<(), AllocError>
     ensures { OnOk result (told.new.items ≡ spec.whole_text telling.entry.form telling.entry.places.name.now
         (lists_of telling.entry.places.rows.now) scripts.now told.old.items lines.now) }
 {
     match telling.form {
-        Form::Lines => push_lines(told, scripts, lines),
-        Form::Places => push_grouped(told, telling.places, scripts, lines),
-        Form::Json | Form::PlacedJson => {
+        OutputFormat::Lines => push_lines(told, scripts, lines),
+        OutputFormat::Places => push_grouped(told, telling.places, scripts, lines),
+        OutputFormat::Json | OutputFormat::PlacedJson => {
             open_object(told);
             push_members(alloc, told, scripts, telling, lines)
         }

@@ -10,9 +10,9 @@ use Rattle.wire_types.specs.Replies.{bare, success_with}
 use Rattle.wire_types.specs.declared.Status.TheVariants.{NotFound}
 use Rattle.wire_types.specs.declared.Value.TheVariants.{Number, NodeName}
 use Rattle.wire_types.specs.Said.{is_reserved}
-use Rattle.wire_content.specs.Scripts.{Process, text_at}
-use Rattle.wire_content.specs.Map.{job_at, node_at, rank_of, local_rank_of, node_rank_of, size_of_job}
-use Rattle.wire_content.specs.Reserved.{reserved_reply}
+use Rattle.wire_scripts.specs.Scripts.{Process, text_at}
+use Rattle.wire_scripts.specs.Map.{job_at, node_at, rank_of, local_rank_of, node_rank_of, size_of_job}
+use Rattle.wire_scripts.specs.Reserved.{reserved_reply}
 use Rattle.wire_procmap.specs.declared.key.KeyKind.{KeyKind}
 use Rattle.wire_procmap.specs.declared.key.KeyKind.TheVariants.{Plain, Rank, LocalRank, NodeRank, JobSize, Hostname, Other}
 use Rattle.wire_procmap.specs.Keys.{key_kind, is_reserved_kind}

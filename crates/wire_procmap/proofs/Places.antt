@@ -4,8 +4,8 @@ use Rattle.std.proofs.lemmas.Bool.{cases_order, cond-true, and_parts, and_from, 
 use Rattle.std.proofs.lemmas.List.{take-take, get_or-take, length-take-le}
 use Rattle.std.proofs.lemmas.List.Quantifiers.{position-Some}
 use Rattle.std.proofs.lemmas.List.Sums.{sum_by_more_le}
-use Rattle.wire_content.specs.Scripts.{Process}
-use Rattle.wire_content.specs.Map.{job_at}
+use Rattle.wire_scripts.specs.Scripts.{Process}
+use Rattle.wire_scripts.specs.Map.{job_at}
 use Rattle.wire_procmap.specs.declared.row.ProcessNumbers.{ProcessNumbers}
 use Rattle.wire_procmap.specs.Places.{IsAt, OneProcess}
 use Rattle.wire_procmap.specs.Rows.{row_of, rows_of}

@@ -9,8 +9,8 @@ use Rattle.std.proofs.lemmas.Option.{slice_get-get_or, none-some}
 use Rattle.std.proofs.lemmas.List.FromFn.{length-map-range_with_len, map-range_with_len_more, get_or-map-range_with_len, sum_by-map-range_with_len_more}
 use Rattle.std.proofs.lemmas.List.Sums.{sum_by_more, fails_before_first}
 use Rattle.std.proofs.Math.Seq.{take-length}
-use Rattle.wire_content.specs.Scripts.{Process}
-use Rattle.wire_content.specs.Map.{job_in, node_in, job_at, node_at, size_of_job}
+use Rattle.wire_scripts.specs.Scripts.{Process}
+use Rattle.wire_scripts.specs.Map.{job_in, node_in, job_at, node_at, size_of_job}
 use Rattle.wire_procmap.specs.declared.row.ProcessNumbers.{ProcessNumbers}
 use Rattle.wire_procmap.specs.Rows.{row_of, rows_of}
 

@@ -1,7 +1,7 @@
 -- What the tables of a map of scripts hold.
 use Rattle.std.proofs.Common.{◌≡◌, ◌∙◌, ap, ℕ, ◌<◌, ◌==◌, Some, None, length, get_or, count_by, position, arith}
-use Rattle.wire_content.specs.Scripts.{Scripts}
-use Rattle.wire_content.specs.Map.{size_of_job}
+use Rattle.wire_scripts.specs.Scripts.{Scripts}
+use Rattle.wire_scripts.specs.Map.{size_of_job}
 use Rattle.wire_procmap.specs.declared.row.ProcessNumbers.{ProcessNumbers}
 use Rattle.wire_procmap.specs.Map.{Map, map_of, row_count}
 use Rattle.wire_procmap.specs.Places.{IsAt}

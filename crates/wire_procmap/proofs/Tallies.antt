@@ -3,7 +3,7 @@ use Rattle.std.proofs.Common.{◌≡◌, ◌≢◌, ◌∙◌, ap, sym, ℕ, ◌
 use Rattle.std.proofs.lemmas.Bool.{cases_Bool, and_parts, and_from, eqb-true, true≢false}
 use Rattle.std.proofs.lemmas.List.{length-take-le}
 use Rattle.std.proofs.lemmas.List.Sums.{count_by-le-length, count_by_more_yes, count_by_more_no}
-use Rattle.wire_content.specs.Scripts.{Process}
+use Rattle.wire_scripts.specs.Scripts.{Process}
 use Rattle.wire_procmap.specs.declared.tally.Tally.{Tally}
 use Rattle.wire_procmap.specs.Tallies.{is_same, counted, IsTally}
 use Rattle.wire_procmap.proofs.Rows.{nobody}

@@ -1,6 +1,6 @@
 -- The map of scripts: the row of each process, and the kind of each key.
 use Rattle.std.specs.Prelude.{ℕ, List, length, map}
-use Rattle.wire_content.specs.Scripts.{Scripts}
+use Rattle.wire_scripts.specs.Scripts.{Scripts}
 use Rattle.wire_procmap.specs.declared.key.KeyKind.{KeyKind}
 use Rattle.wire_procmap.specs.declared.row.ProcessNumbers.{ProcessNumbers}
 use Rattle.wire_procmap.specs.Keys.{key_kind}

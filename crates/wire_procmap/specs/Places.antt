@@ -1,7 +1,7 @@
 -- The process of a job and a rank.
 use Rattle.std.specs.Prelude.{◌≡◌, ℕ, ◌<◌, List, length}
-use Rattle.wire_content.specs.Scripts.{Process}
-use Rattle.wire_content.specs.Map.{job_at, rank_of}
+use Rattle.wire_scripts.specs.Scripts.{Process}
+use Rattle.wire_scripts.specs.Map.{job_at, rank_of}
 
 -- the process of this number has this rank in this job
 pub record IsAt (processes : List Process) (job rank p : ℕ) : Type 0 where

@@ -1,8 +1,8 @@
 -- What the map keeps of each process.
 use Rattle.std.specs.Prelude.{ℕ, List, length, map}
 use Rattle.std.specs.List.{range_with_len}
-use Rattle.wire_content.specs.Scripts.{Process}
-use Rattle.wire_content.specs.Map.{job_at, node_at, rank_of, local_rank_of, node_rank_of, size_of_job}
+use Rattle.wire_scripts.specs.Scripts.{Process}
+use Rattle.wire_scripts.specs.Map.{job_at, node_at, rank_of, local_rank_of, node_rank_of, size_of_job}
 use Rattle.wire_types.specs.Replies.{bare, success_with}
 use Rattle.wire_types.specs.declared.Reply.{Reply}
 use Rattle.wire_types.specs.declared.Status.TheVariants.{NotFound}

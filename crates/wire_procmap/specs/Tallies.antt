@@ -2,7 +2,7 @@
 -- functions.
 use Rattle.std.specs.Prelude.{◌≡◌, ℕ, List, Bool, ◌&&◌, ◌==◌, Option, Some, None, count_by}
 use Rattle.std.specs.HashMap.{get}
-use Rattle.wire_content.specs.Scripts.{Process}
+use Rattle.wire_scripts.specs.Scripts.{Process}
 use Rattle.wire_procmap.specs.declared.tally.Tally.{Tally}
 use Rattle.wire_procmap.specs.declared.row.Counts.{Counts}
 

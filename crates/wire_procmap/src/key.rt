@@ -4,7 +4,7 @@ ghost use Rattle.std.specs.Prelude.{◌≡◌, map, IfOk};
 ghost use Rattle.wire_procmap.specs.Keys as keys;
 
 use std::alloc::{AllocError, Global};
-use wire_content::Texts;
+use wire_scripts::Texts;
 use wire_types::is_reserved;
 
 /// What a get of a key asks of the process map.

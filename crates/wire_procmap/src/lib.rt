@@ -3,10 +3,10 @@
 #![tactic(auto)]
 
 mod key;
-mod law;
+mod laws;
 mod map;
 mod row;
 mod tally;
 
-pub use law::one_process;
+pub use laws::one_process;
 pub use map::ProcMap;

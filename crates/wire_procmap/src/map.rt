@@ -2,9 +2,9 @@
 
 ghost use Rattle.std.specs.Prelude.{◌≡◌, ℕ, ◌<◌, IfOk, IsOkUnless, IfSome, IfNone};
 ghost use Rattle.wire_types.specs.Said.{is_reserved};
-ghost use Rattle.wire_content.specs.Scripts.{Scripts, text_at};
-ghost use Rattle.wire_content.specs.Map.{job_at, node_at, rank_of, local_rank_of, node_rank_of, size_of_job};
-ghost use Rattle.wire_content.specs.Reserved.{reserved_reply};
+ghost use Rattle.wire_scripts.specs.Scripts.{Scripts, text_at};
+ghost use Rattle.wire_scripts.specs.Map.{job_at, node_at, rank_of, local_rank_of, node_rank_of, size_of_job};
+ghost use Rattle.wire_scripts.specs.Reserved.{reserved_reply};
 ghost use Rattle.wire_procmap.specs.Keys as keys;
 ghost use Rattle.wire_procmap.specs.Map.{map_of, row_count};
 ghost use Rattle.wire_procmap.specs.Places.{IsAt};
@@ -14,7 +14,7 @@ use crate::key::{KeyKind, kinds_of};
 use crate::row::{ProcessNumbers, place_in, rows_of, size_in};
 use std::alloc::Global;
 use std::marker::Model;
-use wire_content::Scripts;
+use wire_scripts::Scripts;
 use wire_types::{Fault, Proc, Reply};
 
 /// The process map of scripts.

@@ -8,7 +8,7 @@ ghost use Rattle.wire_procmap.specs.Tallies.{job_of, IsTally, AreCounts};
 use crate::key::KeyKind;
 use crate::tally::Tally;
 use std::alloc::{AllocError, Global};
-use wire_content::Process;
+use wire_scripts::Process;
 use wire_types::{Reply, Status, Value};
 
 /// The numbers of one process, and how many processes its job has.

@@ -13,15 +13,15 @@ pub record IsSameHead (a b : Plan) : Type 0 where
   pub keep : a.keep ≡ b.keep
 
 -- s is part of the run w: a run of the plan can come to it, and the replies in it are replies of w
-pub record IsPart (plan : Plan) (w : List ℕ) (s : State) : Type 0 where
+pub record IsPartOfRun (plan : Plan) (w : List ℕ) (s : State) : Type 0 where
   pub reached : IsReachable plan s
   pub within : (p : ℕ) → s.done p ≤ (run plan w).done p
   pub replies : (p : ℕ) → s.replies p ≡ take (s.done p) ((run plan w).replies p)
 
 -- s is part of both runs, and all calls that are done in it are the same
 pub record IsCommon (a b : Plan) (v w : List ℕ) (s : State) : Type 0 where
-  pub in_first : IsPart a v s
-  pub in_second : IsPart b w s
+  pub in_first : IsPartOfRun a v s
+  pub in_second : IsPartOfRun b w s
   pub same : (p i : ℕ) → i < s.done p → kind_at a p i ≡ kind_at b p i
 
 -- both are runs of one program: where both have done the same, each process goes on with the same call in both, or

@@ -8,7 +8,7 @@ use Rattle.wire_runs.specs.Races.{GetDelivers}
 use Rattle.wire_plan.specs.Index.{AreGetDeliveries}
 use Rattle.wire_findings.specs.declared.finding.Finding.{Finding as Told}
 use Rattle.wire_findings.specs.Collected.{AreFound}
-use Rattle.wire_races.specs.Adding.{Adds}
+use Rattle.wire_races.specs.Adding.{AddsFindings}
 use Rattle.wire_races.specs.KeyRaces.{IsRaceOf}
 use Rattle.wire_fates.specs.Deliveries.{AreOfOne}
 use Rattle.wire_races.specs.GetRaces.{MayRace, AreRacesByGets, AreRacesBelow}
@@ -22,12 +22,12 @@ module _ (plan : Plan) (y z : Event) (up : IsUpTo y z) where
 
 module _ (plan : Plan) (get : Event) (p key node : ℕ) (places : List Event) (are : AreGetDeliveries plan p key node places) where
   -- no race so far
-  pub no_race : (found : List Told) → AreFound plan found → Adds plan found found (AreRacesBelow plan get p key node places 0)
+  pub no_race : (found : List Told) → AreFound plan found → AddsFindings plan found found (AreRacesBelow plan get p key node places 0)
   no_race found are_found = adds_none plan found (AreRacesBelow plan get p key node places 0) are_found (λ f t. let lt = t.2 in omega (arith, lt))
 
   -- one more
-  pub race_more : (old mid new : List Told) (n : ℕ) (z : Event) → slice_get places n ≡ Some z → MayRace plan z get → Adds plan old mid (AreRacesBelow plan get p key node places n) →
-      Adds plan mid new (IsRaceOf z get p key) → Adds plan old new (AreRacesBelow plan get p key node places (suc n))
+  pub race_more : (old mid new : List Told) (n : ℕ) (z : Event) → slice_get places n ≡ Some z → MayRace plan z get → AddsFindings plan old mid (AreRacesBelow plan get p key node places n) →
+      AddsFindings plan mid new (IsRaceOf z get p key) → AddsFindings plan old new (AreRacesBelow plan get p key node places (suc n))
   race_more old mid new n z is may first second =
       adds_both plan old mid new (AreRacesBelow plan get p key node places n) (IsRaceOf z get p key) (AreRacesBelow plan get p key node places (suc n))
       (λ f t. let lt = t.2 in (t.0, t.1, omega (arith, lt), t.3, t.4))
@@ -40,7 +40,7 @@ module _ (plan : Plan) (get : Event) (p key node : ℕ) (places : List Event) (a
 
   -- where the first get of a process can't race, none of them can
   pub race_skip : (old new : List Told) (n m : ℕ) (y : Event) → n < m → slice_get places n ≡ Some y → (MayRace plan y get → ⊥) → AreOfOne places n (m - 1) →
-      Adds plan old new (AreRacesBelow plan get p key node places n) → Adds plan old new (AreRacesBelow plan get p key node places m)
+      AddsFindings plan old new (AreRacesBelow plan get p key node places n) → AddsFindings plan old new (AreRacesBelow plan get p key node places m)
   race_skip old new n m y more is never one h =
       adds_same plan old new (AreRacesBelow plan get p key node places n) (AreRacesBelow plan get p key node places m)
       (λ f t. let lt = t.2 in (t.0, t.1, omega (arith, lt, more), t.3, t.4))
@@ -53,7 +53,7 @@ module _ (plan : Plan) (get : Event) (p key node : ℕ) (places : List Event) (a
       ])
       h
 
-  pub races_done : (old new : List Told) (n : ℕ) → length places ≤ n → Adds plan old new (AreRacesBelow plan get p key node places n) → Adds plan old new (AreRacesByGets plan get p key node)
+  pub races_done : (old new : List Told) (n : ℕ) → length places ≤ n → AddsFindings plan old new (AreRacesBelow plan get p key node places n) → AddsFindings plan old new (AreRacesByGets plan get p key node)
   races_done old new n end h =
       adds_same plan old new (AreRacesBelow plan get p key node places n) (AreRacesByGets plan get p key node)
       (λ f t. (t.1, t.4))

@@ -10,9 +10,9 @@ use Rattle.wire_runs.proofs.Basics.{process_within}
 use Rattle.wire_findings.specs.declared.finding.Finding.{Finding as Told}
 use Rattle.wire_findings.specs.Collected.{AreFound}
 use Rattle.wire_races.specs.FindingKinds.{IsOfKey}
-use Rattle.wire_races.specs.Adding.{Adds, OfKind}
+use Rattle.wire_races.specs.Adding.{AddsFindings, OfKind}
 use Rattle.wire_races.specs.GetRaces.{MayRace, AreRacesByGets}
-use Rattle.wire_races.specs.KeyRaces.{IsRaceOf, IsKeyRaceBy, IsLateBy, AreLateBelow, IsOpen, IsUnsure}
+use Rattle.wire_races.specs.KeyRaces.{IsRaceOf, IsKeyRaceBy, IsLateBy, AreLateBelow, IsOpenRead, IsUnsure}
 use Rattle.wire_fates.specs.Deliveries.{MayBeLate, IsLate}
 use Rattle.wire_races.proofs.Growing.{adds_none, adds_same, adds_both}
 use Rattle.wire_runs.proofs.Histories.{joined}
@@ -26,8 +26,8 @@ pub past_all : (plan : Plan) (p key node from count : ℕ) → count ≡ event_c
 past_all plan p key node from count is end k ge d = let lt = delivering_within plan p key node k d in omega (arith, lt, is, end, ge)
 
 -- where a delivery comes surely before the get, it races with nothing
-pub sure_none : (plan : Plan) (get : Event) (owner key : ℕ) (found : List Told) → IsOpen plan get owner key → same_node plan owner get.proc ≡ false →
-    ComesSurely plan owner key (node_of plan get.proc) get → AreFound plan found → Adds plan found found (IsKeyRaceBy plan get)
+pub sure_none : (plan : Plan) (get : Event) (owner key : ℕ) (found : List Told) → IsOpenRead plan get owner key → same_node plan owner get.proc ≡ false →
+    ComesSurely plan owner key (node_of plan get.proc) get → AreFound plan found → AddsFindings plan found found (IsKeyRaceBy plan get)
 sure_none plan get owner key found opened other sure are = adds_none plan found (IsKeyRaceBy plan get) are (λ f t. never (race_with plan get owner key f opened.is t).race)
   where
     never : {x : Event} → IsKeyRace plan x get owner key → ⊥
@@ -101,8 +101,8 @@ module _ (plan : Plan) (get : Event) (owner key : ℕ) (n : IsUnsure plan get ow
       go x (inr r) is = delivered x is r.delivery r.delivers r.before_none r.of_it r.not_before r.first
 
   -- the late arrivals and these gets are all races of the get
-  pub adds_late : (old mid new : List Told) → Adds plan old mid (AreLateBelow plan get owner key (node_of plan get.proc) (event_count plan owner)) →
-      Adds plan mid new (AreRacesByGets plan get owner key (node_of plan get.proc)) → Adds plan old new (IsKeyRaceBy plan get)
+  pub adds_late : (old mid new : List Told) → AddsFindings plan old mid (AreLateBelow plan get owner key (node_of plan get.proc) (event_count plan owner)) →
+      AddsFindings plan mid new (AreRacesByGets plan get owner key (node_of plan get.proc)) → AddsFindings plan old new (IsKeyRaceBy plan get)
   adds_late old mid new first second =
       adds_both plan old mid new (AreLateBelow plan get owner key (node_of plan get.proc) (event_count plan owner)) (AreRacesByGets plan get owner key (node_of plan get.proc)) (IsKeyRaceBy plan get)
       (λ f t. record { source = t.2.source; owner = owner; key = key; race = late_race t.0 t.2.source t.2.delivers t.2.late; is = t.2.is })
@@ -112,19 +112,19 @@ module _ (plan : Plan) (get : Event) (owner key : ℕ) (n : IsUnsure plan get ow
 
 module _ (plan : Plan) (get : Event) (owner key node : ℕ) where
   -- one arrival is looked at
-  pub one_late : (old new : List Told) (at : ℕ) (x : Event) → IsDelivering plan owner key node at → IsLate plan get (here owner at) x → Adds plan old new (IsRaceOf x get owner key) →
-      Adds plan old new (IsLateBy plan get owner key node at)
+  pub one_late : (old new : List Told) (at : ℕ) (x : Event) → IsDelivering plan owner key node at → IsLate plan get (here owner at) x → AddsFindings plan old new (IsRaceOf x get owner key) →
+      AddsFindings plan old new (IsLateBy plan get owner key node at)
   one_late old new at x d l h =
       adds_same plan old new (IsRaceOf x get owner key) (IsLateBy plan get owner key node at)
       (λ f i. record { source = x; delivers = d; late = l; is = i })
       (λ f t. subst (λ z. IsRaceOf z get owner key f) (late_once plan get (here owner at) x t.source l t.late) t.is)
       h
 
-  pub not_late : (found : List Told) (at : ℕ) → ((x : Event) → IsLate plan get (here owner at) x → ⊥) → AreFound plan found → Adds plan found found (IsLateBy plan get owner key node at)
+  pub not_late : (found : List Told) (at : ℕ) → ((x : Event) → IsLate plan get (here owner at) x → ⊥) → AreFound plan found → AddsFindings plan found found (IsLateBy plan get owner key node at)
   not_late found at never are = adds_none plan found (IsLateBy plan get owner key node at) are (λ f t. never t.source t.late)
 
   pub late_more : (old mid new : List Told) (from at next : ℕ) → from ≤ at → next ≡ suc at → ((k : ℕ) → from ≤ k → k < at → IsDelivering plan owner key node k → ⊥) →
-      Adds plan old mid (AreLateBelow plan get owner key node from) → Adds plan mid new (IsLateBy plan get owner key node at) → Adds plan old new (AreLateBelow plan get owner key node next)
+      AddsFindings plan old mid (AreLateBelow plan get owner key node from) → AddsFindings plan mid new (IsLateBy plan get owner key node at) → AddsFindings plan old new (AreLateBelow plan get owner key node next)
   late_more old mid new from at next le one others first second =
       adds_both plan old mid new (AreLateBelow plan get owner key node from) (IsLateBy plan get owner key node at) (AreLateBelow plan get owner key node next)
       (λ f t. let lt = t.1 in (t.0, omega (arith, lt, le, one), t.2))
@@ -157,7 +157,7 @@ module _ (plan : Plan) (get : Event) (owner key node : ℕ) where
   ]
 
   pub late_done : (old new : List Told) (from count : ℕ) → count ≡ event_count plan owner → ((k : ℕ) → from ≤ k → (f : Finding) → IsLateBy plan get owner key node k f → ⊥) →
-      Adds plan old new (AreLateBelow plan get owner key node from) → Adds plan old new (AreLateBelow plan get owner key node count)
+      AddsFindings plan old new (AreLateBelow plan get owner key node from) → AddsFindings plan old new (AreLateBelow plan get owner key node count)
   late_done old new from count is never h =
       adds_same plan old new (AreLateBelow plan get owner key node from) (AreLateBelow plan get owner key node count)
       (λ f t. let lt = delivering_within plan owner key node t.0 t.2.delivers in (t.0, omega (arith, lt, is), t.2))
@@ -165,7 +165,7 @@ module _ (plan : Plan) (get : Event) (owner key node : ℕ) where
       h
 
   pub late_whole : (old new : List Told) (from count : ℕ) → count ≡ event_count plan owner → ((k : ℕ) → from ≤ k → IsDelivering plan owner key node k → ⊥) →
-      Adds plan old new (AreLateBelow plan get owner key node from) → Adds plan old new (AreLateBelow plan get owner key node count)
+      AddsFindings plan old new (AreLateBelow plan get owner key node from) → AddsFindings plan old new (AreLateBelow plan get owner key node count)
   late_whole old new from count is later h =
       adds_same plan old new (AreLateBelow plan get owner key node from) (AreLateBelow plan get owner key node count)
       (λ f t. let lt = delivering_within plan owner key node t.0 t.2.delivers in (t.0, omega (arith, lt, is), t.2))

@@ -14,9 +14,9 @@ use Rattle.wire_runs.proofs.Basics.{event_within, stores_commit}
 use Rattle.wire_runs.proofs.EventLists.{one_lower, lower_one_way}
 use Rattle.wire_plan.proofs.KeyFacts.{stores_once}
 use Rattle.wire_findings.specs.declared.finding.Finding.{Finding as Told}
-use Rattle.wire_findings.specs.Collected.{AreFound, IsAdded}
-use Rattle.wire_races.specs.Adding.{Adds}
-use Rattle.wire_races.specs.KeyRaces.{IsRaceOf, IsKeyRaceBy, IsOpen}
+use Rattle.wire_findings.specs.Collected.{AreFound, IsFindingAdded}
+use Rattle.wire_races.specs.Adding.{AddsFindings}
+use Rattle.wire_races.specs.KeyRaces.{IsRaceOf, IsKeyRaceBy, IsOpenRead}
 use Rattle.wire_fates.proofs.First.{first_of_call}
 use Rattle.wire_races.proofs.Growing.{adds_none, adds_one, adds_same}
 
@@ -42,7 +42,7 @@ source_is plan x y owner key (inl node) = commit_source plan x (stores_commit pl
 source_is plan x y owner key (inr d) = delivery_source plan owner key (node_of plan y.proc) d.delivery x d.delivers.brings_it d.of_it
 
 -- the get of a race
-pub race_open : (plan : Plan) (x y : Event) (owner key : ℕ) → IsKeyRace plan x y owner key → IsOpen plan y owner key
+pub race_open : (plan : Plan) (x y : Event) (owner key : ℕ) → IsKeyRace plan x y owner key → IsOpenRead plan y owner key
 race_open plan x y owner key (inl node) = record {
   is = node.1.near.is ∙ ap (λ p. Some (GetNow p key)) node.0;
   other = λ e. node.1.near.another (e ∙ sym node.0);
@@ -108,8 +108,8 @@ pub race_found : (plan : Plan) (x y : Event) (owner key : ℕ) (f : Finding) →
 race_found plan x y owner key f r (inl a) = subst (IsFound plan) (sym a.1) (a.0, inl r)
 race_found plan x y owner key f r (inr a) = subst (IsFound plan) (sym a.1) (a.0, inr r)
 
-pub adds_race : (plan : Plan) (old new : List Told) (x y : Event) (owner key : ℕ) (g : Finding) → IsKeyRace plan x y owner key → IsRaceOf x y owner key g → AreFound plan old → IsAdded plan old new g →
-    Adds plan old new (IsRaceOf x y owner key)
+pub adds_race : (plan : Plan) (old new : List Told) (x y : Event) (owner key : ℕ) (g : Finding) → IsKeyRace plan x y owner key → IsRaceOf x y owner key g → AreFound plan old → IsFindingAdded plan old new g →
+    AddsFindings plan old new (IsRaceOf x y owner key)
 adds_race plan old new x y owner key g r is are told =
     adds_one plan old new (IsRaceOf x y owner key) g are (race_found plan x y owner key g r is) told is (λ f h. one_race x y owner key g f is h)
 
@@ -145,7 +145,7 @@ owner_within plan p key once = elim (cases_lt p (process_count plan)) [
 ]
 
 -- on the owner's node
-module _ (plan : Plan) (get : Event) (owner key : ℕ) (o : IsOpen plan get owner key) (node : same_node plan owner get.proc ≡ true) where
+module _ (plan : Plan) (get : Event) (owner key : ℕ) (o : IsOpenRead plan get owner key) (node : same_node plan owner get.proc ≡ true) where
   record IsNodeRaceWith (f : Finding) : Type 0 where
     source : Event
     proc : source.proc ≡ owner
@@ -174,8 +174,8 @@ module _ (plan : Plan) (get : Event) (owner key : ℕ) (o : IsOpen plan get owne
     },
   )
 
-  pub adds_node : (old new : List Told) (commit : Event) → commit.proc ≡ owner → Stores plan commit key → IsUnordered plan commit get → Adds plan old new (IsRaceOf commit get owner key) →
-      Adds plan old new (IsKeyRaceBy plan get)
+  pub adds_node : (old new : List Told) (commit : Event) → commit.proc ≡ owner → Stores plan commit key → IsUnordered plan commit get → AddsFindings plan old new (IsRaceOf commit get owner key) →
+      AddsFindings plan old new (IsKeyRaceBy plan get)
   adds_node old new commit p s u h =
       adds_same plan old new (IsRaceOf commit get owner key) (IsKeyRaceBy plan get)
       (λ f i. record { source = commit; owner = owner; key = key; race = node_race commit p s u; is = i })
@@ -183,7 +183,7 @@ module _ (plan : Plan) (get : Event) (owner key : ℕ) (o : IsOpen plan get owne
       h
 
   pub ordered_commit : (found : List Told) (commit : Event) → commit.proc ≡ owner → Stores plan commit key → (IsUnordered plan commit get → ⊥) → AreFound plan found →
-      Adds plan found found (IsKeyRaceBy plan get)
+      AddsFindings plan found found (IsKeyRaceBy plan get)
   ordered_commit found commit p s never are =
       adds_none plan found (IsKeyRaceBy plan get) are (λ f t.
       let n = only_node f t in

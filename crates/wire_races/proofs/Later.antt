@@ -14,9 +14,9 @@ use Rattle.wire_runs.specs.Races.{IsRewrite}
 use Rattle.wire_runs.proofs.Basics.{event_within, process_within}
 use Rattle.wire_plan.proofs.KeyFacts.{never_put}
 use Rattle.wire_plan.proofs.KeyRows.{own_here}
-use Rattle.wire_findings.specs.Collected.{AreFound, IsAdded}
+use Rattle.wire_findings.specs.Collected.{AreFound, IsFindingAdded}
 use Rattle.wire_races.specs.FindingKinds.{IsOfRewrite}
-use Rattle.wire_races.specs.Adding.{Adds, OfKind}
+use Rattle.wire_races.specs.Adding.{AddsFindings, OfKind}
 use Rattle.wire_races.specs.Rewriting.{IsRewriteBy}
 use Rattle.wire_races.proofs.Growing.{adds_one, adds_none}
 use Rattle.wire_findings.proofs.Calls.{low_starts, high_starts, starts_back}
@@ -61,13 +61,13 @@ pub rewrite_by : (plan : Plan) (f : Finding) → OfKind plan IsOfRewrite f → (
 rewrite_by plan f k = (k.0.1, (k.0.0, subst (IsFound plan) k.0.2 k.1, k.0.2))
 
 -- the finding is added
-pub adds_rewrite : (plan : Plan) (old new : List Told) (x y : Event) (g : Finding) → IsRewrite plan x y → g ≡ Rewrite x y → AreFound plan old → IsAdded plan old new g →
-    Adds plan old new (IsRewriteBy plan y)
+pub adds_rewrite : (plan : Plan) (old new : List Told) (x y : Event) (g : Finding) → IsRewrite plan x y → g ≡ Rewrite x y → AreFound plan old → IsFindingAdded plan old new g →
+    AddsFindings plan old new (IsRewriteBy plan y)
 adds_rewrite plan old new x y g r is are told =
     adds_one plan old new (IsRewriteBy plan y) g are (subst (IsFound plan) (sym is) r) told (x, r, is)
     (λ f t. t.2 ∙ ap (λ z. Rewrite z y) (one_first plan t.0 x y t.1 r) ∙ sym is)
 
-pub adds_no_rewrite : (plan : Plan) (found : List Told) (y : Event) → ((x : Event) → IsRewrite plan x y → ⊥) → AreFound plan found → Adds plan found found (IsRewriteBy plan y)
+pub adds_no_rewrite : (plan : Plan) (found : List Told) (y : Event) → ((x : Event) → IsRewrite plan x y → ⊥) → AreFound plan found → AddsFindings plan found found (IsRewriteBy plan y)
 adds_no_rewrite plan found y never are = adds_none plan found (IsRewriteBy plan y) are (λ f t. never t.0 t.1)
 
 -- how it is shown

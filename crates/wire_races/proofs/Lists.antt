@@ -6,7 +6,7 @@ use Rattle.std.proofs.lemmas.List.{length-map, length-take-le, map-append, take-
 use Rattle.wire_runs.specs.Plan.{Plan, Event, event_of}
 use Rattle.wire_types.specs.declared.place.Event.{Event as CodeEvent}
 use Rattle.wire_types.specs.declared.Proc.{Proc}
-use Rattle.wire_content.specs.Scripts.{numbers_of}
+use Rattle.wire_scripts.specs.Scripts.{numbers_of}
 use Rattle.wire_runs.specs.EventLists.{IsLower}
 use Rattle.wire_runs.proofs.Lists.{slice_get-append_kept, slice_get-append_right}
 use Rattle.wire_races.specs.NameRaces.{AreCallsOn, AreOf}

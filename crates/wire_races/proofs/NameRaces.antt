@@ -22,11 +22,11 @@ use Rattle.wire_runs.proofs.Members.{in_index, index_in, in_left, in_right, in_p
 use Rattle.wire_runs.proofs.Lists.{slice_get-append_kept}
 use Rattle.wire_runs.proofs.Findings.{turned}
 use Rattle.wire_plan.proofs.FirstBringing.{stands_at}
-use Rattle.wire_findings.specs.Collected.{Tells, AreFound, IsAdded}
+use Rattle.wire_findings.specs.Collected.{TellsFinding, AreFound, IsFindingAdded}
 use Rattle.wire_races.specs.FindingKinds.{IsOfName}
-use Rattle.wire_races.specs.Adding.{Adds}
-use Rattle.wire_races.specs.NameRaces.{IsRaceOn, IsPlainRaceOn, IsRaceFrom, IsRaceWith, AllRace, race_between, AreOf, AreRising}
-use Rattle.wire_races.specs.NameRaces.{AreRivals, AreHigher, HasRivals, IsBelow, AreUnordered}
+use Rattle.wire_races.specs.Adding.{AddsFindings}
+use Rattle.wire_races.specs.NameRaces.{IsRaceOn, IsPlainRaceOn, IsRaceFrom, IsNameRaceWith, AllRace, race_between, AreOf, AreRising}
+use Rattle.wire_races.specs.NameRaces.{AreRivals, AreHigher, HasRivals, IsBelow, AreThoseUnordered}
 use Rattle.wire_fates.specs.Cuts.{IsCut}
 use Rattle.wire_races.specs.SweepRaces.{IsSweepRace}
 use Rattle.wire_races.specs.declared.call_races.Border.{Border}
@@ -149,7 +149,7 @@ module _ (plan : Plan) (x : Event) (calls : List Event) (from to : ℕ) (live : 
   below_last : (j : ℕ) (z : Event) → slice_get calls j ≡ Some z → IsUnordered plan x z → j < to
   below_last j z at u = elim (cases_lt j to) [ inl lt ↦ lt | inr le ↦ absurd (last.above j z le at (u.live_y, u.not_before)) ]
 
-  pub none_between : to ≤ from → AreUnordered plan x calls []
+  pub none_between : to ≤ from → AreThoseUnordered plan x calls []
   none_between le z = (
     (λ i. absurd i),
     (λ h.
@@ -159,7 +159,7 @@ module _ (plan : Plan) (x : Event) (calls : List Event) (from to : ℕ) (live : 
         absurd (omega (arith, le, ge, lt))),
   )
 
-  pub those_between : (front those rest : List Event) → calls ≡ (front ++ those) ++ rest → length front ≡ from → length those + from ≡ to → AreUnordered plan x calls those
+  pub those_between : (front those rest : List Event) → calls ≡ (front ++ those) ++ rest → length front ≡ from → length those + from ≡ to → AreThoseUnordered plan x calls those
   those_between front those rest parts low high z = (
     (λ i.
         let w = in_index those z i in
@@ -185,7 +185,7 @@ module _ (plan : Plan) (x : Event) (calls : List Event) (from to : ℕ) (live : 
   )
 
 -- those of the rivals of x that no chain orders with it race with it, and no others
-module _ (plan : Plan) (name : ℕ) (x : Event) (calls those : List Event) (are : AreUnordered plan x calls those) where
+module _ (plan : Plan) (name : ℕ) (x : Event) (calls those : List Event) (are : AreThoseUnordered plan x calls those) where
   module _ (on_name : calls_name plan name x (kind plan x) ≡ true) (rivals : AreRivals plan name x calls) where
     one_of_them : (j : ℕ) (z : Event) → slice_get calls j ≡ Some z → IsUnordered plan x z → IsNameRace plan x z name ⊎ IsNameRace plan z x name
     one_of_them j z at u = elim (rivals.change j z at) [
@@ -217,10 +217,10 @@ module _ (plan : Plan) (name : ℕ) (x : Event) (calls those : List Event) (are 
         let w = in_index calls z h.0 in
         is_race w.0 z w.1 h.1
 
-  pub with_all : (f : Finding) → IsRaceWith plan name x those f → IsRaceWith plan name x calls f
+  pub with_all : (f : Finding) → IsNameRaceWith plan name x those f → IsNameRaceWith plan name x calls f
   with_all f r = record { y = r.y; there = ((are r.y).0 r.there).0; is = r.is; found = r.found }
 
-  pub with_those : (f : Finding) → IsRaceWith plan name x calls f → IsRaceWith plan name x those f
+  pub with_those : (f : Finding) → IsNameRaceWith plan name x calls f → IsNameRaceWith plan name x those f
   with_those f r = record { y = r.y; there = (are r.y).1 (r.there, unordered_between plan x r.y name (subst (IsFound plan) r.is r.found)); is = r.is; found = r.found }
 
 -- rivals in two parts
@@ -245,25 +245,25 @@ only_one x v (inr i) = absurd i
 
 -- what is found, and the races of x with these calls, is what was found before and the races of x with all rivals
 abbrev pub IsLeft : Plan → ℕ → Event → List Told → List Told → List Event → List Event → Type 0
-IsLeft plan name x old now all rest = (f : Finding) → (Tells plan now f ⊎ IsRaceWith plan name x rest f) ↔ (Tells plan old f ⊎ IsRaceWith plan name x all f)
+IsLeft plan name x old now all rest = (f : Finding) → (TellsFinding plan now f ⊎ IsNameRaceWith plan name x rest f) ↔ (TellsFinding plan old f ⊎ IsNameRaceWith plan name x all f)
 
-with_first : (plan : Plan) (name : ℕ) (x : Event) (xs ys : List Event) (f : Finding) → IsRaceWith plan name x xs f → IsRaceWith plan name x (xs ++ ys) f
+with_first : (plan : Plan) (name : ℕ) (x : Event) (xs ys : List Event) (f : Finding) → IsNameRaceWith plan name x xs f → IsNameRaceWith plan name x (xs ++ ys) f
 with_first plan name x xs ys f r = record { y = r.y; there = in_left xs ys r.y r.there; is = r.is; found = r.found }
 
-with_other : (plan : Plan) (name : ℕ) (x : Event) (xs ys : List Event) (f : Finding) → IsRaceWith plan name x ys f → IsRaceWith plan name x (xs ++ ys) f
+with_other : (plan : Plan) (name : ℕ) (x : Event) (xs ys : List Event) (f : Finding) → IsNameRaceWith plan name x ys f → IsNameRaceWith plan name x (xs ++ ys) f
 with_other plan name x xs ys f r = record { y = r.y; there = in_right xs ys r.y r.there; is = r.is; found = r.found }
 
-with_either : (plan : Plan) (name : ℕ) (x : Event) (xs ys : List Event) (f : Finding) → IsRaceWith plan name x (xs ++ ys) f → IsRaceWith plan name x xs f ⊎ IsRaceWith plan name x ys f
+with_either : (plan : Plan) (name : ℕ) (x : Event) (xs ys : List Event) (f : Finding) → IsNameRaceWith plan name x (xs ++ ys) f → IsNameRaceWith plan name x xs f ⊎ IsNameRaceWith plan name x ys f
 with_either plan name x xs ys f r = elim (in_parts xs ys r.y r.there) [
   | inl i ↦ inl (record { y = r.y; there = i; is = r.is; found = r.found })
   | inr i ↦ inr (record { y = r.y; there = i; is = r.is; found = r.found })
 ]
 
 -- the race with one call more
-pub one_more_race : (plan : Plan) (name : ℕ) (x : Event) (done : List Event) (y : Event) (old now new : List Told) → Adds plan old now (IsRaceWith plan name x done) →
-    IsFound plan (race_between x y name) → IsAdded plan now new (race_between x y name) → Adds plan old new (IsRaceWith plan name x (done ++ y ∷ []))
+pub one_more_race : (plan : Plan) (name : ℕ) (x : Event) (done : List Event) (y : Event) (old now new : List Told) → AddsFindings plan old now (IsNameRaceWith plan name x done) →
+    IsFound plan (race_between x y name) → IsFindingAdded plan now new (race_between x y name) → AddsFindings plan old new (IsNameRaceWith plan name x (done ++ y ∷ []))
 one_more_race plan name x done y old now new a race told =
-    adds_both plan old now new (IsRaceWith plan name x done) (λ f. f ≡ race_between x y name) (IsRaceWith plan name x (done ++ y ∷ []))
+    adds_both plan old now new (IsNameRaceWith plan name x done) (λ f. f ≡ race_between x y name) (IsNameRaceWith plan name x (done ++ y ∷ []))
     (with_first plan name x done (y ∷ []))
     (λ f e. record { y = y; there = in_right done (y ∷ []) y (inl refl); is = e; found = subst (IsFound plan) (sym e) race })
     (λ f r. elim (in_parts done (y ∷ []) r.y r.there) [
@@ -272,7 +272,7 @@ one_more_race plan name x done y old now new a race told =
     ])
     a (adds_one plan now new (λ f. f ≡ race_between x y name) (race_between x y name) a.found race told refl (λ f e. e))
 
-pub less_left : (plan : Plan) (name : ℕ) (x : Event) (old now new : List Told) (all xs ys : List Event) → IsLeft plan name x old now all (xs ++ ys) → Adds plan now new (IsRaceWith plan name x xs) →
+pub less_left : (plan : Plan) (name : ℕ) (x : Event) (old now new : List Told) (all xs ys : List Event) → IsLeft plan name x old now all (xs ++ ys) → AddsFindings plan now new (IsNameRaceWith plan name x xs) →
     IsLeft plan name x old new all ys
 less_left plan name x old now new all xs ys left a f = (
   (λ s. elim s [
@@ -286,7 +286,7 @@ less_left plan name x old now new all xs ys left a f = (
 )
 
 -- nothing is left
-pub none_left : (plan : Plan) (name : ℕ) (x : Event) (old now : List Told) (all : List Event) → AreFound plan now → IsLeft plan name x old now all [] → Adds plan old now (IsRaceWith plan name x all)
+pub none_left : (plan : Plan) (name : ℕ) (x : Event) (old now : List Told) (all : List Event) → AreFound plan now → IsLeft plan name x old now all [] → AddsFindings plan old now (IsNameRaceWith plan name x all)
 none_left plan name x old now all found left = record {
   found = found;
   kept = λ f h. elim ((left f).1 (inl h)) [ inl i ↦ i | inr r ↦ absurd r.there ];
@@ -295,13 +295,13 @@ none_left plan name x old now all found left = record {
 }
 
 -- the races of x with all its rivals are those with any higher call on the name alone
-pub from_with : (plan : Plan) (name : ℕ) (x : Event) (calls : List Event) → AreHigher plan name x calls → (f : Finding) → IsRaceWith plan name x calls f → IsRaceFrom plan name x f
+pub from_with : (plan : Plan) (name : ℕ) (x : Event) (calls : List Event) → AreHigher plan name x calls → (f : Finding) → IsNameRaceWith plan name x calls f → IsRaceFrom plan name x f
 from_with plan name x calls higher f r =
     let w = in_index calls r.y r.there in
     let h = higher w.0 r.y w.1 in
     record { y = r.y; is = r.is ∙ between_lower x r.y name h.0; found = r.found; plain = h.1 }
 
-pub with_from : (plan : Plan) (name : ℕ) (x : Event) (calls : List Event) → HasRivals plan name x calls → (f : Finding) → IsRaceFrom plan name x f → IsRaceWith plan name x calls f
+pub with_from : (plan : Plan) (name : ℕ) (x : Event) (calls : List Event) → HasRivals plan name x calls → (f : Finding) → IsRaceFrom plan name x f → IsNameRaceWith plan name x calls f
 with_from plan name x calls all f r =
     let found = subst (IsFound plan) r.is r.found in
     record { y = r.y; there = all r.y r.plain found; is = r.is ∙ sym (between_lower x r.y name (race_lower plan x r.y name found)); found = r.found }
@@ -360,7 +360,7 @@ IsRaceAmong plan name done f = (v : Event) × IsIn v done × IsRaceFrom plan nam
 
 -- the races of one call more
 pub with_more : (plan : Plan) (name : ℕ) (done : List Event) (x : Event) (old now new : List Told)
-    → Adds plan old now (IsRaceAmong plan name done) → Adds plan now new (IsRaceFrom plan name x) → Adds plan old new (IsRaceAmong plan name (done ++ x ∷ []))
+    → AddsFindings plan old now (IsRaceAmong plan name done) → AddsFindings plan now new (IsRaceFrom plan name x) → AddsFindings plan old new (IsRaceAmong plan name (done ++ x ∷ []))
 with_more plan name done x old now new =
     adds_both plan old now new (IsRaceAmong plan name done) (IsRaceFrom plan name x) (IsRaceAmong plan name (done ++ x ∷ []))
     (λ f r. (r.0, in_left done (x ∷ []) r.0 r.1, r.2))

@@ -8,12 +8,12 @@ use Rattle.wire_runs.specs.Plan as plan
 use Rattle.wire_types.specs.declared.Call.{Call as Written}
 use Rattle.wire_types.specs.declared.Call.TheVariants.{Put, Commit, Fence, Get, GetNow, Publish, Lookup, LookupWait, Unpublish, UnpublishAll}
 use Rattle.wire_types.specs.declared.Reply.{Reply}
-use Rattle.wire_content.specs.Scripts.{Scripts, IsSound, name_in, calls_in, set_at}
-use Rattle.wire_content.specs.Apart.{AreApart}
-use Rattle.wire_content.specs.Planned.{plan_of, planned_call}
+use Rattle.wire_scripts.specs.Scripts.{Scripts, IsSound, name_in, calls_in, set_at}
+use Rattle.wire_scripts.specs.Apart.{AreDistinct}
+use Rattle.wire_scripts.specs.Planned.{plan_of, planned_call}
 use Rattle.wire_runs.specs.Names.{calls_name}
 use Rattle.wire_runs.proofs.Lists.{slice_get-append_left, slice_get-append_right}
-use Rattle.wire_content.proofs.PlannedCalls.{events_are}
+use Rattle.wire_scripts.proofs.PlannedCalls.{events_are}
 use Rattle.wire_plan.specs.Index.{is_plain_call}
 use Rattle.wire_plan.proofs.Planning.{events_first}
 use Rattle.wire_plan.proofs.Published.{published_at}
@@ -83,7 +83,7 @@ named_within s name x sound h = elim (plain_or_not (plan_of s) name x (kind (pla
 ]
 
 -- the names of scripts are those of the findings of their plan
-pub names_of : (s : Scripts) → IsSound s → AreApart s.names → AreNamesOf (plan_of s) s.names
+pub names_of : (s : Scripts) → IsSound s → AreDistinct s.names → AreNamesOf (plan_of s) s.names
 names_of s sound apart = record {
   apart = apart;
   within = λ x y name r. ⊎_elim (λ h. named_within s name y sound h.y_calls) (λ h. named_within s name x sound h.y_calls) r.1;

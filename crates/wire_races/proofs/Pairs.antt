@@ -14,14 +14,14 @@ use Rattle.wire_runs.specs.Findings.{Finding, Rewrite, KeyRace, NameRace, IsFoun
 use Rattle.wire_runs.proofs.Diamond.{writes_calls}
 use Rattle.wire_runs.proofs.EventLists.{one_lower}
 use Rattle.wire_runs.proofs.Findings.{turned}
-use Rattle.wire_content.specs.Scripts.{Scripts}
-use Rattle.wire_content.specs.Planned.{plan_of}
+use Rattle.wire_scripts.specs.Scripts.{Scripts}
+use Rattle.wire_scripts.specs.Planned.{plan_of}
 use Rattle.wire_findings.specs.declared.finding.Finding.{Finding as Told}
 use Rattle.wire_findings.specs.declared.finding.Finding.TheVariants as told
 use Rattle.wire_findings.specs.Findings.{shown, AreFindings}
-use Rattle.wire_findings.specs.Collected.{Tells, AreFound}
+use Rattle.wire_findings.specs.Collected.{TellsFinding, AreFound}
 use Rattle.wire_races.specs.FindingKinds.{IsOfKey}
-use Rattle.wire_races.specs.Adding.{Adds}
+use Rattle.wire_races.specs.Adding.{AddsFindings}
 use Rattle.wire_races.specs.KeyRaces.{IsRaceOf, IsKeyRaceBy}
 use Rattle.wire_races.specs.Racing.{RaceOnKey, RaceOnName, AreRacing}
 use Rattle.wire_races.specs.Reported.{race_calls, IsReported}
@@ -32,12 +32,12 @@ use Rattle.wire_races.proofs.Deliveries.{race_told}
 use Rattle.wire_findings.proofs.OneList.{same_call, rising}
 
 -- what a list tells stands somewhere in it
-told_there : (plan : Plan) (found : List Told) (f : Finding) → Tells plan found f → (k : ℕ) × (t : Told) × (slice_get found k ≡ Some t) × (f ≡ shown plan t)
+told_there : (plan : Plan) (found : List Told) (f : Finding) → TellsFinding plan found f → (k : ℕ) × (t : Told) × (slice_get found k ≡ Some t) × (f ≡ shown plan t)
 told_there plan [] f h = absurd h
 told_there plan (t ∷ found) f (inl e) = (0, t, refl, e)
 told_there plan (t ∷ found) f (inr h) = let w = told_there plan found f h in (suc w.0, w.1, w.2, w.3)
 
-there_told : (plan : Plan) (found : List Told) (k : ℕ) (t : Told) → slice_get found k ≡ Some t → Tells plan found (shown plan t)
+there_told : (plan : Plan) (found : List Told) (k : ℕ) (t : Told) → slice_get found k ≡ Some t → TellsFinding plan found (shown plan t)
 there_told plan [] k t e = absurd (let lt = slice_get_within {A = Told} [] k t e in omega (arith, lt))
 there_told plan (u ∷ found) zero t e = inl (ap (shown plan) (sym (same_Some u t e)))
 there_told plan (u ∷ found) (suc k) t e = inr (there_told plan found k t e)
@@ -75,7 +75,7 @@ reported_races plan found x y are r =
     let is = are (shown plan r.finding) (there_told plan found r.at r.finding r.there) in
     ⊎_elim (λ e. told_races plan r.finding x y is e) (λ e. both_turned plan y x (told_races plan r.finding y x is e)) r.races
 
-reported_on_key : (plan : Plan) (found : List Told) (x y : CallAt) → AreFound plan found → ((f : Finding) → Tells plan found f → IsOfKey f) → IsReported found x y →
+reported_on_key : (plan : Plan) (found : List Told) (x y : CallAt) → AreFound plan found → ((f : Finding) → TellsFinding plan found f → IsOfKey f) → IsReported found x y →
     RaceOnKey plan (first_event plan x) (first_event plan y)
 reported_on_key plan found x y are keys r =
     let tells = there_told plan found r.at r.finding r.there in
@@ -112,7 +112,7 @@ record IsRaceOfThem (plan : Plan) (x y : Event) (f : Finding) : Type 0 where
   ends : ((low_of f ≡ x) × (high_of f ≡ y)) ⊎ ((low_of f ≡ y) × (high_of f ≡ x))
 
 -- where a list has the race of the first events of two calls, it has a race of the calls
-has_reported : (plan : Plan) (found : List Told) (x y : CallAt) (f : Finding) → IsRaceOfThem plan (first_event plan x) (first_event plan y) f → Tells plan found f → IsReported found x y
+has_reported : (plan : Plan) (found : List Told) (x y : CallAt) (f : Finding) → IsRaceOfThem plan (first_event plan x) (first_event plan y) f → TellsFinding plan found f → IsReported found x y
 has_reported plan found x y f r tells =
     let w = told_there plan found f tells in
     let t = w.1 in
@@ -166,13 +166,13 @@ module _ (plan : Plan) (x y : Event) where
   none_in_order never r = never (on_name_unordered r)
 
 -- where nothing but the races of two calls as the get are told, a race of the calls is told exactly where they race on a key
-pub on_key : (plan : Plan) (x y : CallAt) (old now new : List Told) → old ≡ [] → Adds plan old now (IsKeyRaceBy plan (first_event plan x)) →
-    Adds plan now new (IsKeyRaceBy plan (first_event plan y)) → IsReported new x y ↔ RaceOnKey plan (first_event plan x) (first_event plan y)
+pub on_key : (plan : Plan) (x y : CallAt) (old now new : List Told) → old ≡ [] → AddsFindings plan old now (IsKeyRaceBy plan (first_event plan x)) →
+    AddsFindings plan now new (IsKeyRaceBy plan (first_event plan y)) → IsReported new x y ↔ RaceOnKey plan (first_event plan x) (first_event plan y)
 on_key plan x y old now new empty first second = (
   reported_on_key plan new x y second.found
       (λ f h. elim (second.only f h) [
         | inr b ↦ (race_told plan (first_event plan y) f b).0
-        | inl was ↦ elim (first.only f was) [ inr a ↦ (race_told plan (first_event plan x) f a).0 | inl none ↦ absurd (subst (λ l. Tells plan l f) empty none) ]
+        | inl was ↦ elim (first.only f was) [ inr a ↦ (race_told plan (first_event plan x) f a).0 | inl none ↦ absurd (subst (λ l. TellsFinding plan l f) empty none) ]
       ]),
   (λ r.
       let w = key_race plan (first_event plan x) (first_event plan y) r in

@@ -23,8 +23,8 @@ use Rattle.wire_runs.proofs.Members.{in_index, index_in, in_left, in_right, in_p
 use Rattle.wire_plan.specs.Index.{AreSweeps}
 use Rattle.wire_findings.specs.declared.finding.Finding.{Finding as Told}
 use Rattle.wire_races.specs.declared.sweep_races.Share.{Share}
-use Rattle.wire_races.specs.Adding.{Adds}
-use Rattle.wire_races.specs.NameRaces.{IsRaceWith, AllRace, AreUnordered, IsStretch, IsOneOf, AreSweepers}
+use Rattle.wire_races.specs.Adding.{AddsFindings}
+use Rattle.wire_races.specs.NameRaces.{IsNameRaceWith, AllRace, AreThoseUnordered, IsStretch, IsOneOf, AreSweepers}
 use Rattle.wire_races.specs.SweepRaces.{IsSweepRaceOf, IsSweepRaceBelow, IsSweepRace, ArePublished, AddsShares, AreShares, AreShared, AreSharesOf}
 use Rattle.wire_races.specs.SweepRaces.{IsRaceOnOne, IsSweepRaceWith, IsSharedRace}
 use Rattle.wire_races.proofs.Growing.{adds_both, adds_same}
@@ -185,22 +185,22 @@ module _ (plan : Plan) (x : Event) where
   none_on_none calls f r = none_contained r.0 r.1
 
   -- those on one name more
-  pub one_name_more : (calls : List Event) (done : List Share) (s : Share) (old now new : List Told) → Adds plan old now (IsRaceOnOne plan x calls done) →
-      Adds plan now new (IsRaceWith plan s.name x calls) → Adds plan old new (IsRaceOnOne plan x calls (done ++ s ∷ []))
+  pub one_name_more : (calls : List Event) (done : List Share) (s : Share) (old now new : List Told) → AddsFindings plan old now (IsRaceOnOne plan x calls done) →
+      AddsFindings plan now new (IsNameRaceWith plan s.name x calls) → AddsFindings plan old new (IsRaceOnOne plan x calls (done ++ s ∷ []))
   one_name_more calls done s old now new =
-      adds_both plan old now new (IsRaceOnOne plan x calls done) (IsRaceWith plan s.name x calls) (IsRaceOnOne plan x calls (done ++ s ∷ []))
+      adds_both plan old now new (IsRaceOnOne plan x calls done) (IsNameRaceWith plan s.name x calls) (IsRaceOnOne plan x calls (done ++ s ∷ []))
       (λ f r. (r.0, Contains-append_left done (s ∷ []) r.0 r.1, r.2))
       (λ f r. (s, Contains-push done s, r))
       (λ f r. elim (Contains-push_cases done s r.0 r.1) [
         | inl was ↦ inl (r.0, was, r.2)
-        | inr e ↦ inr (subst (λ (t : Share). IsRaceWith plan t.name x calls f) (sym e) r.2)
+        | inr e ↦ inr (subst (λ (t : Share). IsNameRaceWith plan t.name x calls f) (sym e) r.2)
       ])
 
   pub sweep_live : (shares : List Share) (f : Finding) → IsSweepRaceWith plan x shares f → Live plan x
   sweep_live shares f r = (race_unordered plan x r.y r.s.name (subst (IsFound plan) r.is r.found)).live_x
 
   module _ (q : ℕ) (run those : List Event) (shares : List Share) (sweeps : AreSweeps plan q run) (shared : AreShared plan x.proc shares) (of_it : AreSharesOf q shares)
-      (are : AreUnordered plan x run those) where
+      (are : AreThoseUnordered plan x run those) where
     -- each of those races with x on each of the names
     pub all_race_on : kind plan x ≡ Some UnpublishAll → (s : Share) → Contains shares s → AllRace plan s.name x those
     all_race_on is s h =
@@ -252,8 +252,8 @@ one_of_it q done s same are t h = elim (Contains-push_cases done s t h) [ inl wa
 
 module _ (plan : Plan) where
   -- those of one sweep more
-  pub one_sweep_more : (shares : List Share) (done : List Event) (x : Event) (old now new : List Told) → Adds plan old now (IsRaceOfOne plan done shares) →
-      Adds plan now new (IsSweepRaceWith plan x shares) → Adds plan old new (IsRaceOfOne plan (done ++ x ∷ []) shares)
+  pub one_sweep_more : (shares : List Share) (done : List Event) (x : Event) (old now new : List Told) → AddsFindings plan old now (IsRaceOfOne plan done shares) →
+      AddsFindings plan now new (IsSweepRaceWith plan x shares) → AddsFindings plan old new (IsRaceOfOne plan (done ++ x ∷ []) shares)
   one_sweep_more shares done x old now new =
       adds_both plan old now new (IsRaceOfOne plan done shares) (IsSweepRaceWith plan x shares) (IsRaceOfOne plan (done ++ x ∷ []) shares)
       (λ f r. (r.0, in_left done (x ∷ []) r.0 r.1, r.2))
@@ -264,8 +264,8 @@ module _ (plan : Plan) where
       ])
 
   -- those of all sweeps of a process
-  pub all_sweeps : (p : ℕ) (sweeps : List Event) (shares : List Share) → AreSweeps plan p sweeps → (old new : List Told) → Adds plan old new (IsRaceOfOne plan sweeps shares) →
-      Adds plan old new (IsSharedRace plan p shares)
+  pub all_sweeps : (p : ℕ) (sweeps : List Event) (shares : List Share) → AreSweeps plan p sweeps → (old new : List Told) → AddsFindings plan old new (IsRaceOfOne plan sweeps shares) →
+      AddsFindings plan old new (IsSharedRace plan p shares)
   all_sweeps p sweeps shares are old new =
       adds_same plan old new (IsRaceOfOne plan sweeps shares) (IsSharedRace plan p shares)
       (λ f r. let w = in_index sweeps r.0 r.1 in let o = are.only w.0 r.0 w.1 in (r.0, o.1, o.0, r.2))
@@ -278,8 +278,8 @@ module _ (plan : Plan) where
   none_of_none p f r = none_contained r.3.s r.3.there
 
   -- those with the processes of more shares
-  pub stretch_more : (p : ℕ) (done stretch : List Share) (old now new : List Told) → Adds plan old now (IsSharedRace plan p done) → Adds plan now new (IsSharedRace plan p stretch) →
-      Adds plan old new (IsSharedRace plan p (done ++ stretch))
+  pub stretch_more : (p : ℕ) (done stretch : List Share) (old now new : List Told) → AddsFindings plan old now (IsSharedRace plan p done) → AddsFindings plan now new (IsSharedRace plan p stretch) →
+      AddsFindings plan old new (IsSharedRace plan p (done ++ stretch))
   stretch_more p done stretch old now new =
       adds_both plan old now new (IsSharedRace plan p done) (IsSharedRace plan p stretch) (IsSharedRace plan p (done ++ stretch))
       (λ f r. (r.0, r.1, r.2, widened r.0 done (done ++ stretch) (λ s h. Contains-append_left done stretch s h) f r.3))
@@ -318,12 +318,12 @@ module _ (plan : Plan) where
           record { y = r.y; s = w.0; there = w.1; of_it = sym w.2; sweeps = r.sweeps_y; is = r.is ∙ ap (NameRace r.x r.y) (sym w.3); found = r.found },
         )
 
-    pub all_shared : (old new : List Told) → Adds plan old new (IsSharedRace plan p shares) → Adds plan old new (IsSweepRaceOf plan p)
+    pub all_shared : (old new : List Told) → AddsFindings plan old new (IsSharedRace plan p shares) → AddsFindings plan old new (IsSweepRaceOf plan p)
     all_shared old new = adds_same plan old new (IsSharedRace plan p shares) (IsSweepRaceOf plan p) as_sweeps as_shared
 
   -- those of one process more
-  pub one_process_more : (n m : ℕ) → m ≡ suc n → (old now new : List Told) → Adds plan old now (IsSweepRaceBelow plan n) → Adds plan now new (IsSweepRaceOf plan n) →
-      Adds plan old new (IsSweepRaceBelow plan m)
+  pub one_process_more : (n m : ℕ) → m ≡ suc n → (old now new : List Told) → AddsFindings plan old now (IsSweepRaceBelow plan n) → AddsFindings plan now new (IsSweepRaceOf plan n) →
+      AddsFindings plan old new (IsSweepRaceBelow plan m)
   one_process_more n m next old now new =
       adds_both plan old now new (IsSweepRaceBelow plan n) (IsSweepRaceOf plan n) (IsSweepRaceBelow plan m)
       (λ f r. let lt = r.1 in (r.0, omega (arith, lt, next), r.2))
@@ -337,7 +337,7 @@ module _ (plan : Plan) where
   none_below f r = let lt = r.1 in omega (arith, lt)
 
   -- those of all processes
-  pub every_process : (n : ℕ) → n ≡ process_count plan → (old new : List Told) → Adds plan old new (IsSweepRaceBelow plan n) → Adds plan old new (IsSweepRace plan)
+  pub every_process : (n : ℕ) → n ≡ process_count plan → (old new : List Told) → AddsFindings plan old new (IsSweepRaceBelow plan n) → AddsFindings plan old new (IsSweepRace plan)
   every_process n all old new =
       adds_same plan old new (IsSweepRaceBelow plan n) (IsSweepRace plan)
       (λ f r. (r.0, r.2))

@@ -2,7 +2,7 @@
 use Rattle.std.proofs.Common.{◌≡◌, ◌≢◌, ◌∙◌, inl, inr, ⊎_elim, ap, refl, sym, subst, ℕ, ◌+◌, ◌<◌, ◌≤◌, List, [], ◌∷◌, ◌++◌, length, true, false, Some, arith}
 use Rattle.std.specs.Prelude.{slice_get, option_map}
 use Rattle.wire_types.specs.declared.Proc.{Proc}
-use Rattle.wire_content.specs.Scripts.{numbers_of}
+use Rattle.wire_scripts.specs.Scripts.{numbers_of}
 use Rattle.std.proofs.lemmas.Bool.{cases_Bool, cases_eq}
 use Rattle.std.proofs.lemmas.Option.{same_Some, slice_get_within, slice_get-map}
 use Rattle.wire_runs.specs.Plan.{Plan, Event, UnpublishAll, kind, event_count}
@@ -15,8 +15,8 @@ use Rattle.wire_runs.proofs.Lists.{not_in_empty, slice_get_push_cases, slice_get
 use Rattle.wire_runs.proofs.Diamond.{writes_calls}
 use Rattle.wire_runs.proofs.Members.{in_index, index_in, in_left, in_right, in_parts}
 use Rattle.wire_findings.specs.declared.finding.Finding.{Finding as Told}
-use Rattle.wire_races.specs.Adding.{Adds}
-use Rattle.wire_races.specs.NameRaces.{IsRaceOn, IsPlainRaceOn, IsRaceWith, IsStretch, AreRivals, AreFacing, IsOneOf, AreSweepers}
+use Rattle.wire_races.specs.Adding.{AddsFindings}
+use Rattle.wire_races.specs.NameRaces.{IsRaceOn, IsPlainRaceOn, IsNameRaceWith, IsStretch, AreRivals, AreFacing, IsOneOf, AreSweepers}
 use Rattle.wire_races.specs.NameRaces.{IsSweptRace, IsSweptAmong, IsSweptRaceOn}
 use Rattle.wire_races.proofs.Growing.{adds_both}
 use Rattle.wire_races.proofs.NameRaces.{between, between_lower, between_higher, between_others, plain_or_not, caller_in, low_calls, high_calls}
@@ -50,10 +50,10 @@ module _ (plan : Plan) (name : ℕ) where
     facing_stretch = (p, λ k z e. (are.only k z e).0)
 
     -- the races of x with these too
-    pub swept_more : (done : List ℕ) (old now new : List Told) → Adds plan old now (IsSweptRace plan name x done) → Adds plan now new (IsRaceWith plan name x calls) →
-        Adds plan old new (IsSweptRace plan name x (done ++ p ∷ []))
+    pub swept_more : (done : List ℕ) (old now new : List Told) → AddsFindings plan old now (IsSweptRace plan name x done) → AddsFindings plan now new (IsNameRaceWith plan name x calls) →
+        AddsFindings plan old new (IsSweptRace plan name x (done ++ p ∷ []))
     swept_more done old now new =
-        adds_both plan old now new (IsSweptRace plan name x done) (IsRaceWith plan name x calls) (IsSweptRace plan name x (done ++ p ∷ []))
+        adds_both plan old now new (IsSweptRace plan name x done) (IsNameRaceWith plan name x calls) (IsSweptRace plan name x (done ++ p ∷ []))
         (λ f r. record { y = r.y; sweeps = r.sweeps; there = (r.there.0, slice_get_push_kept done p r.there.0 r.y.proc r.there.1); is = r.is; found = r.found })
         (λ f r.
         let w = in_index calls r.y r.there in
@@ -73,8 +73,8 @@ module _ (plan : Plan) (name : ℕ) where
   swept_live x ps f r = (unordered_between plan x r.y name (subst (IsFound plan) r.is r.found)).live_x
 
   -- the races of one call more
-  pub among_swept : (ps : List ℕ) (done : List Event) (x : Event) (old now new : List Told) → Adds plan old now (IsSweptAmong plan name done ps) → Adds plan now new (IsSweptRace plan name x ps) →
-      Adds plan old new (IsSweptAmong plan name (done ++ x ∷ []) ps)
+  pub among_swept : (ps : List ℕ) (done : List Event) (x : Event) (old now new : List Told) → AddsFindings plan old now (IsSweptAmong plan name done ps) → AddsFindings plan now new (IsSweptRace plan name x ps) →
+      AddsFindings plan old new (IsSweptAmong plan name (done ++ x ∷ []) ps)
   among_swept ps done x old now new =
       adds_both plan old now new (IsSweptAmong plan name done ps) (IsSweptRace plan name x ps) (IsSweptAmong plan name (done ++ x ∷ []) ps)
       (λ f r. (r.0, in_left done (x ∷ []) r.0 r.1, r.2))
@@ -126,7 +126,7 @@ module _ (plan : Plan) (name : ℕ) where
         ]
 
   -- all races on the name but those of two such calls
-  pub both_sorts : (old now new : List Told) → Adds plan old now (IsPlainRaceOn plan name) → Adds plan now new (IsSweptRaceOn plan name) → Adds plan old new (IsRaceOn plan name)
+  pub both_sorts : (old now new : List Told) → AddsFindings plan old now (IsPlainRaceOn plan name) → AddsFindings plan now new (IsSweptRaceOn plan name) → AddsFindings plan old new (IsRaceOn plan name)
   both_sorts old now new =
       adds_both plan old now new (IsPlainRaceOn plan name) (IsSweptRaceOn plan name) (IsRaceOn plan name)
       (λ f r. record { x = r.x; y = r.y; is = r.is; found = r.found; plain = inl r.plain_x })

@@ -6,13 +6,13 @@ use Rattle.std.specs.List.{AllZip, Contains, range_with_len}
 use Rattle.std.specs.declared.alloc.AllocError.{AllocError}
 use Rattle.std.proofs.lemmas.Option.{slice_get_within, slice_get_cases}
 use Rattle.wire_runs.specs.Plan.{Plan}
-use Rattle.wire_content.specs.Scripts.{Scripts, IsSound}
-use Rattle.wire_content.specs.Planned.{plan_of}
+use Rattle.wire_scripts.specs.Scripts.{Scripts, IsSound}
+use Rattle.wire_scripts.specs.Planned.{plan_of}
 use Rattle.wire_runs.specs.Findings.{Finding, IsFound}
 use Rattle.wire_findings.specs.declared.finding.Finding.{Finding as Told}
-use Rattle.wire_findings.specs.Collected.{Tells, AreFound}
+use Rattle.wire_findings.specs.Collected.{TellsFinding, AreFound}
 use Rattle.wire_races.specs.FindingKinds.{AllAdded, IsOfKey, IsOfName}
-use Rattle.wire_races.specs.Adding.{Adds, OfKind}
+use Rattle.wire_races.specs.Adding.{AddsFindings, OfKind}
 use Rattle.wire_races.specs.KeyRaces.{IsKeyRaceIn, AreKeyPieces}
 use Rattle.wire_races.specs.NameRaces.{IsRaceOn}
 use Rattle.wire_races.specs.SweepRaces.{IsSweepRace}
@@ -25,12 +25,12 @@ use Rattle.wire_races.proofs.Gathered.{gathered}
 use Rattle.wire_races.proofs.Deliveries.{race_below, race_told, race_by}
 
 -- what is added to nothing is a piece
-pub piece_of : (plan : Plan) (those : Finding → Type 0) (old new : List Told) → old ≡ [] → Adds plan old new those → IsPiece plan those new
+pub piece_of : (plan : Plan) (those : Finding → Type 0) (old new : List Told) → old ≡ [] → AddsFindings plan old new those → IsPiece plan those new
 piece_of plan those old new empty h = record {
   found = h.found;
   told = λ f. (
     (λ t. elim (h.only f t) [
-      | inl was ↦ absurd (subst (λ l. Tells plan l f) empty was)
+      | inl was ↦ absurd (subst (λ l. TellsFinding plan l f) empty was)
       | inr it ↦ it
     ]),
     (λ t. h.all f t),
@@ -38,19 +38,19 @@ piece_of plan those old new empty h = record {
 }
 
 -- one piece more
-pub some_more : (plan : Plan) (done : List (List Told)) (piece : List Told) (old now new : List Told) → Adds plan old now (IsInSome plan done) → Adds plan now new (Tells plan piece) →
-    Adds plan old new (IsInSome plan (done ++ piece ∷ []))
+pub some_more : (plan : Plan) (done : List (List Told)) (piece : List Told) (old now new : List Told) → AddsFindings plan old now (IsInSome plan done) → AddsFindings plan now new (TellsFinding plan piece) →
+    AddsFindings plan old new (IsInSome plan (done ++ piece ∷ []))
 some_more plan done piece old now new =
-    adds_both plan old now new (IsInSome plan done) (Tells plan piece) (IsInSome plan (done ++ piece ∷ []))
+    adds_both plan old now new (IsInSome plan done) (TellsFinding plan piece) (IsInSome plan (done ++ piece ∷ []))
     (λ f t. (t.0, t.1, slice_get_push_kept done piece t.0 t.1 t.2, t.3))
     (λ f t. (length done, piece, slice_get_push_last done piece, t))
     (λ f t. elim (slice_get_push_cases done piece t.0 t.1 t.2) [
       | inl there ↦ inl (t.0, t.1, there, t.3)
-      | inr last ↦ inr (subst (λ (p : List Told). Tells plan p f) (sym last.1) t.3)
+      | inr last ↦ inr (subst (λ (p : List Told). TellsFinding plan p f) (sym last.1) t.3)
     ])
 
 -- none at all
-pub none_more : (plan : Plan) (found : List Told) → AreFound plan found → Adds plan found found (IsInSome plan [])
+pub none_more : (plan : Plan) (found : List Told) → AreFound plan found → AddsFindings plan found found (IsInSome plan [])
 none_more plan found are = adds_none plan found (IsInSome plan []) are (λ f t. let lt = slice_get_within {A = List Told} [] t.0 t.1 t.2 in omega (arith, lt))
 
 pub all_found : (plan : Plan) (n : ℕ) (those : ℕ → Finding → Type 0) (pieces : List (List Told)) → ArePieces plan n those pieces → AreAllFound plan pieces
@@ -69,7 +69,7 @@ in_some plan n those pieces are k f lt t =
 pub pieces_added : (plan : Plan) (n : ℕ) (those : ℕ → Finding → Type 0) (kind : Finding → Type 0) (pieces : List (List Told)) (old new : List Told)
     → ((k : ℕ) (f : Finding) → those k f → OfKind plan kind f)
     → ((f : Finding) → OfKind plan kind f → (k : ℕ) × (k < n) × those k f)
-    → ArePieces plan n those pieces → Adds plan old new (IsInSome plan pieces) → AllAdded plan kind old new
+    → ArePieces plan n those pieces → AddsFindings plan old new (IsInSome plan pieces) → AllAdded plan kind old new
 pieces_added plan n those kind pieces old new there back are h =
     all_added plan kind old new
     (adds_same plan old new (IsInSome plan pieces) (OfKind plan kind)
@@ -78,7 +78,7 @@ pieces_added plan n those kind pieces old new there back are h =
     h)
 
 -- the pieces of the processes tell all races on keys
-pub key_pieces_added : (plan : Plan) (pieces : List (List Told)) (old new : List Told) → AreKeyPieces plan pieces → Adds plan old new (IsInSome plan pieces) → AllAdded plan IsOfKey old new
+pub key_pieces_added : (plan : Plan) (pieces : List (List Told)) (old new : List Told) → AreKeyPieces plan pieces → AddsFindings plan old new (IsInSome plan pieces) → AllAdded plan IsOfKey old new
 key_pieces_added plan pieces old new are =
     pieces_added plan are.count (IsKeyRaceIn plan are.size) IsOfKey pieces old new
     (λ k f t. race_told plan t.0 f t.1)
@@ -89,7 +89,7 @@ key_pieces_added plan pieces old new are =
 
 -- the pieces of the names, and then the races between sweeps, tell all races on names
 pub names_and_sweeps : (s : Scripts) → IsSound s → (pieces : List (List Told)) (old now new : List Told) → ArePieces (plan_of s) (length s.names) (IsRaceOn (plan_of s)) pieces →
-    Adds (plan_of s) old now (IsInSome (plan_of s) pieces) → Adds (plan_of s) now new (IsSweepRace (plan_of s)) → AllAdded (plan_of s) IsOfName old new
+    AddsFindings (plan_of s) old now (IsInSome (plan_of s) pieces) → AddsFindings (plan_of s) now new (IsSweepRace (plan_of s)) → AllAdded (plan_of s) IsOfName old new
 names_and_sweeps s sound pieces old now new are first more =
     let plan = plan_of s in
     all_added plan IsOfName old new

@@ -3,14 +3,14 @@ use Rattle.std.specs.Prelude.{◌≡◌, ◌⊎◌, ◌<◌, ◌≤◌, ℕ, Lis
 use Rattle.wire_runs.specs.Plan.{Plan, Event}
 use Rattle.wire_runs.specs.Findings.{Finding, IsFound}
 use Rattle.wire_findings.specs.declared.finding.Finding.{Finding as Told}
-use Rattle.wire_findings.specs.Collected.{Tells, AreFound}
+use Rattle.wire_findings.specs.Collected.{TellsFinding, AreFound}
 
 -- those are added, and nothing else
-pub record Adds (plan : Plan) (old new : List Told) (those : Finding → Type 0) : Type 0 where
+pub record AddsFindings (plan : Plan) (old new : List Told) (those : Finding → Type 0) : Type 0 where
   pub found : AreFound plan new
-  pub kept : (f : Finding) → Tells plan old f → Tells plan new f
-  pub all : (f : Finding) → those f → Tells plan new f
-  pub only : (f : Finding) → Tells plan new f → Tells plan old f ⊎ those f
+  pub kept : (f : Finding) → TellsFinding plan old f → TellsFinding plan new f
+  pub all : (f : Finding) → those f → TellsFinding plan new f
+  pub only : (f : Finding) → TellsFinding plan new f → TellsFinding plan old f ⊎ those f
 
 -- all findings of a kind
 abbrev pub OfKind : Plan → (Finding → Type 0) → Finding → Type 0

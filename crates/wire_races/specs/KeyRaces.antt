@@ -38,7 +38,7 @@ pub record AreKeyPieces (plan : Plan) (pieces : List (List Told)) : Type 0 where
   pub are : ArePieces plan count (IsKeyRaceIn plan size) pieces
 
 -- a live get, answered at once, of a key that another process puts once
-pub record IsOpen (plan : Plan) (get : Event) (owner key : ℕ) : Type 0 where
+pub record IsOpenRead (plan : Plan) (get : Event) (owner key : ℕ) : Type 0 where
   pub is : kind plan get ≡ Some (GetNow owner key)
   pub other : get.proc ≢ owner
   pub once : IsPutOnce plan owner key
@@ -57,6 +57,6 @@ AreLateBelow plan get owner key node n f = (at : ℕ) × (at < n) × IsLateBy pl
 
 -- a live get of another node's key that is put once, and that no delivery brings surely before it
 pub record IsUnsure (plan : Plan) (get : Event) (owner key : ℕ) : Type 0 where
-  pub opened : IsOpen plan get owner key
+  pub opened : IsOpenRead plan get owner key
   pub other : same_node plan owner get.proc ≡ false
   pub not_sure : ¬ (ComesSurely plan owner key (node_of plan get.proc) get)

@@ -40,7 +40,7 @@ abbrev pub race_between : Event → Event → ℕ → Finding
 race_between x y name = if nat_lt x.proc y.proc then NameRace x y name else NameRace y x name
 
 -- a race on the name of the call x with one of these calls
-pub record IsRaceWith (plan : Plan) (name : ℕ) (x : Event) (calls : List Event) (f : Finding) : Type 0 where
+pub record IsNameRaceWith (plan : Plan) (name : ℕ) (x : Event) (calls : List Event) (f : Finding) : Type 0 where
   pub y : Event
   pub there : IsIn y calls
   pub is : f ≡ race_between x y name
@@ -99,8 +99,8 @@ IsBelow plan x FirstNotBefore y = Before plan y x
 IsBelow plan x FirstAfter y = Live plan y × (Before plan x y → ⊥)
 
 -- those of the calls that no chain orders with x
-abbrev pub AreUnordered : Plan → Event → List Event → List Event → Type 0
-AreUnordered plan x calls those = (z : Event) → IsIn z those ↔ (IsIn z calls × IsUnordered plan x z)
+abbrev pub AreThoseUnordered : Plan → Event → List Event → List Event → Type 0
+AreThoseUnordered plan x calls those = (z : Event) → IsIn z those ↔ (IsIn z calls × IsUnordered plan x z)
 
 -- the calls of another process than that of x that take away all its names
 abbrev pub AreFacing : Plan → Event → ℕ → List Event → Type 0

@@ -5,7 +5,7 @@ use Rattle.std.specs.List.{Contains}
 use Rattle.wire_runs.specs.Plan.{Plan, Event, UnpublishAll, kind, event_count}
 use Rattle.wire_runs.specs.Names.{publishes}
 use Rattle.wire_runs.specs.Findings.{Finding, NameRace, IsFound}
-use Rattle.wire_races.specs.NameRaces.{IsRaceWith, IsOneOf}
+use Rattle.wire_races.specs.NameRaces.{IsNameRaceWith, IsOneOf}
 use Rattle.wire_races.specs.declared.sweep_races.Share.{Share}
 
 -- a race of two sweeps, the lower of process p
@@ -60,7 +60,7 @@ AreSharesOf q shares = (s : Share) → Contains shares s → s.proc.number ≡ q
 
 -- a race of x with one of these calls, on the name of one of the shares
 abbrev pub IsRaceOnOne : Plan → Event → List Event → List Share → Finding → Type 0
-IsRaceOnOne plan x calls shares f = (s : Share) × Contains shares s × IsRaceWith plan s.name x calls f
+IsRaceOnOne plan x calls shares f = (s : Share) × Contains shares s × IsNameRaceWith plan s.name x calls f
 
 -- a race of x with a sweep of the process of one of these shares, on its name
 pub record IsSweepRaceWith (plan : Plan) (x : Event) (shares : List Share) (f : Finding) : Type 0 where

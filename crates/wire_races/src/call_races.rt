@@ -2,19 +2,19 @@
 
 ghost use Rattle.std.specs.Prelude.{◌≡◌, ◌<◌, ◌≤◌, ◌↔◌, ℕ, true, IsTrue, OnOk, length, map};
 ghost use Rattle.wire_runs.specs.Plan.{event_of, kind};
-ghost use Rattle.wire_content.specs.Planned.{plan_of};
+ghost use Rattle.wire_scripts.specs.Planned.{plan_of};
 ghost use Rattle.wire_runs.specs.Names.{calls_name};
 ghost use Rattle.wire_runs.specs.Order.{Live};
 ghost use Rattle.wire_findings.specs.Findings.{shown};
 ghost use Rattle.wire_findings.specs.Collected.{AreFound};
-ghost use Rattle.wire_races.specs.Adding.{Adds};
-ghost use Rattle.wire_races.specs.NameRaces.{IsRaceWith, AllRace, race_between, AreOf, AreRising, IsStretch, IsBelow};
-ghost use Rattle.wire_races.specs.NameRaces.{AreUnordered};
+ghost use Rattle.wire_races.specs.Adding.{AddsFindings};
+ghost use Rattle.wire_races.specs.NameRaces.{IsNameRaceWith, AllRace, race_between, AreOf, AreRising, IsStretch, IsBelow};
+ghost use Rattle.wire_races.specs.NameRaces.{AreThoseUnordered};
 ghost use Rattle.wire_fates.specs.Cuts.{IsCut};
 
 use std::alloc::AllocError;
-use wire_findings::{Finding, Found};
-use wire_marks::MarkedPlan;
+use wire_findings::{Finding, FindingsBuilder};
+use wire_happens_before::MarkedPlan;
 use wire_plan::Plan;
 use wire_types::Event;
 
@@ -82,7 +82,7 @@ pub(crate) fn find_unordered<'a>(marked: &MarkedPlan<'_>, x: Event, run: &'a [Ev
     requires live { Live (plan_of marked.now) (event_of x) }
     requires rising { AreRising (map event_of run.now) }
     requires run { IsStretch (map event_of run.now) }
-    ensures { AreUnordered (plan_of marked.now) (event_of x) (map event_of run.now) (map event_of result.now) }
+    ensures { AreThoseUnordered (plan_of marked.now) (event_of x) (map event_of run.now) (map event_of result.now) }
 {
     let from = count_below(marked, x, Border::FirstNotBefore, run);
     let to = count_below(marked, x, Border::FirstAfter, run);
@@ -93,16 +93,16 @@ pub(crate) fn find_unordered<'a>(marked: &MarkedPlan<'_>, x: Event, run: &'a [Ev
     }
 }
 
-/// Adds the races of a call with these, each of which races with it.
+/// AddsFindings the races of a call with these, each of which races with it.
 pub(crate) fn add_races(
     plan: &Plan,
-    found: &mut Found,
+    found: &mut FindingsBuilder,
     x: NameCall,
     those: &[Event],
 ) -> Result<(), AllocError>
     requires found { AreFound (plan_of plan.now) found.old }
     requires races { AllRace (plan_of plan.now) x.name (event_of x.event) (map event_of those.now) }
-    ensures { OnOk result (Adds (plan_of plan.now) found.old found.new (IsRaceWith (plan_of plan.now) x.name (event_of x.event) (map event_of those.now))) }
+    ensures { OnOk result (AddsFindings (plan_of plan.now) found.old found.new (IsNameRaceWith (plan_of plan.now) x.name (event_of x.event) (map event_of those.now))) }
 {
     for y in those {
         found.add(race_of(plan, x, *y))?;

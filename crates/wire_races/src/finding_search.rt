@@ -1,8 +1,8 @@
 //! The list of the findings.
 
 ghost use Rattle.std.specs.Prelude.{IfOk, IsOkUnless};
-ghost use Rattle.wire_content.specs.Planned.{plan_of};
-ghost use Rattle.wire_marks.specs.Clocks.{AreMarks};
+ghost use Rattle.wire_scripts.specs.Planned.{plan_of};
+ghost use Rattle.wire_happens_before.specs.Clocks.{AreMarks};
 ghost use Rattle.wire_findings.specs.Findings.{AreFindings};
 ghost use Rattle.wire_races.specs.FindingKinds.{ArePlaceless};
 
@@ -11,8 +11,8 @@ use crate::name_races::add_name_races;
 use crate::rewrites::add_rewrites;
 use std::alloc::{AllocError, Global};
 use std::thread::Threads;
-use wire_findings::{Finding, FindingList, Found};
-use wire_marks::{MarkedPlan, Marks};
+use wire_findings::{Finding, FindingList, FindingsBuilder};
+use wire_happens_before::{HappensBefore, MarkedPlan};
 use wire_plan::Plan;
 use wire_types::Fault;
 
@@ -25,7 +25,7 @@ fn all_findings(
     ensures { IfOk result (AreFindings marked.now) }
 {
     let plan = marked.plan();
-    let mut found = Found::new(alloc);
+    let mut found = FindingsBuilder::new(alloc);
     add_rewrites(plan, &mut found)?;
     add_key_races(rt, alloc, marked, &mut found)?;
     add_name_races(rt, alloc, marked, &mut found)?;
@@ -44,7 +44,7 @@ pub fn placeless_findings(
 ) -> Result<FindingList, AllocError>
     ensures { IfOk result (ArePlaceless (plan_of marked.now)) }
 {
-    let mut found = Found::new(alloc);
+    let mut found = FindingsBuilder::new(alloc);
     add_rewrites(marked.plan(), &mut found)?;
     add_name_races(rt, alloc, marked, &mut found)?;
     Ok(found.as_met())
@@ -92,7 +92,7 @@ pub fn findings(
     rt: &(impl Threads + Sync),
     alloc: Global,
     plan: &Plan,
-    marks: &Marks,
+    marks: &HappensBefore,
 ) -> Result<Vec<Finding>, Fault>
     requires { AreMarks (plan_of plan.now) marks.now }
     ensures ok { IfOk result (λ found. AreFindings plan.now found.items) }

@@ -3,17 +3,17 @@
 
 ghost use Rattle.std.specs.Prelude.{◌≡◌, ◌↔◌, IsTrue, OnOk};
 ghost use Rattle.wire_runs.specs.Plan.{event_of, node_of};
-ghost use Rattle.wire_content.specs.Planned.{plan_of};
+ghost use Rattle.wire_scripts.specs.Planned.{plan_of};
 ghost use Rattle.wire_findings.specs.Collected.{AreFound};
-ghost use Rattle.wire_races.specs.Adding.{Adds};
+ghost use Rattle.wire_races.specs.Adding.{AddsFindings};
 ghost use Rattle.wire_races.specs.KeyRaces.{IsUnsure};
 ghost use Rattle.wire_races.specs.GetRaces.{MayRace, AreRacesByGets};
 
 use crate::key_races::add_race;
 use std::alloc::AllocError;
 use wire_fates::{KeyRead, process_end};
-use wire_findings::Found;
-use wire_marks::MarkedPlan;
+use wire_findings::FindingsBuilder;
+use wire_happens_before::MarkedPlan;
 use wire_types::Event;
 
 /// Whether a get that brings a key is live, and a get that is answered at once isn't before it.
@@ -23,18 +23,18 @@ fn may_race(marked: &MarkedPlan<'_>, get: Event, get_now: Event) -> bool
     marked.live(get) && !marked.before(get_now, get)
 }
 
-/// Adds the races of a get with the gets that bring its key to its node, none of which comes surely before
+/// AddsFindings the races of a get with the gets that bring its key to its node, none of which comes surely before
 /// it. Of the gets of a process those that may race are the first ones.
 pub(crate) fn add_get_races(
     marked: &MarkedPlan<'_>,
-    found: &mut Found,
+    found: &mut FindingsBuilder,
     asked: KeyRead,
     node: u32,
 ) -> Result<(), AllocError>
     requires found { AreFound (plan_of marked.now) found.old }
     requires late { IsUnsure (plan_of marked.now) (event_of asked.get_now) asked.owner.number asked.key }
     requires node { node ≡ node_of (plan_of marked.now) asked.get_now.proc.number }
-    ensures { OnOk result (Adds (plan_of marked.now) found.old found.new
+    ensures { OnOk result (AddsFindings (plan_of marked.now) found.old found.new
         (AreRacesByGets (plan_of marked.now) (event_of asked.get_now) asked.owner.number asked.key (node_of (plan_of marked.now) asked.get_now.proc.number))) }
 {
     let plan = marked.plan();

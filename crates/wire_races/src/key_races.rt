@@ -3,7 +3,7 @@
 ghost use Rattle.std.specs.Prelude.{◌≡◌, ◌<◌, ◌≤◌, ◌*◌, ◌/◌, ℕ, max, Some, OnOk, IsTrue, IfOk, ◌↔◌, true, false};
 ghost use Rattle.wire_runs.specs.Plan.{GetNow, event_of, process_count, event_count, event_total, kind, node_of};
 ghost use Rattle.wire_runs.specs.Plan.{same_node};
-ghost use Rattle.wire_content.specs.Planned.{plan_of};
+ghost use Rattle.wire_scripts.specs.Planned.{plan_of};
 ghost use Rattle.wire_runs.specs.EventLists.{IsLower};
 ghost use Rattle.wire_runs.specs.Races.{IsUnordered};
 ghost use Rattle.wire_runs.specs.Findings.{IsKeyRace};
@@ -12,9 +12,9 @@ ghost use Rattle.wire_findings.specs.Findings.{shown};
 ghost use Rattle.wire_findings.specs.Collected.{AreFound};
 ghost use Rattle.wire_fates.specs.Deliveries.{MayBeLate};
 ghost use Rattle.wire_races.specs.FindingKinds.{IsOfKey, AllAdded};
-ghost use Rattle.wire_races.specs.Adding.{Adds, ToldIn, ToldBetween};
+ghost use Rattle.wire_races.specs.Adding.{AddsFindings, ToldIn, ToldBetween};
 ghost use Rattle.wire_races.specs.Pieces.{IsPiece};
-ghost use Rattle.wire_races.specs.KeyRaces.{IsRaceOf, IsKeyRaceBy, IsOpen, IsLateBy, AreLateBelow};
+ghost use Rattle.wire_races.specs.KeyRaces.{IsRaceOf, IsKeyRaceBy, IsOpenRead, IsLateBy, AreLateBelow};
 ghost use Rattle.wire_races.specs.KeyRaces.{IsUnsure, HasPieces, IsKeyRaceIn, AreKeyPieces};
 
 use crate::get_races::add_get_races;
@@ -23,8 +23,8 @@ use rayon::prelude::*;
 use std::alloc::{AllocError, Global};
 use std::thread::Threads;
 use wire_fates::{KeyRead, comes_surely, late_source, may_be_late, next_arrival};
-use wire_findings::{Finding, Found};
-use wire_marks::MarkedPlan;
+use wire_findings::{Finding, FindingsBuilder};
+use wire_happens_before::MarkedPlan;
 use wire_plan::{Kind, Plan};
 use wire_types::{Event, Proc};
 
@@ -56,30 +56,30 @@ fn race_of(plan: &Plan, source: Event, asked: KeyRead) -> Finding
     }
 }
 
-/// Adds the race of a get with an event.
+/// AddsFindings the race of a get with an event.
 pub(crate) fn add_race(
     plan: &Plan,
-    found: &mut Found,
+    found: &mut FindingsBuilder,
     source: Event,
     asked: KeyRead,
 ) -> Result<(), AllocError>
     requires race { IsKeyRace (plan_of plan.now) (event_of source) (event_of asked.get_now) asked.owner.number asked.key }
     requires found { AreFound (plan_of plan.now) found.old }
-    ensures { OnOk result (Adds (plan_of plan.now) found.old found.new (IsRaceOf (event_of source) (event_of asked.get_now) asked.owner.number asked.key)) }
+    ensures { OnOk result (AddsFindings (plan_of plan.now) found.old found.new (IsRaceOf (event_of source) (event_of asked.get_now) asked.owner.number asked.key)) }
 {
     found.add(race_of(plan, source, asked))
 }
 
-/// Adds the race of a get with the commit that stores its key on the same node, if they race.
+/// AddsFindings the race of a get with the commit that stores its key on the same node, if they race.
 fn add_node_race(
     marked: &MarkedPlan<'_>,
-    found: &mut Found,
+    found: &mut FindingsBuilder,
     asked: KeyRead,
 ) -> Result<(), AllocError>
     requires found { AreFound (plan_of marked.now) found.old }
-    requires get { IsOpen (plan_of marked.now) (event_of asked.get_now) asked.owner.number asked.key }
+    requires get { IsOpenRead (plan_of marked.now) (event_of asked.get_now) asked.owner.number asked.key }
     requires node { same_node (plan_of marked.now) asked.owner.number asked.get_now.proc.number ≡ true }
-    ensures { OnOk result (Adds (plan_of marked.now) found.old found.new (IsKeyRaceBy (plan_of marked.now) (event_of asked.get_now))) }
+    ensures { OnOk result (AddsFindings (plan_of marked.now) found.old found.new (IsKeyRaceBy (plan_of marked.now) (event_of asked.get_now))) }
 {
     let plan = marked.plan();
     let Some(commit) = plan.store_of(asked.owner, asked.key) else {
@@ -92,10 +92,10 @@ fn add_node_race(
     }
 }
 
-/// Adds the race of a get with the delivery of an arrival, if they race.
+/// AddsFindings the race of a get with the delivery of an arrival, if they race.
 fn add_late(
     marked: &MarkedPlan<'_>,
-    found: &mut Found,
+    found: &mut FindingsBuilder,
     asked: KeyRead,
     arrival: Event,
 ) -> Result<(), AllocError>
@@ -104,7 +104,7 @@ fn add_late(
     requires may { MayBeLate (plan_of marked.now) (event_of asked.get_now) (event_of arrival) }
     requires proc { arrival.proc ≡ asked.owner }
     requires delivers { let plan = plan_of marked.now in IsDelivering plan asked.owner.number asked.key (node_of plan asked.get_now.proc.number) arrival.at }
-    ensures { let plan = plan_of marked.now in OnOk result (Adds plan found.old found.new
+    ensures { let plan = plan_of marked.now in OnOk result (AddsFindings plan found.old found.new
         (IsLateBy plan (event_of asked.get_now) asked.owner.number asked.key (node_of plan asked.get_now.proc.number) arrival.at)) }
 {
     match late_source(marked, asked.get_now, arrival) {
@@ -113,19 +113,19 @@ fn add_late(
     }
 }
 
-/// Adds the races of a get with the deliveries of its key by fences, none of which comes surely before it. Where
+/// AddsFindings the races of a get with the deliveries of its key by fences, none of which comes surely before it. Where
 /// one can't come late, since the get is before an arrival at its fence or one of these isn't live, no
 /// later one can.
 fn add_all_late(
     marked: &MarkedPlan<'_>,
-    found: &mut Found,
+    found: &mut FindingsBuilder,
     asked: KeyRead,
     node: u32,
 ) -> Result<(), AllocError>
     requires found { AreFound (plan_of marked.now) found.old }
     requires late { IsUnsure (plan_of marked.now) (event_of asked.get_now) asked.owner.number asked.key }
     requires node { node ≡ node_of (plan_of marked.now) asked.get_now.proc.number }
-    ensures { OnOk result (Adds (plan_of marked.now) found.old found.new
+    ensures { OnOk result (AddsFindings (plan_of marked.now) found.old found.new
         (AreLateBelow (plan_of marked.now) (event_of asked.get_now) asked.owner.number asked.key (node_of (plan_of marked.now) asked.get_now.proc.number)
         (event_count (plan_of marked.now) asked.owner.number))) }
 {
@@ -145,16 +145,16 @@ fn add_all_late(
     Ok(())
 }
 
-/// Adds the races of a get with the deliveries of its key from another node.
+/// AddsFindings the races of a get with the deliveries of its key from another node.
 fn add_delivery_races(
     marked: &MarkedPlan<'_>,
-    found: &mut Found,
+    found: &mut FindingsBuilder,
     asked: KeyRead,
 ) -> Result<(), AllocError>
     requires found { AreFound (plan_of marked.now) found.old }
-    requires get { IsOpen (plan_of marked.now) (event_of asked.get_now) asked.owner.number asked.key }
+    requires get { IsOpenRead (plan_of marked.now) (event_of asked.get_now) asked.owner.number asked.key }
     requires node { same_node (plan_of marked.now) asked.owner.number asked.get_now.proc.number ≡ false }
-    ensures { OnOk result (Adds (plan_of marked.now) found.old found.new (IsKeyRaceBy (plan_of marked.now) (event_of asked.get_now))) }
+    ensures { OnOk result (AddsFindings (plan_of marked.now) found.old found.new (IsKeyRaceBy (plan_of marked.now) (event_of asked.get_now))) }
 {
     let node = marked.plan().node_of(asked.get_now.proc);
     if comes_surely(marked, asked, node) {
@@ -167,18 +167,22 @@ fn add_delivery_races(
 /// Whether a get that is answered at once is live, and of a key that another process puts once.
 pub fn is_open(marked: &MarkedPlan<'_>, asked: KeyRead) -> bool
     requires get { kind (plan_of marked.now) (event_of asked.get_now) ≡ Some (GetNow asked.owner.number asked.key) }
-    ensures { IsTrue result ↔ IsOpen (plan_of marked.now) (event_of asked.get_now) asked.owner.number asked.key }
+    ensures { IsTrue result ↔ IsOpenRead (plan_of marked.now) (event_of asked.get_now) asked.owner.number asked.key }
 {
     asked.get_now.proc.number != asked.owner.number
         && marked.plan().put_count(asked.owner, asked.key) == 1
         && marked.live(asked.get_now)
 }
 
-/// Adds the races of a get that is answered at once.
-fn add_get_now(marked: &MarkedPlan<'_>, found: &mut Found, asked: KeyRead) -> Result<(), AllocError>
+/// AddsFindings the races of a get that is answered at once.
+fn add_get_now(
+    marked: &MarkedPlan<'_>,
+    found: &mut FindingsBuilder,
+    asked: KeyRead,
+) -> Result<(), AllocError>
     requires found { AreFound (plan_of marked.now) found.old }
     requires get { kind (plan_of marked.now) (event_of asked.get_now) ≡ Some (GetNow asked.owner.number asked.key) }
-    ensures { OnOk result (Adds (plan_of marked.now) found.old found.new (IsKeyRaceBy (plan_of marked.now) (event_of asked.get_now))) }
+    ensures { OnOk result (AddsFindings (plan_of marked.now) found.old found.new (IsKeyRaceBy (plan_of marked.now) (event_of asked.get_now))) }
 {
     if !is_open(marked, asked) {
         return Ok(());
@@ -193,15 +197,15 @@ fn add_get_now(marked: &MarkedPlan<'_>, found: &mut Found, asked: KeyRead) -> Re
     }
 }
 
-/// Adds the races of an event of the plan, where it is a get that is answered at once.
+/// AddsFindings the races of an event of the plan, where it is a get that is answered at once.
 pub(crate) fn add_event(
     marked: &MarkedPlan<'_>,
-    found: &mut Found,
+    found: &mut FindingsBuilder,
     event: Event,
 ) -> Result<(), AllocError>
     requires found { AreFound (plan_of marked.now) found.old }
     requires there { event.at < event_count (plan_of marked.now) event.proc.number }
-    ensures { OnOk result (Adds (plan_of marked.now) found.old found.new (IsKeyRaceBy (plan_of marked.now) (event_of event))) }
+    ensures { OnOk result (AddsFindings (plan_of marked.now) found.old found.new (IsKeyRaceBy (plan_of marked.now) (event_of event))) }
 {
     match marked.plan().kind(event) {
         Kind::GetNow { owner, key } => {
@@ -216,10 +220,14 @@ pub(crate) fn add_event(
     }
 }
 
-/// Adds the races of the gets of a process.
-fn add_process(marked: &MarkedPlan<'_>, found: &mut Found, proc: Proc) -> Result<(), AllocError>
+/// AddsFindings the races of the gets of a process.
+fn add_process(
+    marked: &MarkedPlan<'_>,
+    found: &mut FindingsBuilder,
+    proc: Proc,
+) -> Result<(), AllocError>
     requires found { AreFound (plan_of marked.now) found.old }
-    ensures { OnOk result (Adds (plan_of marked.now) found.old found.new
+    ensures { OnOk result (AddsFindings (plan_of marked.now) found.old found.new
         (ToldIn (IsKeyRaceBy (plan_of marked.now)) proc.number (event_count (plan_of marked.now) proc.number))) }
 {
     for at in 0..marked.plan().event_count(proc) {
@@ -228,16 +236,16 @@ fn add_process(marked: &MarkedPlan<'_>, found: &mut Found, proc: Proc) -> Result
     Ok(())
 }
 
-/// Adds the races of the gets of processes that stand side by side: from one to below the end.
+/// AddsFindings the races of the gets of processes that stand side by side: from one to below the end.
 fn add_processes(
     marked: &MarkedPlan<'_>,
-    found: &mut Found,
+    found: &mut FindingsBuilder,
     from: u32,
     end: u32,
 ) -> Result<(), AllocError>
     requires order { from ≤ end }
     requires found { AreFound (plan_of marked.now) found.old }
-    ensures { OnOk result (Adds (plan_of marked.now) found.old found.new (ToldBetween (IsKeyRaceBy (plan_of marked.now)) from end)) }
+    ensures { OnOk result (AddsFindings (plan_of marked.now) found.old found.new (ToldBetween (IsKeyRaceBy (plan_of marked.now)) from end)) }
 {
     for number in from..end {
         add_process(marked, found, Proc { number })?;
@@ -290,12 +298,12 @@ fn make_piece(
     marked: &MarkedPlan<'_>,
     size: u32,
     piece: u32,
-) -> Result<Found, AllocError>
+) -> Result<FindingsBuilder, AllocError>
     requires { 0 < size }
     ensures { IfOk result (IsPiece (plan_of marked.now) (IsKeyRaceIn (plan_of marked.now) size piece)) }
 {
     let (from, end) = processes_of(piece, size, marked.plan().process_count());
-    let mut found = Found::new(alloc);
+    let mut found = FindingsBuilder::new(alloc);
     add_processes(marked, &mut found, from, end)?;
     Ok(found)
 }
@@ -307,7 +315,7 @@ fn make_pieces(
     alloc: Global,
     marked: &MarkedPlan<'_>,
     size: u32,
-) -> Result<Vec<Found>, AllocError>
+) -> Result<Vec<FindingsBuilder>, AllocError>
     requires { 0 < size }
     ensures { IfOk result (λ pieces. AreKeyPieces (plan_of marked.now) pieces.items) }
 {
@@ -315,7 +323,7 @@ fn make_pieces(
         .into_par_iter()
         .with_min_len(1)
         .map(
-            |number: u32| -> Result<Found, AllocError>
+            |number: u32| -> Result<FindingsBuilder, AllocError>
                 requires { 0 < size }
                 ensures { IfOk result (IsPiece (plan_of marked.entry.now) (IsKeyRaceIn (plan_of marked.entry.now) size number)) }
             { make_piece(alloc, marked, size, number) },
@@ -323,7 +331,7 @@ fn make_pieces(
         .collect::<Result<Vec<_>, AllocError>>(rt, alloc)?
 }
 
-/// Adds all races on keys: of each get that is answered at once, with the commit that stores the
+/// AddsFindings all races on keys: of each get that is answered at once, with the commit that stores the
 /// key on its node, or with the fences, and the gets whose values are kept, that bring it to its node (PMIx
 /// Standard 5.0, PMIx_Get with PMIX_IMMEDIATE, PMIx_Commit, and PMIx_Fence with PMIX_COLLECT_DATA). The one error is
 /// that memory ran out.
@@ -331,7 +339,7 @@ pub(crate) fn add_key_races(
     rt: &(impl Threads + Sync),
     alloc: Global,
     marked: &MarkedPlan<'_>,
-    found: &mut Found,
+    found: &mut FindingsBuilder,
 ) -> Result<(), AllocError>
     requires found { AreFound (plan_of marked.now) found.old }
     ensures found { OnOk result (AreFound (plan_of marked.now) found.new) }

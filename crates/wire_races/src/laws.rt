@@ -2,8 +2,8 @@
 
 ghost use Rattle.std.specs.Prelude.{◌≡◌, ◌↔◌, List, []};
 ghost use Rattle.wire_runs.specs.Races.{IsSettled};
-ghost use Rattle.wire_content.specs.Scripts.{Scripts};
-ghost use Rattle.wire_content.specs.Planned.{plan_of};
+ghost use Rattle.wire_scripts.specs.Scripts.{Scripts};
+ghost use Rattle.wire_scripts.specs.Planned.{plan_of};
 ghost use Rattle.wire_findings.specs.declared.finding.Finding.{Finding as Told};
 ghost use Rattle.wire_types.specs.declared.CallAt.{CallAt};
 ghost use Rattle.wire_findings.specs.Findings.{AreFindings};

@@ -4,7 +4,7 @@ ghost use Rattle.std.specs.Prelude.{◌≡◌, ◌<◌, ◌≤◌, ◌↔◌, �
 ghost use Rattle.std.specs.Prelude.{slice_get};
 ghost use Rattle.wire_runs.specs.Plan.{event_of, kind, event_count};
 ghost use Rattle.wire_runs.specs.Plan as runs;
-ghost use Rattle.wire_content.specs.Planned.{plan_of};
+ghost use Rattle.wire_scripts.specs.Planned.{plan_of};
 ghost use Rattle.wire_runs.specs.Names.{calls_name, writes_name};
 ghost use Rattle.wire_runs.specs.Order.{Live};
 ghost use Rattle.wire_runs.specs.Findings.{NameRace};
@@ -12,15 +12,15 @@ ghost use Rattle.wire_plan.specs.Index.{is_plain_call, AreNameCalls};
 ghost use Rattle.wire_findings.specs.Findings.{shown};
 ghost use Rattle.wire_races.specs.FindingKinds.{IsOfName, AllAdded};
 ghost use Rattle.wire_findings.specs.Collected.{AreFound};
-ghost use Rattle.wire_races.specs.Adding.{Adds};
+ghost use Rattle.wire_races.specs.Adding.{AddsFindings};
 ghost use Rattle.wire_races.specs.Pieces.{IsPiece, ArePieces};
-ghost use Rattle.wire_races.specs.NameRaces.{IsRaceOn, IsPlainRaceOn, IsRaceFrom, IsRaceWith, AllRace, race_between};
+ghost use Rattle.wire_races.specs.NameRaces.{IsRaceOn, IsPlainRaceOn, IsRaceFrom, IsNameRaceWith, AllRace, race_between};
 ghost use Rattle.wire_races.specs.NameRaces.{AreCallsOn, AreOf, AreRising};
 ghost use Rattle.wire_races.specs.NameRaces.{IsStretch, AreRivals, AreHigher, HasRivals, AreWriters, IsAbove, IsBelow};
-ghost use Rattle.wire_races.specs.NameRaces.{AreUnordered};
+ghost use Rattle.wire_races.specs.NameRaces.{AreThoseUnordered};
 ghost use Rattle.wire_fates.specs.Cuts.{IsCut};
 ghost use Rattle.wire_races.specs.NameRaces.{AreFacing, IsOneOf, AreSweepers, IsSweptRace, IsSweptRaceOn};
-ghost use Rattle.wire_content.specs.Scripts.{numbers_of};
+ghost use Rattle.wire_scripts.specs.Scripts.{numbers_of};
 
 use crate::call_races::{NameCall, add_races, find_unordered};
 use crate::search_pieces::add_pieces;
@@ -28,8 +28,8 @@ use crate::sweep_races::{add_sweep_races, is_publisher, sweepers_of};
 use rayon::prelude::*;
 use std::alloc::{AllocError, Global};
 use std::thread::Threads;
-use wire_findings::Found;
-use wire_marks::MarkedPlan;
+use wire_findings::FindingsBuilder;
+use wire_happens_before::MarkedPlan;
 use wire_plan::{Kind, Plan};
 use wire_types::{Event, Proc};
 
@@ -46,12 +46,12 @@ pub(crate) fn is_write(plan: &Plan, x: NameCall) -> bool
     }
 }
 
-/// Adds the races of a live call with calls of another process. The one publish of a name and a
+/// AddsFindings the races of a live call with calls of another process. The one publish of a name and a
 /// lookup that waits for it are in order where both are live, so the one isn't among those that no chain
 /// orders with the other.
 fn add_between(
     marked: &MarkedPlan<'_>,
-    found: &mut Found,
+    found: &mut FindingsBuilder,
     x: NameCall,
     run: &[Event],
 ) -> Result<(), AllocError>
@@ -60,7 +60,7 @@ fn add_between(
     requires live { Live (plan_of marked.now) (event_of x.event) }
     requires rivals { AreRivals (plan_of marked.now) x.name (event_of x.event) (map event_of run.now) }
     requires run { IsStretch (map event_of run.now) }
-    ensures { OnOk result (Adds (plan_of marked.now) found.old found.new (IsRaceWith (plan_of marked.now) x.name (event_of x.event) (map event_of run.now))) }
+    ensures { OnOk result (AddsFindings (plan_of marked.now) found.old found.new (IsNameRaceWith (plan_of marked.now) x.name (event_of x.event) (map event_of run.now))) }
 {
     let those = find_unordered(marked, x.event, run);
     add_races(marked.plan(), found, x, those)
@@ -86,10 +86,10 @@ fn stretch_length(calls: &[Event], proc: Proc) -> usize
     count_upto(calls, proc)
 }
 
-/// Adds the races of a live call with higher calls, which are cut into stretches of one process each.
+/// AddsFindings the races of a live call with higher calls, which are cut into stretches of one process each.
 fn add_rivals(
     marked: &MarkedPlan<'_>,
-    found: &mut Found,
+    found: &mut FindingsBuilder,
     x: NameCall,
     rivals: &[Event],
 ) -> Result<(), AllocError>
@@ -97,8 +97,8 @@ fn add_rivals(
     requires x { calls_name (plan_of marked.now) x.name (event_of x.event) (kind (plan_of marked.now) (event_of x.event)) ≡ true }
     requires live { Live (plan_of marked.now) (event_of x.event) }
     requires rivals { AreRivals (plan_of marked.now) x.name (event_of x.event) (map event_of rivals.now) }
-    ensures { OnOk result (Adds (plan_of marked.now) found.old found.new
-        (IsRaceWith (plan_of marked.now) x.name (event_of x.event) (map event_of rivals.now))) }
+    ensures { OnOk result (AddsFindings (plan_of marked.now) found.old found.new
+        (IsNameRaceWith (plan_of marked.now) x.name (event_of x.event) (map event_of rivals.now))) }
 {
     let mut rest = rivals;
     'stretches: while let Some(first) = rest.first() {
@@ -109,10 +109,10 @@ fn add_rivals(
     Ok(())
 }
 
-/// Adds the races of a call with all higher ones.
+/// AddsFindings the races of a call with all higher ones.
 fn add_call(
     marked: &MarkedPlan<'_>,
-    found: &mut Found,
+    found: &mut FindingsBuilder,
     x: NameCall,
     rivals: &[Event],
 ) -> Result<(), AllocError>
@@ -121,7 +121,7 @@ fn add_call(
     requires rivals { AreRivals (plan_of marked.now) x.name (event_of x.event) (map event_of rivals.now) }
     requires higher { AreHigher (plan_of marked.now) x.name (event_of x.event) (map event_of rivals.now) }
     requires all { HasRivals (plan_of marked.now) x.name (event_of x.event) (map event_of rivals.now) }
-    ensures { OnOk result (Adds (plan_of marked.now) found.old found.new (IsRaceFrom (plan_of marked.now) x.name (event_of x.event))) }
+    ensures { OnOk result (AddsFindings (plan_of marked.now) found.old found.new (IsRaceFrom (plan_of marked.now) x.name (event_of x.event))) }
 {
     if marked.live(x.event) {
         add_rivals(marked, found, x, rivals)
@@ -170,16 +170,16 @@ fn writers_of(alloc: Global, plan: &Plan, name: u32) -> Result<Vec<Event>, Alloc
     Ok(writers)
 }
 
-/// Adds the races between calls on a name alone, from the lower call of each.
+/// AddsFindings the races between calls on a name alone, from the lower call of each.
 fn add_races_on(
     marked: &MarkedPlan<'_>,
-    found: &mut Found,
+    found: &mut FindingsBuilder,
     name: u32,
     writers: &[Event],
 ) -> Result<(), AllocError>
     requires found { AreFound (plan_of marked.now) found.old }
     requires writers { AreWriters (plan_of marked.now) name (map event_of writers.now) }
-    ensures { OnOk result (Adds (plan_of marked.now) found.old found.new (IsPlainRaceOn (plan_of marked.now) name)) }
+    ensures { OnOk result (AddsFindings (plan_of marked.now) found.old found.new (IsPlainRaceOn (plan_of marked.now) name)) }
 {
     let plan = marked.plan();
     let calls = plan.name_calls(name);
@@ -204,17 +204,17 @@ fn find_facing<'a>(plan: &'a Plan, x: Event, proc: Proc) -> &'a [Event]
     }
 }
 
-/// Adds the races of a call on one name with those calls of these processes that take away all their names.
+/// AddsFindings the races of a call on one name with those calls of these processes that take away all their names.
 fn add_swept(
     marked: &MarkedPlan<'_>,
-    found: &mut Found,
+    found: &mut FindingsBuilder,
     x: NameCall,
     procs: &[Proc],
 ) -> Result<(), AllocError>
     requires found { AreFound (plan_of marked.now) found.old }
     requires x { calls_name (plan_of marked.now) x.name (event_of x.event) (kind (plan_of marked.now) (event_of x.event)) ≡ true }
     requires procs { AreSweepers (plan_of marked.now) x.name (numbers_of procs.now) }
-    ensures { OnOk result (Adds (plan_of marked.now) found.old found.new (IsSweptRace (plan_of marked.now) x.name (event_of x.event) (numbers_of procs.now))) }
+    ensures { OnOk result (AddsFindings (plan_of marked.now) found.old found.new (IsSweptRace (plan_of marked.now) x.name (event_of x.event) (numbers_of procs.now))) }
 {
     if !marked.live(x.event) {
         return Ok(());
@@ -226,17 +226,17 @@ fn add_swept(
     Ok(())
 }
 
-/// Adds the races on a name of the calls on it alone with those calls of these processes that take away all their
+/// AddsFindings the races on a name of the calls on it alone with those calls of these processes that take away all their
 /// names.
 fn add_races_swept(
     marked: &MarkedPlan<'_>,
-    found: &mut Found,
+    found: &mut FindingsBuilder,
     name: u32,
     procs: &[Proc],
 ) -> Result<(), AllocError>
     requires found { AreFound (plan_of marked.now) found.old }
     requires procs { AreSweepers (plan_of marked.now) name (numbers_of procs.now) }
-    ensures { OnOk result (Adds (plan_of marked.now) found.old found.new (IsSweptRaceOn (plan_of marked.now) name)) }
+    ensures { OnOk result (AddsFindings (plan_of marked.now) found.old found.new (IsSweptRaceOn (plan_of marked.now) name)) }
 {
     let calls = marked.plan().name_calls(name);
     for event in calls {
@@ -250,10 +250,14 @@ fn add_races_swept(
 }
 
 /// The races on a name in which one call at least is on this name alone: a piece of the search.
-fn make_piece(alloc: Global, marked: &MarkedPlan<'_>, name: u32) -> Result<Found, AllocError>
+fn make_piece(
+    alloc: Global,
+    marked: &MarkedPlan<'_>,
+    name: u32,
+) -> Result<FindingsBuilder, AllocError>
     ensures { IfOk result (IsPiece (plan_of marked.now) (IsRaceOn (plan_of marked.now) name)) }
 {
-    let mut found = Found::new(alloc);
+    let mut found = FindingsBuilder::new(alloc);
     let writers = writers_of(alloc, marked.plan(), name)?;
     add_races_on(marked, &mut found, name, writers.as_slice())?;
     let procs = sweepers_of(alloc, marked.plan(), name)?;
@@ -267,7 +271,7 @@ fn make_pieces(
     rt: &(impl Threads + Sync),
     alloc: Global,
     marked: &MarkedPlan<'_>,
-) -> Result<Vec<Found>, AllocError>
+) -> Result<Vec<FindingsBuilder>, AllocError>
     ensures { IfOk result (λ pieces. ArePieces (plan_of marked.now) (length marked.now.names) (IsRaceOn (plan_of marked.now)) pieces.items) }
 {
     let plan = marked.plan();
@@ -275,14 +279,14 @@ fn make_pieces(
         .into_par_iter()
         .with_min_len(16)
         .map(
-            |name: u32| -> Result<Found, AllocError>
+            |name: u32| -> Result<FindingsBuilder, AllocError>
                 ensures { IfOk result (IsPiece (plan_of marked.entry.now) (IsRaceOn (plan_of marked.entry.now) name)) }
             { make_piece(alloc, marked, name) },
         )
         .collect::<Result<Vec<_>, AllocError>>(rt, alloc)?
 }
 
-/// Adds the races on names: for each name the pairs of live calls of different processes on it, one
+/// AddsFindings the races on names: for each name the pairs of live calls of different processes on it, one
 /// of which can change it, that no chain orders (PMIx Standard 5.0, PMIx_Publish,
 /// PMIx_Lookup, PMIx_Unpublish). The only error is that memory ran out.
 ///
@@ -295,7 +299,7 @@ pub(crate) fn add_name_races(
     rt: &(impl Threads + Sync),
     alloc: Global,
     marked: &MarkedPlan<'_>,
-    found: &mut Found,
+    found: &mut FindingsBuilder,
 ) -> Result<(), AllocError>
     requires found { AreFound (plan_of marked.now) found.old }
     ensures found { OnOk result (AreFound (plan_of marked.now) found.new) }

@@ -4,7 +4,7 @@ ghost use Rattle.std.specs.Prelude.{◌≡◌, ◌∷◌, [], ◌<◌, ◌↔◌
 ghost use Rattle.wire_runs.specs.Plan.{event_of, event_count, kind};
 ghost use Rattle.wire_runs.specs.Ends.{calls_of, first_event};
 ghost use Rattle.wire_runs.specs.Names.{calls_name};
-ghost use Rattle.wire_content.specs.Planned.{plan_of};
+ghost use Rattle.wire_scripts.specs.Planned.{plan_of};
 ghost use Rattle.wire_races.specs.Racing.{RaceOnKey, RaceOnName, AreRacing};
 ghost use Rattle.wire_races.specs.Contested as spec;
 ghost use Rattle.wire_races.specs.Contested.{IsOneContested, HasNamesOf};
@@ -15,8 +15,8 @@ use crate::name_races::is_write;
 use crate::reported::is_reported;
 use crate::sweep_races::names_of;
 use std::alloc::{AllocError, Global};
-use wire_findings::Found;
-use wire_marks::MarkedPlan;
+use wire_findings::FindingsBuilder;
+use wire_happens_before::MarkedPlan;
 use wire_plan::{Kind, Plan};
 use wire_types::{CallAt, Event};
 
@@ -32,7 +32,7 @@ fn race_on_key(
     ensures { IfOk result (λ race. IsTrue race ↔ RaceOnKey (plan_of marked.now) (first_event (plan_of marked.now) x) (first_event (plan_of marked.now) y)) }
 {
     let plan = marked.plan();
-    let mut found = Found::new(alloc);
+    let mut found = FindingsBuilder::new(alloc);
     add_event(marked, &mut found, plan.first_event(x))?;
     add_event(marked, &mut found, plan.first_event(y))?;
     let list = found.as_met();

@@ -8,10 +8,10 @@ ghost use Rattle.wire_runs.specs.Plan.{event_of, kind, event_count};
 ghost use Rattle.wire_runs.specs.Plan as runs;
 ghost use Rattle.wire_runs.specs.Names.{is_publish};
 ghost use Rattle.wire_runs.specs.Names as runs_names;
-ghost use Rattle.wire_content.specs.Planned.{plan_of};
-ghost use Rattle.wire_content.specs.Scripts.{numbers_of};
+ghost use Rattle.wire_scripts.specs.Planned.{plan_of};
+ghost use Rattle.wire_scripts.specs.Scripts.{numbers_of};
 ghost use Rattle.wire_findings.specs.Collected.{AreFound};
-ghost use Rattle.wire_races.specs.Adding.{Adds};
+ghost use Rattle.wire_races.specs.Adding.{AddsFindings};
 ghost use Rattle.wire_races.specs.NameRaces.{AllRace, IsOneOf, AreSweepers};
 ghost use Rattle.wire_races.specs.SweepRaces.{IsSweepRace, IsSweepRaceOf, ArePublished, AddsShares, AreShares};
 ghost use Rattle.wire_races.specs.SweepRaces.{AreShared, AreSharesOf};
@@ -19,8 +19,8 @@ ghost use Rattle.wire_races.specs.SweepRaces.{IsRaceOnOne, IsSweepRaceWith, IsSh
 
 use crate::call_races::{NameCall, add_races, find_unordered};
 use std::alloc::{AllocError, Global};
-use wire_findings::Found;
-use wire_marks::MarkedPlan;
+use wire_findings::FindingsBuilder;
+use wire_happens_before::MarkedPlan;
 use wire_plan::{Kind, Plan};
 use wire_types::{Event, Proc};
 
@@ -106,7 +106,7 @@ pub(crate) fn names_of(alloc: Global, plan: &Plan, proc: Proc) -> Result<Vec<u32
     Ok(names)
 }
 
-/// Adds the shares in a name of those of these processes that are higher than this one.
+/// AddsFindings the shares in a name of those of these processes that are higher than this one.
 fn add_shares(
     shares: &mut Vec<Share>,
     proc: Proc,
@@ -145,17 +145,17 @@ fn shares_of(
     Ok(shares)
 }
 
-/// Adds the races of a call with these on the name of each of these shares.
+/// AddsFindings the races of a call with these on the name of each of these shares.
 fn add_on_names(
     plan: &Plan,
-    found: &mut Found,
+    found: &mut FindingsBuilder,
     x: Event,
     those: &[Event],
     shares: &[Share],
 ) -> Result<(), AllocError>
     requires found { AreFound (plan_of plan.now) found.old }
     requires races { (s : Share) → Contains shares.now s → AllRace (plan_of plan.now) s.name (event_of x) (map event_of those.now) }
-    ensures { OnOk result (Adds (plan_of plan.now) found.old found.new (IsRaceOnOne (plan_of plan.now) (event_of x) (map event_of those.now) shares.now)) }
+    ensures { OnOk result (AddsFindings (plan_of plan.now) found.old found.new (IsRaceOnOne (plan_of plan.now) (event_of x) (map event_of those.now) shares.now)) }
 {
     for share in shares {
         let x = NameCall {
@@ -167,11 +167,11 @@ fn add_on_names(
     Ok(())
 }
 
-/// Adds the races of a sweep with those of a higher process, on the names that both publish. Which of those race
+/// AddsFindings the races of a sweep with those of a higher process, on the names that both publish. Which of those race
 /// with it depends on no name, so that names are looked at only where there are such.
 fn add_sweep(
     marked: &MarkedPlan<'_>,
-    found: &mut Found,
+    found: &mut FindingsBuilder,
     x: Event,
     higher: Proc,
     shares: &[Share],
@@ -180,7 +180,7 @@ fn add_sweep(
     requires sweeps { kind (plan_of marked.now) (event_of x) ≡ Some runs.UnpublishAll }
     requires shared { AreShared (plan_of marked.now) x.proc.number shares.now }
     requires of_it { AreSharesOf higher.number shares.now }
-    ensures { OnOk result (Adds (plan_of marked.now) found.old found.new (IsSweepRaceWith (plan_of marked.now) (event_of x) shares.now)) }
+    ensures { OnOk result (AddsFindings (plan_of marked.now) found.old found.new (IsSweepRaceWith (plan_of marked.now) (event_of x) shares.now)) }
 {
     if !marked.live(x) {
         return Ok(());
@@ -193,10 +193,10 @@ fn add_sweep(
     add_on_names(plan, found, x, those, shares)
 }
 
-/// Adds the races of the sweeps of one process with those of a higher one, on the names that both publish.
+/// AddsFindings the races of the sweeps of one process with those of a higher one, on the names that both publish.
 fn add_stretch(
     marked: &MarkedPlan<'_>,
-    found: &mut Found,
+    found: &mut FindingsBuilder,
     lower: Proc,
     higher: Proc,
     shares: &[Share],
@@ -204,7 +204,7 @@ fn add_stretch(
     requires found { AreFound (plan_of marked.now) found.old }
     requires shared { AreShared (plan_of marked.now) lower.number shares.now }
     requires of_it { AreSharesOf higher.number shares.now }
-    ensures { OnOk result (Adds (plan_of marked.now) found.old found.new (IsSharedRace (plan_of marked.now) lower.number shares.now)) }
+    ensures { OnOk result (AddsFindings (plan_of marked.now) found.old found.new (IsSharedRace (plan_of marked.now) lower.number shares.now)) }
 {
     let sweeps = marked.plan().sweeps(lower);
     for x in sweeps {
@@ -227,17 +227,17 @@ fn stretch_size(shares: &[Share], proc: Proc) -> usize
     shares.len()
 }
 
-/// Adds the races of the sweeps of a process with those of higher ones, on the names that it shares with them. The
+/// AddsFindings the races of the sweeps of a process with those of higher ones, on the names that it shares with them. The
 /// shares are cut into stretches of one process each.
 fn add_shared(
     marked: &MarkedPlan<'_>,
-    found: &mut Found,
+    found: &mut FindingsBuilder,
     proc: Proc,
     shares: &[Share],
 ) -> Result<(), AllocError>
     requires found { AreFound (plan_of marked.now) found.old }
     requires shared { AreShared (plan_of marked.now) proc.number shares.now }
-    ensures { OnOk result (Adds (plan_of marked.now) found.old found.new (IsSharedRace (plan_of marked.now) proc.number shares.now)) }
+    ensures { OnOk result (AddsFindings (plan_of marked.now) found.old found.new (IsSharedRace (plan_of marked.now) proc.number shares.now)) }
 {
     let mut rest = shares;
     'stretches: while let Some(first) = rest.first() {
@@ -248,15 +248,15 @@ fn add_shared(
     Ok(())
 }
 
-/// Adds the races of the sweeps of a process with those of higher ones.
+/// AddsFindings the races of the sweeps of a process with those of higher ones.
 fn add_process(
     alloc: Global,
     marked: &MarkedPlan<'_>,
-    found: &mut Found,
+    found: &mut FindingsBuilder,
     proc: Proc,
 ) -> Result<(), AllocError>
     requires { AreFound (plan_of marked.now) found.old }
-    ensures { OnOk result (Adds (plan_of marked.now) found.old found.new (IsSweepRaceOf (plan_of marked.now) proc.number)) }
+    ensures { OnOk result (AddsFindings (plan_of marked.now) found.old found.new (IsSweepRaceOf (plan_of marked.now) proc.number)) }
 {
     let plan = marked.plan();
     if plan.sweeps(proc).is_empty() {
@@ -267,17 +267,17 @@ fn add_process(
     add_shared(marked, found, proc, shares.as_slice())
 }
 
-/// Adds the races between sweeps. The one error is that memory ran out.
+/// AddsFindings the races between sweeps. The one error is that memory ran out.
 ///
 /// The sweeps of two processes race on each name that both publish, where no chain orders them. So each is compared
 /// once with those of a higher process, by bisection, whatever number of names the two share.
 pub(crate) fn add_sweep_races(
     alloc: Global,
     marked: &MarkedPlan<'_>,
-    found: &mut Found,
+    found: &mut FindingsBuilder,
 ) -> Result<(), AllocError>
     requires { AreFound (plan_of marked.now) found.old }
-    ensures { OnOk result (Adds (plan_of marked.now) found.old found.new (IsSweepRace (plan_of marked.now))) }
+    ensures { OnOk result (AddsFindings (plan_of marked.now) found.old found.new (IsSweepRace (plan_of marked.now))) }
 {
     for number in 0..marked.plan().process_count() {
         add_process(alloc, marked, found, Proc { number })?;

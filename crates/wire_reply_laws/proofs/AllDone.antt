@@ -14,13 +14,13 @@ use Rattle.wire_runs.proofs.Basics.{event_within, process_within}
 use Rattle.wire_runs.proofs.Ends.{given_by, none_given, counted_run}
 use Rattle.wire_runs.proofs.Lists.{slice_get-append_right}
 use Rattle.wire_runs.proofs.PlainRun.{plain_runs}
-use Rattle.wire_content.specs.Scripts.{Scripts}
-use Rattle.wire_content.specs.Planned.{plan_of}
-use Rattle.wire_script.specs.declared.Size.TheVariants.{OfVersion}
-use Rattle.wire_script.specs.Reads.{Reads}
+use Rattle.wire_scripts.specs.Scripts.{Scripts}
+use Rattle.wire_scripts.specs.Planned.{plan_of}
+use Rattle.wire_reader.specs.declared.Size.TheVariants.{OfVersion}
+use Rattle.wire_reader.specs.Reads.{Reads}
 use Rattle.wire_pattern.specs.Pattern.{Pattern}
 use Rattle.wire_pattern.specs.Instances.{instance_text}
-use Rattle.wire_sweep.specs.Selections.{Selection, selections}
+use Rattle.wire_cutoff.specs.Selections.{Selection, selections}
 use Rattle.wire_pattern_waits.specs.Waits.{alone, AllReplied}
 use Rattle.wire_pattern_waits.proofs.Answered.{row_of}
 use Rattle.wire_size_laws.specs.Answered.{IsAnswered}

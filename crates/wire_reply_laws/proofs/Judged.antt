@@ -18,10 +18,10 @@ use Rattle.wire_runs.proofs.Images.{event_at, event_back, place_up, image_later,
 use Rattle.wire_runs.proofs.MoreReads.{kind_in_place, spot, kind_into, e}
 use Rattle.wire_runs.proofs.PlacingKeeps.{IsBlind, turned, counts, by_kind, kind_kept, publishes_once, placing_keeps}
 use Rattle.wire_runs.proofs.Renumbered.{embeds}
-use Rattle.wire_content.specs.Scripts.{Scripts}
-use Rattle.wire_content.specs.Planned.{plan_of}
-use Rattle.wire_script.specs.declared.Size.TheVariants.{OfVersion}
-use Rattle.wire_script.specs.Reads.{Reads}
+use Rattle.wire_scripts.specs.Scripts.{Scripts}
+use Rattle.wire_scripts.specs.Planned.{plan_of}
+use Rattle.wire_reader.specs.declared.Size.TheVariants.{OfVersion}
+use Rattle.wire_reader.specs.Reads.{Reads}
 use Rattle.wire_pattern.specs.Pattern.{Pattern}
 use Rattle.wire_pattern.specs.Planned.{pattern_of, least_of}
 use Rattle.wire_pattern.specs.Instances.{Cast, IsCast, cast_of, instance_text}
@@ -30,25 +30,25 @@ use Rattle.wire_pattern_laws.specs.Fuller.{IsFuller}
 use Rattle.wire_pattern_laws.proofs.MoreTurns.{pieces, adds}
 use Rattle.wire_pattern_laws.proofs.NumbersBack.{renumbering_turns}
 use Rattle.wire_size_laws.specs.Answered.{WaitsForOne}
-use Rattle.wire_size_laws.specs.Stages.{Stages, Key, labels_of, is_leave, key_in, key_of, IsLess, IsStagedWell}
+use Rattle.wire_size_laws.specs.Stages.{Stages, StageKey, labels_of, is_leave, key_in, key_of, IsLess, IsStagedWell}
 use Rattle.wire_size_laws.proofs.EdgesBack.{source_kind}
 use Rattle.wire_size_laws.proofs.Fewer.{done_live, live_done}
 use Rattle.wire_instance_laws.specs.Reading.{IsInstance, IsOfCast}
 use Rattle.wire_instance_laws.proofs.Read.{instances_read}
-use Rattle.wire_sweep_laws.specs.Sizes.{AreFewSizes, total_of}
-use Rattle.wire_sweep_laws.specs.Choices.{optional_turns, chosen_by, cast_on}
-use Rattle.wire_sweep_laws.specs.Promised.{IsAnyCast, AreFewSettled}
-use Rattle.wire_sweep_laws.proofs.Few as few
-use Rattle.wire_sweep_laws.proofs.Few.{most_at}
-use Rattle.wire_sweep.specs.Selections.{Selection, select, selections}
-use Rattle.wire_sweep.proofs.Members.{in_place as index_of}
-use Rattle.wire_sweep.proofs.Selected.{selection_there, selections_few}
-use Rattle.wire_sweep.proofs.Texts.{any_cast}
+use Rattle.wire_cutoff_laws.specs.Sizes.{AreFewSizes, total_of}
+use Rattle.wire_cutoff_laws.specs.Choices.{optional_turns, chosen_by, cast_on}
+use Rattle.wire_cutoff_laws.specs.Promised.{IsAnyCast, AreFewSettled}
+use Rattle.wire_cutoff_laws.proofs.Few as few
+use Rattle.wire_cutoff_laws.proofs.Few.{most_at}
+use Rattle.wire_cutoff.specs.Selections.{Selection, select, selections}
+use Rattle.wire_cutoff.proofs.Members.{in_place as index_of}
+use Rattle.wire_cutoff.proofs.Selected.{selection_there, selections_few}
+use Rattle.wire_cutoff.proofs.Texts.{any_cast}
 use Rattle.wire_pattern_waits.specs.Waits.{alone}
 use Rattle.wire_pattern_waits.proofs.Replied.{alone_cast}
 use Rattle.wire_pattern_answers.proofs.Settled.{have_least}
 use Rattle.wire_reply_laws.specs.Kept.{plan_key, KeepsStages}
-use Rattle.wire_reply_laws.specs.Promised.{IsJudged}
+use Rattle.wire_reply_laws.specs.Promised.{KeepsPromise}
 use Rattle.wire_reply_laws.proofs.Rise.{rises_along, rises_before}
 use Rattle.wire_reply_laws.proofs.FullerLabels.{key_fuller, labels_on}
 use Rattle.wire_reply_laws.proofs.AllDone.{all_done}
@@ -112,7 +112,7 @@ module _ (small large : Plan) (ps : ℕ → List Piece) (adds_reads : AddsReads 
     | inr r ↦ absurd r
   ]
 
-module _ (p : Pattern) (stages : Stages) (all : IsJudged p stages) (coding : Coding) (small : plan.Cast) (any : IsAnyCast p small)
+module _ (p : Pattern) (stages : Stages) (all : KeepsPromise p stages) (coding : Coding) (small : plan.Cast) (any : IsAnyCast p small)
     (most : HasMost (length p.roles) (λ role. most_at (least_of p role)) small) where
   -- with few processes nothing is found
   few_settled : AreFewSettled p
@@ -224,10 +224,10 @@ module _ (p : Pattern) (stages : Stages) (all : IsJudged p stages) (coding : Cod
   one_less : WaitsForOne less
   one_less y name is = let o = one_full (up y) name (kind_up y _ is) in once_there less full ps reads_more o.0 name o.1
 
-  abbrev key_less : Event → Key
+  abbrev key_less : Event → StageKey
   key_less = key_of stages (pattern_of p) coding small
 
-  abbrev key_here : Event → Key
+  abbrev key_here : Event → StageKey
   key_here = plan_key stages (pattern_of p) (cast_of cast) here
 
   key_full : (y : Event) (k : Kind) → kind full y ≡ Some k → key_here y ≡ key_of stages (pattern_of p) coding fuller y

@@ -10,12 +10,12 @@ use Rattle.wire_pattern.proofs.Lawful.{sound_is_lawful}
 use Rattle.wire_size_laws.specs.Answered.{WaitsForOne, IsAnswered}
 use Rattle.wire_size_laws.specs.Stages.{Stages}
 use Rattle.wire_size_laws.proofs.AllSizes.{staged_answered, all_wait_for_one}
-use Rattle.wire_sweep_laws.specs.Promised.{IsAnyCast}
-use Rattle.wire_sweep_laws.proofs.Few.{most_at, three}
-use Rattle.wire_reply_laws.specs.Promised.{IsJudged, AllAnswered}
+use Rattle.wire_cutoff_laws.specs.Promised.{IsAnyCast}
+use Rattle.wire_cutoff_laws.proofs.Few.{most_at, three}
+use Rattle.wire_reply_laws.specs.Promised.{KeepsPromise, AllAnswered}
 use Rattle.wire_reply_laws.proofs.Judged.{staged_well}
 
-module _ (p : Pattern) (stages : Stages) (all : IsJudged p stages) (coding : Coding) (cast : plan.Cast) (any : IsAnyCast p cast) where
+module _ (p : Pattern) (stages : Stages) (all : KeepsPromise p stages) (coding : Coding) (cast : plan.Cast) (any : IsAnyCast p cast) where
   pub answered : IsAnswered (instance_of (pattern_of p) coding cast)
   answered =
       staged_answered stages (pattern_of p) coding (length p.roles) (least_of p) (λ role. most_at (least_of p role)) (sound_is_lawful p all.sound) (λ role lt. three (least_of p role))

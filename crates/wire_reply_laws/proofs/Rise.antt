@@ -8,7 +8,7 @@ use Rattle.wire_runs.proofs.Basics.{event_within}
 use Rattle.wire_runs.proofs.Due.{coming_event, live_may}
 use Rattle.wire_runs.proofs.Histories.{after_live}
 use Rattle.wire_runs.proofs.Images.{event_at}
-use Rattle.wire_size_laws.specs.Stages.{Stages, Key, IsLess}
+use Rattle.wire_size_laws.specs.Stages.{Stages, StageKey, IsLess}
 use Rattle.wire_reply_laws.specs.Kept.{plan_key, KeepsStages}
 
 abbrev Lex : ℕ → ℕ → Type 0 → Type 0
@@ -20,29 +20,29 @@ lex_joined a b c f (inl p) (inr (s, q)) = inl (omega (arith, p, s))
 lex_joined a b c f (inr (s, p)) (inl q) = inl (omega (arith, s, q))
 lex_joined a b c f (inr (s, p)) (inr (t, q)) = inr (s ∙ t, f p q)
 
-less_joined : (a b c : Key) → IsLess a b → IsLess b c → IsLess a c
+less_joined : (a b c : StageKey) → IsLess a b → IsLess b c → IsLess a c
 less_joined a b c =
     lex_joined a.one b.one c.one (lex_joined a.two b.two c.two (lex_joined a.three b.three c.three (λ p q. omega (arith, p, q))))
 
 -- less or the same
-abbrev pub AtMost : Key → Key → Type 0
+abbrev pub AtMost : StageKey → StageKey → Type 0
 AtMost a b = IsLess a b ⊎ (a ≡ b)
 
-most_joined : (a b c : Key) → AtMost a b → AtMost b c → AtMost a c
+most_joined : (a b c : StageKey) → AtMost a b → AtMost b c → AtMost a c
 most_joined a b c (inl p) (inl q) = inl (less_joined a b c p q)
 most_joined a b c (inl p) (inr q) = inl (subst (IsLess a) q p)
 most_joined a b c (inr p) q = subst (λ k. AtMost k c) (sym p) q
 
-most_less : (a b c : Key) → AtMost a b → IsLess b c → IsLess a c
+most_less : (a b c : StageKey) → AtMost a b → IsLess b c → IsLess a c
 most_less a b c (inl p) q = less_joined a b c p q
 most_less a b c (inr p) q = subst (λ k. IsLess k c) (sym p) q
 
-less_most : (a b c : Key) → IsLess a b → AtMost b c → IsLess a c
+less_most : (a b c : StageKey) → IsLess a b → AtMost b c → IsLess a c
 less_most a b c p (inl q) = less_joined a b c p q
 less_most a b c p (inr q) = subst (IsLess a) q p
 
 module _ (stages : Stages) (pattern : Pattern) (cast : Cast) (plan : Plan) (keeps : KeepsStages stages pattern cast plan) where
-  abbrev key : Event → Key
+  abbrev key : Event → StageKey
   key = plan_key stages pattern cast plan
 
   abbrev at : ℕ → ℕ → Event

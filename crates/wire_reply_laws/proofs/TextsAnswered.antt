@@ -17,10 +17,10 @@ use Rattle.wire_runs.proofs.Images.{event_at}
 use Rattle.wire_runs.proofs.PlainRun.{plain_runs}
 use Rattle.wire_runs.proofs.PlacingKeeps.{turned, counts, kind_kept, publishes_once, placing_keeps}
 use Rattle.wire_runs.proofs.Renumbered.{embeds}
-use Rattle.wire_content.specs.Scripts.{Scripts}
-use Rattle.wire_content.specs.Planned.{plan_of}
-use Rattle.wire_script.specs.declared.Size.{Size}
-use Rattle.wire_script.specs.Reads.{Reads}
+use Rattle.wire_scripts.specs.Scripts.{Scripts}
+use Rattle.wire_scripts.specs.Planned.{plan_of}
+use Rattle.wire_reader.specs.declared.Size.{Size}
+use Rattle.wire_reader.specs.Reads.{Reads}
 use Rattle.wire_pattern.specs.Pattern.{Pattern}
 use Rattle.wire_pattern.specs.Planned.{pattern_of}
 use Rattle.wire_pattern.specs.Instances.{Cast, IsCast, cast_of, instance_text}
@@ -30,17 +30,17 @@ use Rattle.wire_size_laws.specs.Stages.{Stages}
 use Rattle.wire_size_laws.proofs.Fewer.{done_live, live_done}
 use Rattle.wire_instance_laws.specs.Reading.{IsInstance, IsOfCast}
 use Rattle.wire_instance_laws.proofs.Read.{instances_read}
-use Rattle.wire_sweep_laws.specs.Promised.{IsAnyCast}
-use Rattle.wire_sweep.specs.Texts.{HaveLeast}
-use Rattle.wire_sweep.proofs.Texts.{any_cast, texts_settled}
-use Rattle.wire_reply_laws.specs.Promised.{IsJudged, TextsAnswered}
+use Rattle.wire_cutoff_laws.specs.Promised.{IsAnyCast}
+use Rattle.wire_cutoff.specs.Texts.{HaveLeast}
+use Rattle.wire_cutoff.proofs.Texts.{any_cast, texts_settled}
+use Rattle.wire_reply_laws.specs.Promised.{KeepsPromise, TextsAnswered}
 use Rattle.wire_reply_laws.proofs.Lawful.{answered, wait_for_one}
 
 abbrev wait_name : Option Kind → ℕ
 wait_name (Some (LookupWait name)) = name
 wait_name _ = 0
 
-module _ (p : Pattern) (stages : Stages) (all : IsJudged p stages) (cast : Cast) (size : Size) (s : Scripts) (is_cast : IsCast p cast) (least : HaveLeast p.roles cast.sizes)
+module _ (p : Pattern) (stages : Stages) (all : KeepsPromise p stages) (cast : Cast) (size : Size) (s : Scripts) (is_cast : IsCast p cast) (least : HaveLeast p.roles cast.sizes)
     (reads : Reads size (instance_text p cast) (Ok s)) where
   abbrev here : Plan
   here = plan_of s

@@ -4,10 +4,10 @@ use Rattle.wire_runs.specs.Plan.{Plan, Event, Kind, kind}
 use Rattle.wire_runs.specs.Order.{Edge}
 use Rattle.wire_runs.specs.Patterns.{Pattern, Cast}
 use Rattle.wire_size_laws.specs.Answered.{WaitsForOne}
-use Rattle.wire_size_laws.specs.Stages.{Stages, Key, labels_of, is_leave, key_in, IsLess}
+use Rattle.wire_size_laws.specs.Stages.{Stages, StageKey, labels_of, is_leave, key_in, IsLess}
 
 -- the key of an event of a plan that has the processes and the calls of this cast
-abbrev pub plan_key : Stages → Pattern → Cast → Plan → Event → Key
+abbrev pub plan_key : Stages → Pattern → Cast → Plan → Event → StageKey
 plan_key stages pattern cast plan x =
     key_in stages (slice_get cast.roles x.proc) (slice_get (labels_of pattern cast x.proc) x.at) (is_leave (kind plan x)) x.proc
 

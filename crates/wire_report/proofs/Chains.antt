@@ -5,13 +5,13 @@ use Rattle.std.proofs.lemmas.Option.{slice_get_within}
 use Rattle.wire_runs.specs.Plan.{Plan, Event, event_of}
 use Rattle.wire_types.specs.declared.CallAt.{CallAt}
 use Rattle.wire_types.specs.declared.Event.{Event as CodeEvent}
-use Rattle.wire_content.specs.Scripts.{Scripts}
-use Rattle.wire_content.specs.Planned.{plan_of}
+use Rattle.wire_scripts.specs.Scripts.{Scripts}
+use Rattle.wire_scripts.specs.Planned.{plan_of}
 use Rattle.wire_runs.specs.Order.{Live, Before}
 use Rattle.wire_runs.proofs.Fates.{live_within}
 use Rattle.wire_runs.proofs.Histories.{before_live, after_live}
-use Rattle.wire_marks.specs.Clocks.{LeadsTo}
-use Rattle.wire_marks.specs.Chain.{IsShown, begins, goes_on, OneShown}
+use Rattle.wire_happens_before.specs.Clocks.{LeadsTo}
+use Rattle.wire_happens_before.specs.Chain.{IsShownChain, begins, goes_on, OneShown}
 use Rattle.wire_runs.specs.Ends.{first_event}
 use Rattle.wire_runs.proofs.Lists.{slice_get_push_cases, slice_get-map_kept}
 use Rattle.wire_report.specs.Chain.{chain_form, unordered_form, IsCallBefore, IsDeadPart, Dead, Alive, AreDead, OfOne, OfTwo}
@@ -23,7 +23,7 @@ live_on {plan} l (inl e) = subst (Live plan) e l
 live_on l (inr b) = after_live b
 
 -- each event of a shown chain is live
-all_live : {plan : Plan} {x y : Event} {chain : List Event} → IsShown plan x y chain → Live plan x → Live plan y → (k : ℕ) (z : Event) → slice_get chain k ≡ Some z → Live plan z
+all_live : {plan : Plan} {x y : Event} {chain : List Event} → IsShownChain plan x y chain → Live plan x → Live plan y → (k : ℕ) (z : Event) → slice_get chain k ≡ Some z → Live plan z
 all_live {plan} {x} begins l m k v is = elim (slice_get_push_cases [] x k v is) [
   | inl h ↦ let lt = slice_get_within [] k v h in absurd (omega (arith, lt))
   | inr last ↦ subst (Live plan) last.1 l
@@ -33,7 +33,7 @@ all_live {plan} {x} (goes_on {y} {z} {chain} s t) l m k v is = elim (slice_get_p
   | inr last ↦ subst (Live plan) last.1 m
 ]
 
-pub shown_there : (plan : Plan) (x y : Event) (chain : List CodeEvent) → IsShown plan x y (map event_of chain) → Before plan x y → AreThere plan chain
+pub shown_there : (plan : Plan) (x y : Event) (chain : List CodeEvent) → IsShownChain plan x y (map event_of chain) → Before plan x y → AreThere plan chain
 shown_there plan x y chain s b k e is =
     live_within plan (event_of e)
     (all_live s (before_live b) (after_live b) k (event_of e) (slice_get-map_kept event_of chain k e is))
@@ -69,9 +69,9 @@ text_once once json s x y a b first second = go first second
 
 -- what the chains between the two events tell
 module _ (s : Scripts) (x y : CallAt) (from to : Event) (is_from : from ≡ first_event (plan_of s) x) (is_to : to ≡ first_event (plan_of s) y) where
-  pub is_chain : (chain : List Event) → IsShown (plan_of s) from to chain → Before (plan_of s) from to → IsCallChain (plan_of s) x y chain
+  pub is_chain : (chain : List Event) → IsShownChain (plan_of s) from to chain → Before (plan_of s) from to → IsCallChain (plan_of s) x y chain
   is_chain chain shown before = record {
-    shown = subst (λ v. IsShown (plan_of s) v (first_event (plan_of s) y) chain) is_from (subst (λ w. IsShown (plan_of s) from w chain) is_to shown);
+    shown = subst (λ v. IsShownChain (plan_of s) v (first_event (plan_of s) y) chain) is_from (subst (λ w. IsShownChain (plan_of s) from w chain) is_to shown);
     before = subst (λ v. Before (plan_of s) v (first_event (plan_of s) y)) is_from (subst (λ w. Before (plan_of s) from w) is_to before);
   }
 
@@ -79,11 +79,11 @@ module _ (s : Scripts) (x y : CallAt) (from to : Event) (is_from : from ≡ firs
   is_not n before = n (subst (λ v. Before (plan_of s) v to) (sym is_from) (subst (λ w. Before (plan_of s) (first_event (plan_of s) x) w) (sym is_to) before))
 
 pub tells_before : (json : Bool) (s : Scripts) (x y : CallAt) (from to : Event) (chain : List Event) (text : List ℕ) → from ≡ first_event (plan_of s) x → to ≡ first_event (plan_of s) y
-    → IsShown (plan_of s) from to chain → Before (plan_of s) from to → text ≡ chain_form json true s chain → IsChainText json s x y text
+    → IsShownChain (plan_of s) from to chain → Before (plan_of s) from to → text ≡ chain_form json true s chain → IsChainText json s x y text
 tells_before json s x y from to chain text f t shown before e = TellsBefore chain (is_chain s x y from to f t chain shown before) e
 
 pub tells_after : (json : Bool) (s : Scripts) (x y : CallAt) (from to : Event) (chain : List Event) (text : List ℕ) → from ≡ first_event (plan_of s) x → to ≡ first_event (plan_of s) y
-    → (Before (plan_of s) from to → ⊥) → IsShown (plan_of s) to from chain → Before (plan_of s) to from → text ≡ chain_form json false s chain → IsChainText json s x y text
+    → (Before (plan_of s) from to → ⊥) → IsShownChain (plan_of s) to from chain → Before (plan_of s) to from → text ≡ chain_form json false s chain → IsChainText json s x y text
 tells_after json s x y from to chain text f t n shown before e = TellsAfter chain (is_not s x y from to f t n) (is_chain s y x to from t f chain shown before) e
 
 pub tells_unordered : (json : Bool) (s : Scripts) (x y : CallAt) (from to : Event) (calls : List CallAt) (text : List ℕ) → from ≡ first_event (plan_of s) x → to ≡ first_event (plan_of s) y

@@ -3,7 +3,7 @@ use Rattle.std.proofs.Common.{◌≡◌, ◌∙◌, ap, sym, ℕ, Bool, false, L
 use Rattle.wire_types.specs.declared.CallAt.{CallAt}
 use Rattle.wire_runs.specs.Plan.{Event}
 use Rattle.wire_types.specs.Outcome.{Ends}
-use Rattle.wire_content.specs.Scripts.{Scripts}
+use Rattle.wire_scripts.specs.Scripts.{Scripts}
 use Rattle.wire_report.specs.Chain.{chain_form, order_line, event_lines, unordered_form, dead_line}
 use Rattle.wire_report.specs.Report.{report}
 use Rattle.wire_report.specs.Unsettled.{order_text, unsettled_form}

@@ -2,7 +2,7 @@
 use Rattle.std.proofs.Common.{◌≡◌, ◌∙◌, subst, Bool, List, map, Result, Ok, Err, IfOk, Vec, Global}
 use Rattle.std.specs.Bool.{Decides}
 use Rattle.std.specs.declared.alloc.AllocError.{AllocError}
-use Rattle.wire_content.specs.Scripts.{Scripts}
+use Rattle.wire_scripts.specs.Scripts.{Scripts}
 use Rattle.wire_findings.specs.declared.finding.Finding.{Finding}
 use Rattle.wire_report.specs.declared.tally.Group.{Group}
 use Rattle.wire_report.specs.Groups.{AreGroups}

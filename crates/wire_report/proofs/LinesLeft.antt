@@ -2,7 +2,7 @@
 use Rattle.std.proofs.Common.{◌≡◌, ◌∙◌, ap, sym, refl, ℕ, ◌+◌, List, [], ◌∷◌, ◌++◌, append_assoc, append-nil, map, ◌⊎◌, inl, inr}
 use Rattle.wire_types.specs.declared.Call.{Call}
 use Rattle.wire_types.specs.declared.CallEnd.{CallEnd}
-use Rattle.wire_content.specs.Scripts.{Scripts, Process}
+use Rattle.wire_scripts.specs.Scripts.{Scripts, Process}
 use Rattle.wire_report.specs.Report.{call_line, lines_from, process_lines, all_lines}
 
 -- one more line of a process, of its call number i from 0

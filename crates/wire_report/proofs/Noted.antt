@@ -12,7 +12,7 @@ use Rattle.std.proofs.lemmas.Bool.{not-true, not-false}
 use Rattle.wire_report.specs.declared.tally.Group.{Group}
 use Rattle.wire_report.specs.declared.tally.Tally.{Tally}
 use Rattle.wire_report.specs.Groups.{group_of}
-use Rattle.wire_report.specs.Tally.{IsTally, distinct}
+use Rattle.wire_report.specs.Tally.{IsLabelTally, distinct}
 use Rattle.wire_report.proofs.Distinct.{distinct_push, any_distinct, distinct_apart, distinct_among}
 use Rattle.wire_report.proofs.Groups.{more, groups_new, groups_again}
 
@@ -39,8 +39,8 @@ module _ {K : Type 0} (same : K → K → Bool) (laws : IsEquivalence same) (x :
   length_push [] = refl
   length_push (k ∷ ks) = ap suc (length_push ks)
 
-  tally_new : (labels : List K) (old new : Tally K) → IsTally same labels old → new.labels.keys ≡ insert_key same old.labels.keys x → list_any (same x) old.labels.keys ≡ false →
-      new.groups.items ≡ old.groups.items ++ record { first = length labels; count = 1 } ∷ [] → IsTally same (labels ++ x ∷ []) new
+  tally_new : (labels : List K) (old new : Tally K) → IsLabelTally same labels old → new.labels.keys ≡ insert_key same old.labels.keys x → list_any (same x) old.labels.keys ≡ false →
+      new.groups.items ≡ old.groups.items ++ record { first = length labels; count = 1 } ∷ [] → IsLabelTally same (labels ++ x ∷ []) new
   tally_new labels old new was keys none groups =
       let fresh : list_any (same x) (distinct same labels) ≡ false = ap (list_any (same x)) (sym was.keys) ∙ none in
       let all : distinct same (labels ++ x ∷ []) ≡ distinct same labels ++ x ∷ [] = distinct_push same labels x
@@ -57,9 +57,9 @@ module _ {K : Type 0} (same : K → K → Bool) (laws : IsEquivalence same) (x :
       one_more : (n : ℕ) → n + 1 ≡ suc n
       one_more n = omega arith
 
-  tally_again : (labels : List K) (old new : Tally K) (number : ℕ) (g : Group) → IsTally same labels old → new.labels.keys ≡ insert_key same old.labels.keys x →
+  tally_again : (labels : List K) (old new : Tally K) (number : ℕ) (g : Group) → IsLabelTally same labels old → new.labels.keys ≡ insert_key same old.labels.keys x →
       list_any (same x) old.labels.keys ≡ true → number ≡ position_or_len (same x) old.labels.keys → g ≡ get_or old.groups.items number g →
-      new.groups.items ≡ set old.groups.items number (more g) → IsTally same (labels ++ x ∷ []) new
+      new.groups.items ≡ set old.groups.items number (more g) → IsLabelTally same (labels ++ x ∷ []) new
   tally_again labels old new number g was keys there at read groups =
       let any : list_any (same x) (distinct same labels) ≡ true = ap (list_any (same x)) (sym was.keys) ∙ there in
       let place : number ≡ position_or_len (same x) (distinct same labels) = at ∙ ap (position_or_len (same x)) was.keys in
@@ -84,11 +84,11 @@ module _ {K : Type 0} (same : K → K → Bool) (laws : IsEquivalence same) (x :
   one_more_taken : (labels : List K) (place : ℕ) → place < length labels → x ≡ get_or labels place x → take (suc place) labels ≡ take place labels ++ x ∷ []
   one_more_taken labels place within is = take-suc labels place x within ∙ ap (λ y. take place labels ++ y ∷ []) (sym is)
 
-  pub noted_new : (labels : List K) (place : ℕ) (is_new : Bool) (old new : Tally K) → place < length labels → x ≡ get_or labels place x → IsTally same (take place labels) old →
+  pub noted_new : (labels : List K) (place : ℕ) (is_new : Bool) (old new : Tally K) → place < length labels → x ≡ get_or labels place x → IsLabelTally same (take place labels) old →
       new.labels.keys ≡ insert_key same old.labels.keys x → is_new ≡ not (list_any (same x) old.labels.keys) → is_new ≡ true →
-      new.groups.items ≡ old.groups.items ++ record { first = place; count = 1 } ∷ [] → IsTally same (take (suc place) labels) new
+      new.groups.items ≡ old.groups.items ++ record { first = place; count = 1 } ∷ [] → IsLabelTally same (take (suc place) labels) new
   noted_new labels place is_new old new below is was keys added fresh groups =
-      subst (λ ls. IsTally same ls new) (sym (one_more_taken labels place below is))
+      subst (λ ls. IsLabelTally same ls new) (sym (one_more_taken labels place below is))
       (tally_new (take place labels) old new was keys (not-true (list_any (same x) old.labels.keys) (sym added ∙ fresh))
       (groups ∙ ap (λ n. old.groups.items ++ record { first = n; count = 1 } ∷ []) (sym (length_taken labels place below))))
     where
@@ -103,16 +103,16 @@ module _ {K : Type 0} (same : K → K → Bool) (laws : IsEquivalence same) (x :
           lower : (a b : ℕ) → suc a < suc b → a < b
           lower a b less = omega (arith, less)
 
-  pub noted_again : (labels : List K) (place number : ℕ) (g : Group) (is_new : Bool) (old new : Tally K) → place < length labels → x ≡ get_or labels place x → IsTally same (take place labels) old →
+  pub noted_again : (labels : List K) (place number : ℕ) (g : Group) (is_new : Bool) (old new : Tally K) → place < length labels → x ≡ get_or labels place x → IsLabelTally same (take place labels) old →
       new.labels.keys ≡ insert_key same old.labels.keys x → is_new ≡ not (list_any (same x) old.labels.keys) → is_new ≡ false →
       number ≡ position_or_len (same x) old.labels.keys → g ≡ get_or old.groups.items number g → new.groups.items ≡ set old.groups.items number (more g) →
-      IsTally same (take (suc place) labels) new
+      IsLabelTally same (take (suc place) labels) new
   noted_again labels place number g is_new old new below is was keys added was_there at read groups =
-      subst (λ ls. IsTally same ls new) (sym (one_more_taken labels place below is))
+      subst (λ ls. IsLabelTally same ls new) (sym (one_more_taken labels place below is))
       (tally_again (take place labels) old new number g was keys (not-false (list_any (same x) old.labels.keys) (sym added ∙ was_there)) at read groups)
 
   -- the group of a label that was seen is there
-  pub group_there : (labels : List K) (number : ℕ) (is_new : Bool) (old : Tally K) → IsTally same labels old → is_new ≡ not (list_any (same x) old.labels.keys) → is_new ≡ false →
+  pub group_there : (labels : List K) (number : ℕ) (is_new : Bool) (old : Tally K) → IsLabelTally same labels old → is_new ≡ not (list_any (same x) old.labels.keys) → is_new ≡ false →
       number ≡ position_or_len (same x) old.labels.keys → number < length old.groups.items
   group_there labels number is_new old was added was_there at =
       subst (λ n. n < length old.groups.items) (sym at)
@@ -122,7 +122,7 @@ module _ {K : Type 0} (same : K → K → Bool) (laws : IsEquivalence same) (x :
       as_many = ap length was.keys ∙ sym (length-map (distinct same labels) (group_of same labels)) ∙ sym (ap length was.groups)
 
   -- a group counts no more than was counted
-  pub count_within : (labels : List K) (place number : ℕ) (g : Group) (old : Tally K) → place < length labels → IsTally same (take place labels) old → number < length old.groups.items →
+  pub count_within : (labels : List K) (place number : ℕ) (g : Group) (old : Tally K) → place < length labels → IsLabelTally same (take place labels) old → number < length old.groups.items →
       g ≡ get_or old.groups.items number g → g.count ≤ place
   count_within labels place number g old below was there read =
       let most = get_or-le-sum_by (λ (h : Group). h.count) old.groups.items number g there in

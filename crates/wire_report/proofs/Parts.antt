@@ -2,7 +2,7 @@
 use Rattle.std.proofs.Common.{◌≡◌, ◌∙◌, ap, sym, ℕ, ◌+◌, List, ◌++◌, append_assoc, codes, decimal}
 use Rattle.wire_types.specs.declared.CallAt.{CallAt}
 use Rattle.wire_types.specs.declared.Proc.{Proc}
-use Rattle.wire_content.specs.Scripts.{Scripts, text_at, call_at}
+use Rattle.wire_scripts.specs.Scripts.{Scripts, text_at, call_at}
 use Rattle.wire_findings.specs.declared.finding.Finding.{Finding}
 use Rattle.wire_findings.specs.declared.finding.Finding.TheVariants.{KeyRace, NameRace}
 use Rattle.wire_words.specs.Words.{name_of, call_text}

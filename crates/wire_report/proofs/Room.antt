@@ -9,9 +9,9 @@ use Rattle.wire_types.specs.declared.Call.{Call}
 use Rattle.wire_types.specs.declared.Call.TheVariants.{Put, Commit, Fence, Get, GetNow, Publish, Lookup, LookupWait, Unpublish, UnpublishAll}
 use Rattle.wire_types.specs.declared.CallAt.{CallAt}
 use Rattle.wire_types.specs.declared.Proc.{Proc}
-use Rattle.wire_content.specs.Scripts.{Scripts, IsSound, call_at, text_at}
-use Rattle.wire_content.specs.Process.{Process}
-use Rattle.wire_content.specs.Map.{job_at, rank_of}
+use Rattle.wire_scripts.specs.Scripts.{Scripts, IsSound, call_at, text_at}
+use Rattle.wire_scripts.specs.Process.{Process}
+use Rattle.wire_scripts.specs.Map.{job_at, rank_of}
 use Rattle.wire_findings.specs.declared.finding.Finding.{Finding}
 use Rattle.wire_findings.specs.declared.finding.Finding.TheVariants.{Rewrite, KeyRace, NameRace}
 use Rattle.wire_words.specs.Words.{name_of, text_of_process}

@@ -6,7 +6,7 @@ use Rattle.std.proofs.lemmas.Option.{same_Some}
 use Rattle.wire_types.specs.declared.verb.Verb.{Verb}
 use Rattle.wire_types.specs.declared.verb.Verb.TheVariants.{Put, Commit, Fence, Get, GetNow, Publish, Lookup, LookupWait, Unpublish}
 use Rattle.wire_types.specs.contracts.verb.VerbPartialEq.TheImpl as verbs
-use Rattle.wire_content.proofs.SameCalls.{apart, alike, number, both, through}
+use Rattle.wire_scripts.proofs.SameCalls.{apart, alike, number, both, through}
 use Rattle.wire_report.specs.declared.label.Subject.{Subject}
 use Rattle.wire_report.specs.declared.label.Subject.TheVariants.{Rewrite, KeyRace, NameRace}
 use Rattle.wire_report.specs.declared.label.Label.{Label}

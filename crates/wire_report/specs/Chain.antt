@@ -3,11 +3,11 @@ use Rattle.std.specs.Prelude.{◌≡◌, ℕ, Bool, true, false, List, [], ◌�
 use Rattle.std.specs.List.{flat_map}
 use Rattle.wire_types.specs.declared.CallAt.{CallAt}
 use Rattle.wire_runs.specs.Plan.{Plan, Event, Kind, Arrive, Leave, kind}
-use Rattle.wire_content.specs.Scripts.{Scripts, call_at}
-use Rattle.wire_content.specs.Planned.{plan_of}
+use Rattle.wire_scripts.specs.Scripts.{Scripts, call_at}
+use Rattle.wire_scripts.specs.Planned.{plan_of}
 use Rattle.wire_runs.specs.Order.{Live, Before}
 use Rattle.wire_runs.specs.Ends.{call_of, first_event}
-use Rattle.wire_marks.specs.Chain.{IsShown}
+use Rattle.wire_happens_before.specs.Chain.{IsShownChain}
 use Rattle.wire_words.specs.Words.{verb_text_in, call_text}
 use Rattle.wire_json.specs.declared.chains.ChainStep.{ChainStep}
 use Rattle.wire_json.specs.declared.chains.Half.{Half}
@@ -72,7 +72,7 @@ IsCallBefore plan x y = Before plan (first_event plan x) (first_event plan y)
 
 -- the first event of a call is before that of another, and this chain between them is the one that is shown
 pub record IsCallChain (plan : Plan) (x y : CallAt) (chain : List Event) : Type 0 where
-  pub shown : IsShown plan (first_event plan x) (first_event plan y) chain
+  pub shown : IsShownChain plan (first_event plan x) (first_event plan y) chain
   pub before : IsCallBefore plan x y
 
 -- the call where its event isn't live, and nothing where it is

@@ -1,6 +1,6 @@
 -- How much room the lines of findings take, and the parts of a race's line (only private contracts cite this).
 use Rattle.std.specs.Prelude.{◌≡◌, ℕ, ◌^◌, ◌<◌, ◌≤◌, List, ◌++◌, Option, IfSome, codes, length}
-use Rattle.wire_content.specs.Scripts.{Scripts, text_at}
+use Rattle.wire_scripts.specs.Scripts.{Scripts, text_at}
 use Rattle.wire_types.specs.declared.CallAt.{CallAt}
 use Rattle.wire_findings.specs.declared.finding.Finding.{Finding}
 use Rattle.wire_findings.specs.declared.finding.Finding.TheVariants.{Rewrite, KeyRace, NameRace}

@@ -1,7 +1,7 @@
 -- The groups of findings.
 use Rattle.std.specs.Prelude.{◌≡◌, Bool, List, map}
 use Rattle.std.specs.Bool.{Decides}
-use Rattle.wire_content.specs.Scripts.{Scripts}
+use Rattle.wire_scripts.specs.Scripts.{Scripts}
 use Rattle.wire_findings.specs.declared.finding.Finding.{Finding}
 use Rattle.wire_report.specs.declared.tally.Group.{Group}
 use Rattle.wire_report.specs.Groups.{AreGroups}

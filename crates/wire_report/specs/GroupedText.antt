@@ -3,7 +3,7 @@ use Rattle.std.specs.Prelude.{◌≡◌, ℕ, ◌==◌, List, [], ◌++◌, Opti
 use Rattle.std.specs.Prelude.{if◌then◌else◌}
 use Rattle.std.specs.List.{flat_map}
 use Rattle.wire_types.specs.declared.CallAt.{CallAt}
-use Rattle.wire_content.specs.Scripts.{Scripts, text_at}
+use Rattle.wire_scripts.specs.Scripts.{Scripts, text_at}
 use Rattle.wire_findings.specs.declared.finding.Finding.{Finding}
 use Rattle.wire_words.specs.Words.{call_text, verb_text_in}
 use Rattle.wire_report.specs.declared.tally.Group.{Group}

@@ -6,7 +6,7 @@ use Rattle.wire_types.specs.declared.CallAt.{CallAt}
 use Rattle.wire_types.specs.declared.verb.Verb.{Verb}
 use Rattle.wire_types.specs.declared.verb.Verb.TheVariants.{Put, Commit, Fence, Get, GetNow, Publish, Lookup}
 use Rattle.wire_types.specs.declared.verb.Verb.TheVariants.{LookupWait, Unpublish}
-use Rattle.wire_content.specs.Scripts.{Scripts, call_at}
+use Rattle.wire_scripts.specs.Scripts.{Scripts, call_at}
 use Rattle.wire_findings.specs.declared.finding.Finding.{Finding}
 use Rattle.wire_findings.specs.declared.finding.Finding.TheVariants as found
 use Rattle.wire_words.specs.Words.{verb_of}

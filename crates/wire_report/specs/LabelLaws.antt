@@ -1,7 +1,7 @@
 -- What holds of the labels and of the groups of findings.
 use Rattle.std.specs.Prelude.{◌≡◌, ◌⊎◌, ◌↔◌, ℕ, List}
 use Rattle.wire_types.specs.declared.CallAt.{CallAt}
-use Rattle.wire_content.specs.Scripts.{Scripts}
+use Rattle.wire_scripts.specs.Scripts.{Scripts}
 use Rattle.wire_findings.specs.declared.finding.Finding.{Finding}
 use Rattle.wire_words.specs.Words.{verb_text_in}
 use Rattle.wire_report.specs.declared.tally.Group.{Group}

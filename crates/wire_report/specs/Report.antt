@@ -3,8 +3,8 @@ use Rattle.std.specs.Prelude.{ℕ, Bool, true, false, ◌+◌, List, [], ◌∷�
 use Rattle.wire_types.specs.declared.Call.{Call}
 use Rattle.wire_types.specs.declared.CallEnd.{CallEnd}
 use Rattle.wire_types.specs.Outcome.{Ends}
-use Rattle.wire_content.specs.Scripts.{Scripts, Process}
-use Rattle.wire_content.specs.Canonical.{process_text}
+use Rattle.wire_scripts.specs.Scripts.{Scripts, Process}
+use Rattle.wire_scripts.specs.Canonical.{process_text}
 use Rattle.wire_words.specs.Words.{verb_text, end_text}
 use Rattle.wire_json.specs.Json.{json_report}
 

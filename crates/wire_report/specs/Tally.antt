@@ -10,7 +10,7 @@ abbrev pub distinct : {K : Type 0} → (K → K → Bool) → List K → List K
 distinct same labels = fold (insert_key same) [] labels
 
 -- these labels are counted, each in the group of its own
-pub record IsTally {K : Type 0} (same : K → K → Bool) (labels : List K) (tally : Tally K) : Type 0 where
+pub record IsLabelTally {K : Type 0} (same : K → K → Bool) (labels : List K) (tally : Tally K) : Type 0 where
   pub keys : tally.labels.keys ≡ distinct same labels
   pub groups : tally.groups.items ≡ map (group_of same labels) (distinct same labels)
   pub whole : sum_by (λ (g : Group). g.count) tally.groups.items ≡ length labels

@@ -2,7 +2,7 @@
 use Rattle.std.specs.Prelude.{ℕ, Bool, true, false, List, ◌++◌, codes, decimal, length}
 use Rattle.std.specs.List.{flat_map}
 use Rattle.wire_types.specs.Outcome.{Ends}
-use Rattle.wire_content.specs.Scripts.{Scripts}
+use Rattle.wire_scripts.specs.Scripts.{Scripts}
 use Rattle.wire_words.specs.Words.{name_of}
 use Rattle.wire_json.specs.Json.{json_unsettled}
 use Rattle.wire_report.specs.Report.{report}

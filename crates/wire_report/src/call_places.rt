@@ -11,7 +11,7 @@ use wire_words::push_number;
 /// The places of the calls of a file: the name of the file, and the number of the line of each call, a row for
 /// each process.
 #[derive(Clone, Copy)]
-pub struct Places<'a> {
+pub struct SourceLines<'a> {
     pub name: &'a [u8],
     pub rows: &'a [Vec<u64>],
 }
@@ -59,7 +59,11 @@ fn row_line(row: &[u64], place: usize) -> u64
 
 /// Appends where a call stands: the name of the file, a colon, the number of the line, a colon and a space. A
 /// byte of the name that isn't printable ASCII is shown as `?`.
-pub fn push_place(out: &mut Vec<u8>, places: Places<'_>, call: CallAt) -> Result<(), AllocError>
+pub fn push_place(
+    out: &mut Vec<u8>,
+    places: SourceLines<'_>,
+    call: CallAt,
+) -> Result<(), AllocError>
     ensures { OnOk result (out.new.items ≡ out.old.items
         ++ spec.place_text places.entry.name.now (lists_of places.entry.rows.now) call) }
 {

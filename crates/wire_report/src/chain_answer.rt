@@ -5,14 +5,14 @@ ghost use Rattle.std.specs.Io.KnownBytes.{Appends};
 ghost use Rattle.wire_types.specs.declared.Fault.TheVariants.{Memory};
 ghost use Rattle.wire_types.specs.Counting.{one_more};
 ghost use Rattle.wire_types.specs.Front.{WritesFront};
-ghost use Rattle.wire_content.specs.Planned.{plan_of};
+ghost use Rattle.wire_scripts.specs.Planned.{plan_of};
 ghost use Rattle.wire_runs.specs.Ends.{calls_of};
 ghost use Rattle.wire_report.specs.Chain.{IsChainText, OneChainText};
 
 use crate::chain_parts::{ordered_text, unordered_text};
 use crate::writing::write_text;
 use std::alloc::Global;
-use wire_marks::MarkedPlan;
+use wire_happens_before::MarkedPlan;
 use wire_types::{CallAt, Fault, Sink};
 
 /// Whether a chain of events leads from the first call to the second: `before` and the events of the chain that
@@ -68,5 +68,5 @@ pub fn write_chain<S: Sink>(
 pub fn one_chain_text()
     ensures { OneChainText }
 {
-    wire_marks::one_shown();
+    wire_happens_before::one_shown();
 }

@@ -5,7 +5,7 @@ ghost use Rattle.std.specs.List.{flat_map};
 ghost use Rattle.wire_types.specs.declared.CallAt.{CallAt as CallPlace};
 ghost use Rattle.wire_types.specs.declared.Fault.TheVariants.{Memory};
 ghost use Rattle.wire_runs.specs.Plan.{event_count, event_of};
-ghost use Rattle.wire_content.specs.Planned.{plan_of};
+ghost use Rattle.wire_scripts.specs.Planned.{plan_of};
 ghost use Rattle.wire_runs.specs.Ends.{calls_of};
 ghost use Rattle.wire_plan.specs.Kinds.{kind_of};
 ghost use Rattle.wire_report.specs.Chain as spec;
@@ -13,10 +13,10 @@ ghost use Rattle.wire_report.specs.There.{AreThere};
 
 use crate::line_pieces::push_spaced;
 use std::alloc::{AllocError, Global};
-use wire_content::Scripts;
+use wire_happens_before::MarkedPlan;
 use wire_json::{ChainStep, Half, chain_json, unordered_json};
-use wire_marks::MarkedPlan;
 use wire_plan::{Kind, Plan};
+use wire_scripts::Scripts;
 use wire_types::{CallAt, Event, Fault};
 use wire_words::{push_call, verb_at};
 

@@ -7,13 +7,13 @@ ghost use Rattle.wire_types.specs.Texts.{lists_of};
 ghost use Rattle.wire_report.specs.GroupedText as spec;
 ghost use Rattle.wire_report.specs.GroupedText.{IsLocatedText};
 
-use crate::call_places::{Places, push_place};
+use crate::call_places::{SourceLines, push_place};
 use crate::grouping::group_findings;
 use crate::label::{Subject, pair_of, subject_of};
 use crate::tally::Group;
 use std::alloc::{AllocError, Global};
-use wire_content::Scripts;
 use wire_findings::{Finding, FindingList};
+use wire_scripts::Scripts;
 use wire_types::{CallAt, Fault};
 use wire_words::{push_call, push_number, verb_at};
 
@@ -72,7 +72,7 @@ fn push_counted_findings(
 /// Appends the first line of a group of so many findings.
 pub fn push_first(
     out: &mut Vec<u8>,
-    places: Places<'_>,
+    places: SourceLines<'_>,
     scripts: &Scripts,
     finding: Finding,
     count: usize,
@@ -90,7 +90,7 @@ pub fn push_first(
 /// Appends the second line of a group: the second call of its first finding.
 pub fn push_second(
     out: &mut Vec<u8>,
-    places: Places<'_>,
+    places: SourceLines<'_>,
     scripts: &Scripts,
     finding: Finding,
 ) -> Result<(), AllocError>
@@ -103,7 +103,7 @@ pub fn push_second(
 /// Appends the line of a call that goes with the one in the line above.
 pub fn push_note(
     out: &mut Vec<u8>,
-    places: Places<'_>,
+    places: SourceLines<'_>,
     scripts: &Scripts,
     call: CallAt,
 ) -> Result<(), AllocError>
@@ -118,7 +118,7 @@ pub fn push_note(
 /// Appends the lines of a group.
 fn push_group(
     out: &mut Vec<u8>,
-    places: Places<'_>,
+    places: SourceLines<'_>,
     scripts: &Scripts,
     findings: &FindingList,
     group: Group,
@@ -160,7 +160,7 @@ fn push_group_count(out: &mut Vec<u8>, groups: usize) -> Result<(), AllocError>
 /// Appends the lines of all groups.
 fn push_all_groups(
     out: &mut Vec<u8>,
-    places: Places<'_>,
+    places: SourceLines<'_>,
     scripts: &Scripts,
     findings: &FindingList,
     groups: &[Group],
@@ -177,7 +177,7 @@ fn push_all_groups(
 /// The text of groups of findings.
 fn groups_text(
     alloc: Global,
-    places: Places<'_>,
+    places: SourceLines<'_>,
     scripts: &Scripts,
     findings: &FindingList,
     groups: &[Group],
@@ -196,7 +196,7 @@ fn groups_text(
 /// A byte of the name that isn't printable ASCII is shown as `?`. The one fault is `Fault::Memory`.
 pub fn grouped_lines(
     alloc: Global,
-    places: Places<'_>,
+    places: SourceLines<'_>,
     scripts: &Scripts,
     findings: &FindingList,
 ) -> Result<Vec<u8>, Fault>

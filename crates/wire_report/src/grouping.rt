@@ -7,8 +7,8 @@ ghost use Rattle.wire_report.specs.Grouped.{AreGroupsOf};
 use crate::label::{Label, label_of};
 use crate::tally::{Group, groups_of};
 use std::alloc::{AllocError, Global};
-use wire_content::Scripts;
 use wire_findings::FindingList;
+use wire_scripts::Scripts;
 
 /// The labels of findings, in their order.
 fn labels_of(

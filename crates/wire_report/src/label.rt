@@ -1,11 +1,11 @@
 //! What findings have in common that are one mistake.
 
 ghost use Rattle.std.specs.Prelude.{◌≡◌};
-ghost use Rattle.wire_content.specs.Scripts.{call_at};
+ghost use Rattle.wire_scripts.specs.Scripts.{call_at};
 ghost use Rattle.wire_report.specs.Label as spec;
 
-use wire_content::Scripts;
 use wire_findings::Finding;
+use wire_scripts::Scripts;
 use wire_types::{Call, CallAt, Verb};
 use wire_words::{find_call, verb_of};
 

@@ -22,7 +22,7 @@ mod unsettled;
 mod witness_lines;
 mod writing;
 
-pub use call_places::{Places, line_of, push_place};
+pub use call_places::{SourceLines, line_of, push_place};
 pub use chain_answer::{chain_text, one_chain_text, write_chain};
 pub use chain_parts::{chain_steps, find_dead_calls, order_line, push_dead_line, push_event};
 pub use findings::{findings_text, push_count, push_finding};

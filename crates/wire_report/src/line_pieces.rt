@@ -1,10 +1,10 @@
 //! Pieces that the lines of several texts share.
 
 ghost use Rattle.std.specs.Prelude.{◌≡◌, ◌+◌, ◌<◌, ◌≤◌, ◌++◌, codes, length, vec_capacity, OnOk, OnErr};
-ghost use Rattle.wire_report.specs.Shown.{count_text, end_line};
+ghost use Rattle.wire_report.specs.Views.{count_text, end_line};
 
 use std::alloc::AllocError;
-use wire_content::Scripts;
+use wire_scripts::Scripts;
 use wire_types::CallEnd;
 use wire_words::{push_end, push_number};
 

@@ -5,7 +5,7 @@ ghost use Rattle.wire_report.specs.FindingLines.{race_start, AreWordsOf};
 
 use crate::findings::push_race_start;
 use std::alloc::{AllocError, Global};
-use wire_content::Scripts;
+use wire_scripts::Scripts;
 use wire_types::CallAt;
 
 /// The words of a race up to its lower call: of the race that was told last, if there was one.

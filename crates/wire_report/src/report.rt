@@ -10,8 +10,8 @@ ghost use Rattle.wire_report.specs.Report.{report, report_form};
 
 use crate::report_lines::push_all;
 use std::alloc::{AllocError, Global};
-use wire_content::Scripts;
 use wire_json::report_json;
+use wire_scripts::Scripts;
 use wire_types::{Fault, Outcome, Sink, write_out};
 use wire_words::push_number;
 

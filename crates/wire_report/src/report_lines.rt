@@ -6,7 +6,7 @@ ghost use Rattle.wire_report.specs.Report.{call_line, process_lines, all_lines};
 
 use crate::line_pieces::{push_counted, push_end_line, push_spaced};
 use std::alloc::AllocError;
-use wire_content::{Process, Scripts};
+use wire_scripts::{Process, Scripts};
 use wire_types::{Call, CallEnd};
 use wire_words::{push_process, verb};
 

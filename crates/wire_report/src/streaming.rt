@@ -16,8 +16,8 @@ use crate::findings::{findings_text, push_count, push_line_after};
 use crate::lower_call::LowerCall;
 use crate::writing::write_text;
 use std::alloc::Global;
-use wire_content::{Scripts, Texts};
 use wire_findings::{Finding, FindingList};
+use wire_scripts::{Scripts, Texts};
 use wire_types::{Fault, Sink};
 use wire_words::Chunk;
 

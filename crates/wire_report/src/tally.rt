@@ -2,7 +2,7 @@
 
 ghost use Rattle.std.specs.Prelude.{◌≡◌, ◌+◌, ◌<◌, ◌^◌, [], suc, length, take, IfOk, OnOk};
 ghost use Rattle.wire_report.specs.Groups.{AreGroups, group_cmp as the_order};
-ghost use Rattle.wire_report.specs.Tally.{IsTally};
+ghost use Rattle.wire_report.specs.Tally.{IsLabelTally};
 
 use indexmap::IndexSet;
 use std::alloc::{AllocError, Global};
@@ -46,7 +46,7 @@ fn group_cmp(x: &Group, y: &Group) -> Ordering
 impl<K: Copy + Eq + Hash + Drop> Tally<K> {
     /// A tally in which nothing is counted yet.
     fn new(alloc: Global) -> Tally<K>
-        ensures { IsTally K.eq [] result }
+        ensures { IsLabelTally K.eq [] result }
     {
         Tally {
             labels: IndexSet::new(alloc),
@@ -57,8 +57,8 @@ impl<K: Copy + Eq + Hash + Drop> Tally<K> {
     /// Counts the label at a place, after all before it.
     fn note(&mut self, labels: &[K], place: usize) -> Result<(), AllocError>
         requires within { place < length labels.now }
-        requires before { IsTally K.eq (take place labels.now) self.old }
-        ensures { OnOk result (IsTally K.eq (take (suc place) labels.now) self.new) }
+        requires before { IsLabelTally K.eq (take place labels.now) self.old }
+        ensures { OnOk result (IsLabelTally K.eq (take (suc place) labels.now) self.new) }
     {
         let (number, is_new) = self.labels.insert_full(labels[place])?;
         if is_new {
@@ -75,7 +75,7 @@ impl<K: Copy + Eq + Hash + Drop> Tally<K> {
 
     /// The groups of the labels that were seen.
     fn of(alloc: Global, labels: &[K]) -> Result<Tally<K>, AllocError>
-        ensures { IfOk result (λ tally. IsTally K.eq labels.now tally) }
+        ensures { IfOk result (λ tally. IsLabelTally K.eq labels.now tally) }
     {
         let mut tally = Tally::new(alloc);
         for place in 0..labels.len() {

@@ -6,13 +6,13 @@ ghost use Rattle.wire_types.specs.declared.Fault.TheVariants.{Memory};
 ghost use Rattle.wire_types.specs.Counting.{one_more};
 ghost use Rattle.wire_types.specs.Front.{WritesFront};
 ghost use Rattle.wire_types.specs.Outcome.{ends_of};
-ghost use Rattle.wire_content.specs.Scripts.{numbers_of};
+ghost use Rattle.wire_scripts.specs.Scripts.{numbers_of};
 ghost use Rattle.wire_report.specs.Unsettled as spec;
 
 use crate::report::push_report;
 use std::alloc::{AllocError, Global};
-use wire_content::Scripts;
 use wire_json::unsettled_json;
+use wire_scripts::Scripts;
 use wire_types::{Fault, Outcome, Proc, Sink, write_out};
 use wire_words::{push_number, push_proc};
 

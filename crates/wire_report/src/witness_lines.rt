@@ -1,16 +1,16 @@
 //! The lines that tell what shows races: how a call ends in two runs, and which races were tried.
 
 ghost use Rattle.std.specs.Prelude.{◌≡◌, ◌++◌, false, IfOk, OnOk};
-ghost use Rattle.wire_content.specs.Scripts.{numbers_of};
-ghost use Rattle.wire_report.specs.Shown as spec;
+ghost use Rattle.wire_scripts.specs.Scripts.{numbers_of};
+ghost use Rattle.wire_report.specs.Views as spec;
 
 use crate::findings::push_finding;
 use crate::line_pieces::{push_counted, push_end_line};
 use crate::unsettled::push_order;
 use std::alloc::{AllocError, Global};
-use wire_content::Scripts;
 use wire_findings::Finding;
 use wire_json::{RaceCounts, unshown_json};
+use wire_scripts::Scripts;
 use wire_types::{CallAt, CallEnd, Proc};
 use wire_words::{push_call, verb_at};
 

@@ -7,7 +7,7 @@ use lib.ListN.{get_elem?}
 use Rattle.crossbeam_deque.specs.Handles as deque
 use Rattle.wire_rounds.specs.declared.rule.Piece.{Piece}
 use Rattle.wire_rounds.specs.declared.rule.DequeView.{DequeView}
-use Rattle.wire_rounds.specs.declared.round.Round.{Round}
+use Rattle.wire_rounds.specs.declared.round.StealRound.{StealRound}
 use Rattle.wire_rounds.specs.declared.round.Pass.{Pass}
 use Rattle.wire_rounds.specs.Views.{Takes, TookWithin}
 use Rattle.wire_rounds.specs.Rules.{weigh}
@@ -88,7 +88,7 @@ within_shares own w (suc m) workers round n vs each none mine =
       ],
     )
 
-within_at : (r : Round) (p : Pass) → IsPassOf r p → (k : ℕ) → k < workers_of r → length (taken_at k (permit_views p)) ≤ length (share_at r k)
+within_at : (r : StealRound) (p : Pass) → IsPassOf r p → (k : ℕ) → k < workers_of r → length (taken_at k (permit_views p)) ≤ length (share_at r k)
 within_at r p is k less =
     let t = get_there p.permits.items k (omega (arith, is.count)) in
     let s = get_there r.thieves.items k less in

@@ -3,12 +3,12 @@ use Rattle.std.proofs.Common.{◌≡◌, ◌≢◌, ℕ, zero, suc, ◌+◌, ◌
 use mathlib.Core.Option.{some, some-ne-none, some-injective}
 use lib.ListN.{get_elem?}
 use lib.Seq.{drop-append_seam}
-use Rattle.crossbeam_deque.specs.Tasks.{Pushes, Takes as TakesAt, Finds as FindsAt, FindsFew, Forks, Merges}
+use Rattle.crossbeam_deque.specs.Tasks.{Pushes, Takes as TakesAt, TookAll as FindsAt, FindsFew, Forks, Merges}
 use Rattle.crossbeam_deque.proofs.Lists.{at_set, at_snoc}
 use Rattle.wire_rounds.specs.declared.rule.Piece.{Piece}
 use Rattle.wire_rounds.specs.declared.rule.DequeView.{DequeView}
 use Rattle.wire_rounds.specs.Views.{deque_view, all_parts, Takes}
-use Rattle.wire_rounds.specs.Rules.{weigh, total, Knows, Dealt, Puts, Finds}
+use Rattle.wire_rounds.specs.Rules.{weigh, total, Knows, Dealt, Puts, TookAll}
 
 pub weigh-append : (h : Piece → ℕ) (xs ys : List Piece) → weigh h (xs ++ ys) ≡ weigh h xs + weigh h ys
 weigh-append h [] ys = omega arith
@@ -152,7 +152,7 @@ takes port most v some_part xs items views _ _ rule at =
       ),
     )
 
-pub finds : (port : ℕ) (v : DequeView) → FindsAt Dealt port v (Finds v)
+pub finds : (port : ℕ) (v : DequeView) → FindsAt Dealt port v (TookAll v)
 finds port v views rule at whole h =
     let dealt = rule.0 in
     let gone = rule.1 in
@@ -166,7 +166,7 @@ finds port v views rule at whole h =
     ap (weigh h) ((rule.5 j u here).1 none)) in
     sym taken ∙ (rule.4 h ∙ ap (weigh h) (sym all_gone ∙ sym knew))
 
-pub finds_few : (port : ℕ) (v : DequeView) (most : ℕ) → most ≡ 0 → FindsFew Dealt most port v (Finds v)
+pub finds_few : (port : ℕ) (v : DequeView) (most : ℕ) → most ≡ 0 → FindsFew Dealt most port v (TookAll v)
 finds_few port v most none items views few rule at =
     let empty : items ≡ [] = no_items items (omega arith) in
     finds port v views (subst (λ l. Dealt l views) empty rule) at

@@ -4,7 +4,7 @@ use Rattle.std.proofs.lemmas.List.{drop-drop, drop_all}
 use Rattle.wire_rounds.specs.declared.rule.Piece.{Piece}
 use Rattle.wire_rounds.specs.declared.rule.DequeView.{DequeView}
 use Rattle.wire_rounds.specs.Views.{all_parts, Takes}
-use Rattle.wire_rounds.specs.Rules.{weigh, Finds, left_of, IsDrained}
+use Rattle.wire_rounds.specs.Rules.{weigh, TookAll, left_of, IsDrained}
 use Rattle.wire_rounds.proofs.Deals.{weigh-append, weigh_ones}
 
 pub record Draining (v w : DequeView) (before now : List Piece) : Type 0 where
@@ -43,7 +43,7 @@ pub drains_room : (v w u : DequeView) (before now : List Piece) (x : Piece) → 
 drains_room v w u before now x h t =
     let same : length w.dealt ≡ length v.dealt = ap length h.dealt in let f = h.few in let p = t.2 in let q = t.4 in omega arith
 
-pub drains_all : (v w : DequeView) (before now : List Piece) → Draining v w before now → Finds w → IsDrained v before now
+pub drains_all : (v w : DequeView) (before now : List Piece) → Draining v w before now → TookAll w → IsDrained v before now
 drains_all v w before now h f whole =
     let found = f (h.parts ∙ whole) in
     let taken : length w.taken ≡ length v.dealt = sym (weigh_ones w.taken) ∙ (found (λ _. 1) ∙ (weigh_ones w.dealt ∙ ap length h.dealt)) in

@@ -9,7 +9,7 @@ use lib.ListN.{get_elem?}
 use Rattle.wire_rounds.specs.declared.rule.Piece.{Piece}
 use Rattle.wire_rounds.specs.declared.rule.DequeView.{DequeView}
 use Rattle.wire_rounds.specs.declared.round.Pass.{Pass}
-use Rattle.wire_rounds.specs.declared.round.Round.{Round}
+use Rattle.wire_rounds.specs.declared.round.StealRound.{StealRound}
 use Rattle.wire_rounds.specs.Rules.{weigh}
 use Rattle.wire_rounds.specs.Shares.{share_of, deal_of}
 use Rattle.wire_rounds.specs.Rounds.{workers_of, own_view, permit_views}
@@ -137,18 +137,18 @@ taken_by_place h ps n len each =
     omega (arith, own, loot_by_place h ps n each, parts, split, taken_split h ps)
 
 -- of the first n deques
-abbrev pub IsShared : Round → ℕ → List Pass → Type 0
+abbrev pub IsShared : StealRound → ℕ → List Pass → Type 0
 IsShared r n ps =
     (k : ℕ) → k < n → (h : Piece → ℕ) → weigh h (taken_from k ps) + weigh h (rest_of r k ps) ≡ weigh h (share_of k (workers_of r) r.round r.ranks)
 
-shared_to : (h : Piece → ℕ) (r : Round) (n : ℕ) (ps : List Pass) → IsShared r n ps
+shared_to : (h : Piece → ℕ) (r : StealRound) (n : ℕ) (ps : List Pass) → IsShared r n ps
     → sum_to (λ k. weigh h (taken_from k ps)) n + weigh h (rest_to r n ps) ≡ shares h n (workers_of r) r.round r.ranks
 shared_to h r zero ps each = sym (shares_zero h (workers_of r) r.round r.ranks)
 shared_to h r (suc n) ps each =
     let last = each n (omega arith) h in
     omega (arith, last, shares_suc h n (workers_of r) r.round r.ranks, shared_to h r n ps (λ k less. each k (omega arith)), weigh-append h (rest_to r n ps) (rest_of r n ps))
 
-pub each_once : (r : Round) (ps : List Pass) → 0 < workers_of r → length ps ≡ workers_of r → ((i : ℕ) (p : Pass) → get_elem? ps i ≡ some p → length (permit_views p) ≡ workers_of r) →
+pub each_once : (r : StealRound) (ps : List Pass) → 0 < workers_of r → length ps ≡ workers_of r → ((i : ℕ) (p : Pass) → get_elem? ps i ≡ some p → length (permit_views p) ≡ workers_of r) →
     IsShared r (workers_of r) ps
     → IsPermutation (deal_of r.round r.ranks) (taken_by_all ps ++ rest_of_all r ps)
 each_once r ps staffed len permits shared =

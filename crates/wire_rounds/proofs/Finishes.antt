@@ -8,7 +8,7 @@ use Rattle.crossbeam_deque.specs.Handles as deque
 use Rattle.crossbeam_deque.proofs.Lists.{at_set}
 use Rattle.wire_rounds.specs.declared.rule.Piece.{Piece}
 use Rattle.wire_rounds.specs.declared.rule.DequeView.{DequeView}
-use Rattle.wire_rounds.specs.declared.round.Round.{Round}
+use Rattle.wire_rounds.specs.declared.round.StealRound.{StealRound}
 use Rattle.wire_rounds.specs.declared.round.Pass.{Pass}
 use Rattle.wire_rounds.specs.Views.{all_parts}
 use Rattle.wire_rounds.specs.Rules.{weigh, left_of, IsDrained}
@@ -22,15 +22,15 @@ use Rattle.wire_rounds.proofs.Deals.{weigh_ones}
 use Rattle.wire_rounds.proofs.EachOnce.{IsShared, each_once}
 
 -- the shares of the first workers of the round
-abbrev pub shares_to : Round → (Piece → ℕ) → ℕ → ℕ
+abbrev pub shares_to : StealRound → (Piece → ℕ) → ℕ → ℕ
 shares_to r h i = shares h i (workers_of r) r.round r.ranks
 
-pub grown : (h : Piece → ℕ) (r : Round) (i : ℕ) (p : Pass) → worker_of p ≡ i → IsPassOf r p → shares_to r h (i + 1) ≡ shares_to r h i + weigh h (own_view p).dealt
+pub grown : (h : Piece → ℕ) (r : StealRound) (i : ℕ) (p : Pass) → worker_of p ≡ i → IsPassOf r p → shares_to r h (i + 1) ≡ shares_to r h i + weigh h (own_view p).dealt
 grown h r i p at is =
     let share = is.dealt ∙ ap (λ k. share_of k (workers_of r) r.round r.ranks) at in
     shares_more h i (workers_of r) r.round r.ranks ∙ ap (λ n. shares_to r h i + n) (ap (weigh h) (sym share))
 
-pub room : (r : Round) (i : ℕ) (p : Pass) → worker_of p ≡ i → IsPassOf r p → shares_to r (λ _. 1) i + length (own_view p).dealt ≤ r.ranks
+pub room : (r : StealRound) (i : ℕ) (p : Pass) → worker_of p ≡ i → IsPassOf r p → shares_to r (λ _. 1) i + length (own_view p).dealt ≤ r.ranks
 room r i p at is =
     let w = workers_of r in
     let few : i + 1 ≤ w = omega (arith, at, is.within) in
@@ -45,18 +45,18 @@ own_there [] k p at = absurd (some-ne-none p (sym at))
 own_there (x ∷ ps) zero p at = ap (λ z. (own_view z).taken) (some-injective x p at)
 own_there (x ∷ ps) (suc k) p at = own_there ps k p at
 
-rest_more : (r : Round) (n : ℕ) (ps : List Pass) → rest_to r (n + 1) ps ≡ rest_to r n ps ++ rest_of r n ps
+rest_more : (r : StealRound) (n : ℕ) (ps : List Pass) → rest_to r (n + 1) ps ≡ rest_to r n ps ++ rest_of r n ps
 rest_more r n ps = rw add-one refl
 
 -- after the first n deques
-pub record Finishing (r : Round) (ps now : List Pass) (left : List Piece) (n : ℕ) : Type 0 where
+pub record Finishing (r : StealRound) (ps now : List Pass) (left : List Piece) (n : ℕ) : Type 0 where
   pub same_length : length now ≡ length ps
   pub left_is : left ≡ rest_to r n ps
   pub shared : IsShared r n ps
   pub fits : length left ≤ shares_to r (λ _. 1) n
   pub undone : (k : ℕ) (a b : Pass) → n ≤ k → get_elem? ps k ≡ some a → get_elem? now k ≡ some b → IsGathered ps k a b
 
-pub finishing_nothing : (r : Round) (ps now : List Pass) → AreGathered ps now → Finishing r ps now [] 0
+pub finishing_nothing : (r : StealRound) (ps now : List Pass) → AreGathered ps now → Finishing r ps now [] 0
 finishing_nothing r ps now h = record {
   same_length = h.0;
   left_is = refl;
@@ -69,7 +69,7 @@ below : (k n : ℕ) → k < n + 1 → k ≢ n → k < n
 below k n less other = omega arith
 
 -- what is known of the deque whose turn it is
-pub record Turn (r : Round) (ps : List Pass) (left : List Piece) (n : ℕ) (b : Pass) : Type 0 where
+pub record Turn (r : StealRound) (ps : List Pass) (left : List Piece) (n : ℕ) (b : Pass) : Type 0 where
   pub fifo : deque.worker_flavor b.own ≡ 0
   pub whole : (own_view b).parts ≡ all_parts
   pub taken : (own_view b).taken ≡ taken_from n ps
@@ -77,7 +77,7 @@ pub record Turn (r : Round) (ps : List Pass) (left : List Piece) (n : ℕ) (b : 
   pub grows : shares_to r (λ _. 1) (n + 1) ≡ shares_to r (λ _. 1) n + length (own_view b).dealt
   pub room : length left + length (own_view b).dealt ≤ r.ranks
 
-pub turn : (r : Round) (ps now : List Pass) (left : List Piece) (n : ℕ) (b : Pass) → ArePassesOf r ps → Finishing r ps now left n → get_elem? now n ≡ some b → Turn r ps left n b
+pub turn : (r : StealRound) (ps now : List Pass) (left : List Piece) (n : ℕ) (b : Pass) → ArePassesOf r ps → Finishing r ps now left n → get_elem? now n ≡ some b → Turn r ps left n b
 turn r ps now left n b are h at =
     let w = get_within now n b at in
     let there = get_there ps n (omega (arith, h.same_length)) in
@@ -99,7 +99,7 @@ turn r ps now left n b are h at =
       room = omega (arith, space, fits, len);
     }
 
-pub finishing_more : (r : Round) (ps now : List Pass) (left after : List Piece) (n : ℕ) (b q : Pass) → ArePassesOf r ps → Finishing r ps now left n → get_elem? now n ≡ some b
+pub finishing_more : (r : StealRound) (ps now : List Pass) (left after : List Piece) (n : ℕ) (b q : Pass) → ArePassesOf r ps → Finishing r ps now left n → get_elem? now n ≡ some b
     → IsDrained (own_view b) left after → length after ≤ length left + length (own_view b).dealt → Finishing r ps (set now n q) after (n + 1)
 finishing_more r ps now left after n b q are h at drained bound =
     let t = turn r ps now left n b are h at in
@@ -126,10 +126,10 @@ length_map : (ts : List Permit) → length (map (λ (t : Permit). deque.view t) 
 length_map [] = refl
 length_map (t ∷ ts) = ap suc (length_map ts)
 
-pub finishing_order : (r : Round) (ps now : List Pass) (left : List Piece) (n : ℕ) → ArePassesOf r ps → Finishing r ps now left n → n ≡ length ps → left ≡ rest_of_all r ps
+pub finishing_order : (r : StealRound) (ps now : List Pass) (left : List Piece) (n : ℕ) → ArePassesOf r ps → Finishing r ps now left n → n ≡ length ps → left ≡ rest_of_all r ps
 finishing_order r ps now left n are h all = h.left_is ∙ ap (λ k. rest_to r k ps) (all ∙ are.0)
 
-pub finishing_once : (r : Round) (ps now : List Pass) (left : List Piece) (n : ℕ) → ArePassesOf r ps → Finishing r ps now left n → n ≡ length ps → 0 < workers_of r
+pub finishing_once : (r : StealRound) (ps now : List Pass) (left : List Piece) (n : ℕ) → ArePassesOf r ps → Finishing r ps now left n → n ≡ length ps → 0 < workers_of r
     → IsPermutation (deal_of r.round r.ranks) (taken_by_all ps ++ left)
 finishing_once r ps now left n are h all staffed =
     subst (λ l. IsPermutation (deal_of r.round r.ranks) (taken_by_all ps ++ l)) (sym (finishing_order r ps now left n are h all))

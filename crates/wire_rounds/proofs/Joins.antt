@@ -8,12 +8,12 @@ use Rattle.crossbeam_deque.proofs.Lists.{at_set}
 use Rattle.wire_rounds.specs.declared.rule.Piece.{Piece}
 use Rattle.wire_rounds.specs.declared.rule.DequeView.{DequeView}
 use Rattle.wire_rounds.specs.declared.round.Pass.{Pass}
-use Rattle.wire_rounds.specs.declared.round.Round.{Round}
+use Rattle.wire_rounds.specs.declared.round.StealRound.{StealRound}
 use Rattle.wire_rounds.specs.Views.{deque_view}
 use Rattle.wire_rounds.specs.Rules.{joined}
 use Rattle.wire_rounds.specs.Rounds.{Owner, Permit, ArePassesOf, own_view, permit_views}
 use Rattle.wire_rounds.specs.Taken.{taken_at, stolen}
-use Rattle.wire_rounds.specs.Deques.{EachPair, SameDeque, CanTake, IsJoined, AreJoined, CanJoinAll, AreGathered}
+use Rattle.wire_rounds.specs.Deques.{EachPair, SameDeque, CanTake, TookBack, AreJoined, CanJoinAll, AreGathered}
 use Rattle.wire_rounds.proofs.Rows.{get_within, get_there, get_same, get_longer, get_last, taken_there}
 
 -- the permits of the last deques have been joined, and the first ones are left
@@ -21,7 +21,7 @@ pub record Rowing (first now : List Pass) (all left : List Permit) : Type 0 wher
   pub same_length : length now ≡ length first
   pub fewer : length left ≤ length all
   pub left_is : (k : ℕ) (t : Permit) → get_elem? left k ≡ some t → get_elem? all k ≡ some t
-  pub done : (k : ℕ) (a b : Pass) (t : Permit) → length left ≤ k → get_elem? first k ≡ some a → get_elem? all k ≡ some t → get_elem? now k ≡ some b → IsJoined a t b
+  pub done : (k : ℕ) (a b : Pass) (t : Permit) → length left ≤ k → get_elem? first k ≡ some a → get_elem? all k ≡ some t → get_elem? now k ≡ some b → TookBack a t b
   pub undone : (k : ℕ) (a b : Pass) → k < length left → get_elem? first k ≡ some a → get_elem? now k ≡ some b → b ≡ a
 
 pub rowing_nothing : (first : List Pass) (all : List Permit) → length first ≡ length all → Rowing first first all all
@@ -43,7 +43,7 @@ rowing_next first now all left t p h can at =
     let same : p ≡ a.0 = h.undone (length left) a.0 p (omega (arith, len)) a.1 at in
     subst (λ z. CanTake z t) (sym same) (can.1 (length left) a.0 t a.1 (h.left_is (length left) t (get_last left t)))
 
-pub rowing_more : (first now : List Pass) (all left : List Permit) (t : Permit) (p q : Pass) → Rowing first now all (left ++ t ∷ []) → get_elem? now (length left) ≡ some p → IsJoined p t q
+pub rowing_more : (first now : List Pass) (all left : List Permit) (t : Permit) (p q : Pass) → Rowing first now all (left ++ t ∷ []) → get_elem? now (length left) ≡ some p → TookBack p t q
     → Rowing first (set now (length left) q) all left
 rowing_more first now all left t p q h at join = record {
   same_length = length-set now (length left) q ∙ h.same_length;
@@ -55,7 +55,7 @@ rowing_more first now all left t p q h at join = record {
       let there : get_elem? now k ≡ some p = subst (λ j. get_elem? now j ≡ some p) (sym is.0) at in
       let pa : p ≡ a = h.undone k a p (omega (arith, is.0, len)) x there in
       let tu : t ≡ u = get_same all k t u (h.left_is k t (subst (λ j. get_elem? (left ++ t ∷ []) j ≡ some t) (sym is.0) (get_last left t))) y in
-      subst (λ v. IsJoined a u v) is.1 (subst (λ v. IsJoined a v q) tu (subst (λ v. IsJoined v t q) pa join)))
+      subst (λ v. TookBack a u v) is.1 (subst (λ v. TookBack a v q) tu (subst (λ v. TookBack v t q) pa join)))
       (λ (is : (k ≢ length left) × (get_elem? now k ≡ some b)). let n = is.0 in h.done k a b u (omega (arith, len)) x y is.1) (at_set now (length left) k q b z);
   undone = λ k a b early x y.
       let len = length-append left (t ∷ []) in
@@ -204,7 +204,7 @@ joining_ends first now n h all = (
 )
 
 -- the passes of a round can all be joined
-pub passes_can_join : (r : Round) (ps : List Pass) → ArePassesOf r ps → CanJoinAll ps
+pub passes_can_join : (r : StealRound) (ps : List Pass) → ArePassesOf r ps → CanJoinAll ps
 passes_can_join r ps are i p at =
     let is = (are.1 i p at).1 in (
       are.0 ∙ sym is.count,

@@ -7,12 +7,12 @@ use Rattle.crossbeam_deque.specs.Handles as deque
 use Rattle.crossbeam_deque.proofs.Lists.{at_set}
 use Rattle.wire_rounds.specs.declared.rule.Piece.{Piece}
 use Rattle.wire_rounds.specs.declared.rule.DequeView.{DequeView}
-use Rattle.wire_rounds.specs.declared.round.Round.{Round}
+use Rattle.wire_rounds.specs.declared.round.StealRound.{StealRound}
 use Rattle.wire_rounds.specs.declared.round.Pass.{Pass}
 use Rattle.wire_rounds.specs.declared.round.Take.{Take}
 use Rattle.wire_rounds.specs.declared.round.Take.TheVariants.{Got, Empty, Again}
 use Rattle.wire_rounds.specs.Views.{Takes, IsRising, TookRising, TookWithin}
-use Rattle.wire_rounds.specs.Rules.{Finds}
+use Rattle.wire_rounds.specs.Rules.{TookAll}
 use Rattle.wire_rounds.specs.Rounds.{Owner, Permit, IsPassOf, IsPermit, workers_of, worker_of, own_view, MatchTake, TookAt, TookNone}
 use Rattle.wire_rounds.specs.Deques.{SameDeque}
 use Rattle.wire_rounds.proofs.Rising.{share_rises, rises_more}
@@ -28,7 +28,7 @@ share_of_take v w x h = (ap (λ (y : DequeView). y.parts) h.5, ap (λ (y : Deque
 share_of_same : (v w : DequeView) → w ≡ v → SameShare v w
 share_of_same v w h = (ap (λ (y : DequeView). y.parts) h, ap (λ (y : DequeView). y.dealt) h, λ _ rises. subst TookRising (sym h) rises, subst TookWithin (sym h))
 
-pub own_share : (r : Option Piece) (v w : DequeView) → MatchOption r ((w ≡ v) × Finds v) (λ x. Takes v (x ∷ []) w) → SameShare v w
+pub own_share : (r : Option Piece) (v w : DequeView) → MatchOption r ((w ≡ v) × TookAll v) (λ x. Takes v (x ∷ []) w) → SameShare v w
 own_share None v w h = share_of_same v w h.0
 own_share (Some x) v w h = share_of_take v w x h
 
@@ -37,7 +37,7 @@ permit_share (Got x) v w h = share_of_take v w x h
 permit_share Empty v w h = share_of_same v w h
 permit_share Again v w h = share_of_same v w h
 
-pub with_own : (r : Round) (p : Pass) (o : Owner) → IsPassOf r p → SameDeque p.own o → SameShare (own_view p) (deque.worker_view o)
+pub with_own : (r : StealRound) (p : Pass) (o : Owner) → IsPassOf r p → SameDeque p.own o → SameShare (own_view p) (deque.worker_view o)
     → IsPassOf r (record { worker = p.worker; own = o; permits = p.permits })
 with_own r p o is same share = record {
   within = is.within;
@@ -54,7 +54,7 @@ with_own r p o is same share = record {
   fifos = is.fifos;
 }
 
-pub with_permit : (r : Round) (p : Pass) (k : ℕ) (t u : Permit) → IsPassOf r p → k ≢ worker_of p → get_elem? p.permits.items k ≡ some t → deque.SamePass t u → SameShare (deque.view t) (deque.view u)
+pub with_permit : (r : StealRound) (p : Pass) (k : ℕ) (t u : Permit) → IsPassOf r p → k ≢ worker_of p → get_elem? p.permits.items k ≡ some t → deque.SamePass t u → SameShare (deque.view t) (deque.view u)
     → IsPassOf r (record { worker = p.worker; own = p.own; permits = with_item p.permits k u })
 with_permit r p k t u is other at same share = record {
   within = is.within;

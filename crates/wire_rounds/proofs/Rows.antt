@@ -6,7 +6,7 @@ use Rattle.crossbeam_deque.specs.Handles as deque
 use Rattle.crossbeam_deque.proofs.Lists.{at_set}
 use Rattle.wire_rounds.specs.declared.round.Pass.{Pass}
 use Rattle.wire_rounds.specs.Rounds.{Permit}
-use Rattle.wire_rounds.specs.Deques.{EachPair, IsCut, IsPermitOf}
+use Rattle.wire_rounds.specs.Deques.{EachPair, GaveOne, IsPermitOf}
 use Rattle.wire_rounds.specs.Taken.{taken_at}
 
 -- what stands in a longer list at a place
@@ -36,10 +36,10 @@ get_same xs k x y a b = some-injective x y (sym a ∙ b)
 pub record RowSoFar (before now : List Pass) (row : List Permit) (i : ℕ) : Type 0 where
   pub same_length : length now ≡ length before
   pub so_far : length row ≡ i
-  pub cut : (k : ℕ) (a b : Pass) → get_elem? before k ≡ some a → get_elem? now k ≡ some b → (k < i → IsCut a b) × (i ≤ k → b ≡ a)
+  pub cut : (k : ℕ) (a b : Pass) → get_elem? before k ≡ some a → get_elem? now k ≡ some b → (k < i → GaveOne a b) × (i ≤ k → b ≡ a)
   pub permits : (k : ℕ) (a : Pass) (t : Permit) → get_elem? before k ≡ some a → get_elem? row k ≡ some t → IsPermitOf a.own t
 
-pub row_goes_on : (before now : List Pass) (row : List Permit) (i : ℕ) (p q : Pass) (t : Permit) → RowSoFar before now row i → get_elem? now i ≡ some p → IsCut p q → IsPermitOf p.own t
+pub row_goes_on : (before now : List Pass) (row : List Permit) (i : ℕ) (p q : Pass) (t : Permit) → RowSoFar before now row i → get_elem? now i ≡ some p → GaveOne p q → IsPermitOf p.own t
     → RowSoFar before (set now i q) (row ++ t ∷ []) (i + 1)
 row_goes_on before now row i p q t h at cut permit = record {
   same_length = length-set now i q ∙ h.same_length;
@@ -49,7 +49,7 @@ row_goes_on before now row i p q t h at cut permit = record {
       let there : get_elem? now k ≡ some p = subst (λ j. get_elem? now j ≡ some p) (sym is.0) at in
       let e : i ≤ k = omega (arith, is.0) in
       let pa : p ≡ a = (h.cut k a p x there).1 e in
-      ((λ _. subst (λ z. IsCut z b) pa (subst (IsCut p) is.1 cut)), λ more. absurd (omega (arith, is.0))))
+      ((λ _. subst (λ z. GaveOne z b) pa (subst (GaveOne p) is.1 cut)), λ more. absurd (omega (arith, is.0))))
       (λ (is : (k ≢ i) × (get_elem? now k ≡ some b)).
       let old = h.cut k a b x is.1 in
       let n = is.0 in
@@ -64,7 +64,7 @@ row_goes_on before now row i p q t h at cut permit = record {
       subst (λ z. IsPermitOf z.own u) pa (subst (IsPermitOf p.own) is.1 permit)) (get_snoc row t u k y);
 }
 
-pub row_ends : (before now : List Pass) (row : List Permit) (i : ℕ) → RowSoFar before now row i → i ≡ length before → EachPair IsCut before now × EachPair (λ p t. IsPermitOf p.own t) before row
+pub row_ends : (before now : List Pass) (row : List Permit) (i : ℕ) → RowSoFar before now row i → i ≡ length before → EachPair GaveOne before now × EachPair (λ p t. IsPermitOf p.own t) before row
 row_ends before now row i h all = (
   (sym h.same_length, λ k a b x y. (h.cut k a b x y).0 (let w = get_within before k a x in omega arith)),
   (sym (h.so_far ∙ all), h.permits),

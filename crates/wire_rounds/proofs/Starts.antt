@@ -5,13 +5,13 @@ use lib.ListN.{get_elem?}
 use Rattle.crossbeam_deque.specs.Handles as deque
 use Rattle.crossbeam_deque.proofs.Lists.{at_set}
 use Rattle.wire_rounds.specs.declared.rule.DequeView.{DequeView}
-use Rattle.wire_rounds.specs.declared.round.Round.{Round}
+use Rattle.wire_rounds.specs.declared.round.StealRound.{StealRound}
 use Rattle.wire_rounds.specs.declared.round.Pass.{Pass}
 use Rattle.wire_rounds.specs.Views.{deque_view, all_parts}
 use Rattle.wire_rounds.specs.Shares.{share_of}
 use Rattle.wire_rounds.specs.Rounds.{Thief, Permit, ArePassesOf, workers_of, worker_of, own_view, permit_views}
 use Rattle.wire_rounds.specs.Taken.{all_of, taken_by, taken_by_all}
-use Rattle.wire_rounds.specs.Deques.{EachPair, SameDeque, IsCut, IsPermitOf, IsStart, Made, Cutting}
+use Rattle.wire_rounds.specs.Deques.{EachPair, SameDeque, GaveOne, IsPermitOf, IsStart, Made, Cutting}
 use Rattle.wire_rounds.proofs.Rows.{get_snoc, get_within, get_there, get_same}
 use Rattle.wire_rounds.proofs.Rising.{rises_nothing}
 use Rattle.wire_rounds.proofs.Bounds.{within_nothing}
@@ -48,7 +48,7 @@ permit_kept first now n ts h each = (
       ((is.0.0 ∙ ap (λ q. q.0) same.1.0, is.0.1 ∙ ap (λ q. q.1) same.1.0, is.0.2, is.0.3), is.1 ∙ ap (λ d. deque_view 1 0 d []) dealt),
 )
 
-pub cutting_more : (first now next : List Pass) (n : ℕ) (p q : Pass) → Cutting first now n → EachPair IsCut now next → EachPair (λ p t. IsPermitOf p.own t) now q.permits.items
+pub cutting_more : (first now next : List Pass) (n : ℕ) (p q : Pass) → Cutting first now n → EachPair GaveOne now next → EachPair (λ p t. IsPermitOf p.own t) now q.permits.items
     → get_elem? next n ≡ some p → q.worker ≡ p.worker → q.own ≡ p.own → Cutting first (set next n q) (n + 1)
 cutting_more first now next n p q h cut row at w o = record {
   same_length = length-set next n q ∙ (sym cut.0 ∙ h.same_length);
@@ -141,7 +141,7 @@ nothing_by_all (p ∷ ps) none = ap (λ l. l ++ taken_by_all ps) (nothing_by p (
 pub dealt_fresh : (first now : List Pass) (n : ℕ) → Cutting first now n → n ≡ length first → taken_by_all now ≡ []
 dealt_fresh first now n h all = nothing_by_all now (dealt_nothing first now n h all)
 
-pub dealt_passes : (r : Round) (first now : List Pass) (n : ℕ) → Made r.round r.ranks (workers_of r) first r.thieves.items n → Cutting first now n → n ≡ workers_of r → workers_of r < 2 ^ 64 →
+pub dealt_passes : (r : StealRound) (first now : List Pass) (n : ℕ) → Made r.round r.ranks (workers_of r) first r.thieves.items n → Cutting first now n → n ≡ workers_of r → workers_of r < 2 ^ 64 →
     ArePassesOf r now
 dealt_passes r first now n made h all few = (
   h.same_length ∙ (made.passes_so_far ∙ all),

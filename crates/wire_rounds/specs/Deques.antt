@@ -33,8 +33,8 @@ IsPermitOf own t =
     deque.IsPassOf (deque.worker_deque own) t × (deque.view t ≡ deque_view 1 0 (deque.worker_view own).dealt [])
 
 -- the pass gave one part away, and is the same otherwise
-abbrev pub IsCut : Pass → Pass → Type 0
-IsCut a b =
+abbrev pub GaveOne : Pass → Pass → Type 0
+GaveOne a b =
     (b.worker ≡ a.worker) × SameDeque a.own b.own × (b.permits ≡ a.permits)
     × (own_view b ≡ deque_view ((own_view a).parts - 1) (own_view a).below (own_view a).dealt (own_view a).taken)
 
@@ -57,14 +57,14 @@ abbrev pub CanTake : Pass → Permit → Type 0
 CanTake p t = deque.IsPassOf (deque.worker_deque p.own) t × ((deque.view t).parts ≡ 1) × (0 < (own_view p).parts)
 
 -- the permit was joined into the deque of the pass
-abbrev pub IsJoined : Pass → Permit → Pass → Type 0
-IsJoined a t b = (b.worker ≡ a.worker) × SameDeque a.own b.own × (b.permits ≡ a.permits) × (own_view b ≡ joined (own_view a) (deque.view t))
+abbrev pub TookBack : Pass → Permit → Pass → Type 0
+TookBack a t b = (b.worker ≡ a.worker) × SameDeque a.own b.own × (b.permits ≡ a.permits) × (own_view b ≡ joined (own_view a) (deque.view t))
 
 -- the permits were joined into the deques, each into its own
 abbrev pub AreJoined : List Pass → List Permit → List Pass → Type 0
 AreJoined old ts new =
     (length new ≡ length old)
-    × ((k : ℕ) (a b : Pass) (t : Permit) → get_elem? old k ≡ some a → get_elem? ts k ≡ some t → get_elem? new k ≡ some b → IsJoined a t b)
+    × ((k : ℕ) (a b : Pass) (t : Permit) → get_elem? old k ≡ some a → get_elem? ts k ≡ some t → get_elem? new k ≡ some b → TookBack a t b)
 
 -- each pass has a permit of each deque
 abbrev pub CanJoinAll : List Pass → Type 0

@@ -9,7 +9,7 @@ use Rattle.std.specs.declared.alloc.Global.{Global}
 use Rattle.wire_rounds.specs.declared.rule.Piece.{Piece}
 use Rattle.wire_rounds.specs.declared.rule.DequeView.{DequeView}
 use Rattle.wire_rounds.specs.declared.rule.DequeRule.{DequeRule}
-use Rattle.wire_rounds.specs.declared.round.Round.{Round}
+use Rattle.wire_rounds.specs.declared.round.StealRound.{StealRound}
 use Rattle.wire_rounds.specs.declared.round.Pass.{Pass}
 use Rattle.wire_rounds.specs.declared.round.Take.{Take}
 use Rattle.wire_rounds.specs.declared.round.Take.TheVariants.{Got, Empty, Again}
@@ -28,32 +28,32 @@ Thief = Stealer Piece Global DequeView DequeRule
 abbrev pub Permit : Type 0
 Permit = deque.Pass Piece DequeView Global
 
-abbrev pub round_of : Round → ℕ
+abbrev pub round_of : StealRound → ℕ
 round_of r = r.round
 
 -- how many processes have a piece
-abbrev pub ranks_of : Round → ℕ
+abbrev pub ranks_of : StealRound → ℕ
 ranks_of r = r.ranks
 
-abbrev pub workers_of : Round → ℕ
+abbrev pub workers_of : StealRound → ℕ
 workers_of r = length r.thieves.items
 
 abbrev pub worker_of : Pass → ℕ
 worker_of p = p.worker
 
-abbrev pub IsDealOf : ℕ → ℕ → ℕ → Round → Type 0
+abbrev pub IsDealOf : ℕ → ℕ → ℕ → StealRound → Type 0
 IsDealOf round ranks workers r = (round_of r ≡ round) × (ranks_of r ≡ ranks) × (workers_of r ≡ workers)
 
 -- all pieces of the round, each once, in process order
-abbrev pub pieces_of : Round → List Piece
+abbrev pub pieces_of : StealRound → List Piece
 pieces_of r = deal_of (round_of r) (ranks_of r)
 
 -- it has the number of the round, and its process is one of those that have a piece
-abbrev pub IsPieceOf : Round → Piece → Type 0
+abbrev pub IsPieceOf : StealRound → Piece → Type 0
 IsPieceOf r x = (x.round ≡ round_of r) × (x.rank.number < ranks_of r)
 
 -- the pieces that are dealt to worker k
-abbrev pub share_at : Round → ℕ → List Piece
+abbrev pub share_at : StealRound → ℕ → List Piece
 share_at r k = share_of k (workers_of r) (round_of r) (ranks_of r)
 
 -- what the pass knows of its own deque
@@ -65,7 +65,7 @@ abbrev pub permit_views : Pass → List DequeView
 permit_views p = map (λ (t : Permit). deque.view t) p.permits.items
 
 -- a permit of deque k of the round. What was taken with it rises, and is no more than was dealt
-abbrev pub IsPermit : Round → ℕ → Thief → Permit → Type 0
+abbrev pub IsPermit : StealRound → ℕ → Thief → Permit → Type 0
 IsPermit r k s t =
     deque.IsPassOf (deque.stealer_deque s) t × ((deque.view t).parts ≡ 1)
     × ((deque.view t).dealt ≡ share_at r k)
@@ -74,7 +74,7 @@ IsPermit r k s t =
 -- A pass of the round. It has the deque of its worker, with all parts that the permits of that deque don't have, and a
 -- permit for each deque. Each of these knows what was dealt to its deque, and what the pass took of it rises and is no
 -- more than that. With the permit of its own deque it took nothing.
-pub record IsPassOf (r : Round) (p : Pass) : Type 0 where
+pub record IsPassOf (r : StealRound) (p : Pass) : Type 0 where
   pub within : worker_of p < workers_of r
   pub few : workers_of r < 2 ^ 64
   pub own : (s : Thief) → get_elem? r.thieves.items (worker_of p) ≡ some s → deque.worker_deque p.own ≡ deque.stealer_deque s
@@ -89,7 +89,7 @@ pub record IsPassOf (r : Round) (p : Pass) : Type 0 where
   pub fifos : (k : ℕ) (s : Thief) → get_elem? r.thieves.items k ≡ some s → deque.stealer_flavor s ≡ 0
 
 -- all passes of the round, in the order of their workers
-abbrev pub ArePassesOf : Round → List Pass → Type 0
+abbrev pub ArePassesOf : StealRound → List Pass → Type 0
 ArePassesOf r ps =
     (length ps ≡ workers_of r) × ((k : ℕ) (p : Pass) → get_elem? ps k ≡ some p → (worker_of p ≡ k) × IsPassOf r p)
 

@@ -36,8 +36,8 @@ abbrev pub Puts : DequeView → List Piece → DequeView → Type 0
 Puts v xs w = w ≡ deque_view v.parts v.below (v.dealt ++ xs) v.taken
 
 -- an empty deque: a pass with all parts took all that was dealt
-abbrev pub Finds : DequeView → Type 0
-Finds v = v.parts ≡ all_parts → (h : Piece → ℕ) → weigh h v.taken ≡ weigh h v.dealt
+abbrev pub TookAll : DequeView → Type 0
+TookAll v = v.parts ≡ all_parts → (h : Piece → ℕ) → weigh h v.taken ≡ weigh h v.dealt
 
 -- a join: one pass has what both had
 abbrev pub joined : DequeView → DequeView → DequeView

@@ -2,7 +2,7 @@
 use Rattle.std.specs.Prelude.{◌≡◌, ℕ, zero, suc, ◌+◌, ◌≤◌, List, [], ◌∷◌, ◌++◌, length, map, drop}
 use Rattle.wire_rounds.specs.declared.rule.Piece.{Piece}
 use Rattle.wire_rounds.specs.declared.rule.DequeView.{DequeView}
-use Rattle.wire_rounds.specs.declared.round.Round.{Round}
+use Rattle.wire_rounds.specs.declared.round.StealRound.{StealRound}
 use Rattle.wire_rounds.specs.declared.round.Pass.{Pass}
 use Rattle.wire_rounds.specs.Rounds.{ranks_of, workers_of, share_at, own_view, permit_views, IsPassOf}
 
@@ -25,7 +25,7 @@ TookOneMore old new = length (taken_by new) ≡ length (taken_by old) + 1
 
 -- no pass of a round has taken more pieces than the round has
 abbrev pub TakesAreBounded : Type 0
-TakesAreBounded = (r : Round) (p : Pass) → IsPassOf r p → length (taken_by p) ≤ ranks_of r
+TakesAreBounded = (r : StealRound) (p : Pass) → IsPassOf r p → length (taken_by p) ≤ ranks_of r
 
 -- all that the passes took, pass by pass
 abbrev pub taken_by_all : List Pass → List Piece
@@ -48,13 +48,13 @@ abbrev pub taken_from : ℕ → List Pass → List Piece
 taken_from k ps = taken_at k (map (λ (p : Pass). own_view p) ps) ++ stolen k ps
 
 -- What is left of deque k. Every take is at the front, so it is the end of what was dealt.
-abbrev pub rest_of : Round → ℕ → List Pass → List Piece
+abbrev pub rest_of : StealRound → ℕ → List Pass → List Piece
 rest_of r k ps = drop (length (taken_from k ps)) (share_at r k)
 
 -- what is left of the first n deques, deque by deque
-abbrev pub rest_to : Round → ℕ → List Pass → List Piece
+abbrev pub rest_to : StealRound → ℕ → List Pass → List Piece
 rest_to r zero ps = []
 rest_to r (suc n) ps = rest_to r n ps ++ rest_of r n ps
 
-abbrev pub rest_of_all : Round → List Pass → List Piece
+abbrev pub rest_of_all : StealRound → List Pass → List Piece
 rest_of_all r ps = rest_to r (workers_of r) ps

@@ -5,10 +5,10 @@ ghost use Rattle.std.specs.Prelude.{vec_capacity, vec_len};
 ghost use mathlib.Core.Option.{some};
 ghost use lib.ListN.{get_elem?};
 ghost use Rattle.wire_rounds.specs.Views.{deque_view, Takes};
-ghost use Rattle.wire_rounds.specs.Rules.{joined, Finds, IsDrained};
+ghost use Rattle.wire_rounds.specs.Rules.{joined, TookAll, IsDrained};
 ghost use Rattle.wire_rounds.specs.Shares.{share_of};
 ghost use Rattle.wire_rounds.specs.Rounds.{own_view, MatchTake};
-ghost use Rattle.wire_rounds.specs.Deques.{EachPair, IsFilled, IsCut, IsPermitOf, SameDeque, IsStart, Made, Cutting};
+ghost use Rattle.wire_rounds.specs.Deques.{EachPair, IsFilled, GaveOne, IsPermitOf, SameDeque, IsStart, Made, Cutting};
 ghost use Rattle.wire_rounds.specs.Deques.{CanTake, AreJoined, CanJoinAll, AreGathered};
 ghost use Rattle.crossbeam_deque.specs.Handles as deque;
 ghost use Rattle.crossbeam_deque.specs.Handles.{view, SamePass, stealer_deque, stealer_flavor, worker_deque};
@@ -61,7 +61,7 @@ fn cut_permit(own: &mut Owner) -> Permit
 /// Cuts one permit of each deque from the passes.
 fn cut_permits(alloc: Global, passes: &mut Vec<Pass>) -> Result<Vec<Permit>, Fault>
     requires { (k : ℕ) (p : Pass) → get_elem? passes.old.items k ≡ some p → 1 < (own_view p).parts }
-    ensures cut { OnOk result (EachPair IsCut passes.old.items passes.new.items) }
+    ensures cut { OnOk result (EachPair GaveOne passes.old.items passes.new.items) }
     ensures permits { IfOk result (λ permits. EachPair (λ p t. IsPermitOf p.own t) passes.old.items permits.items) }
     ensures memory { IsOkUnless result Fault.Memory }
 {
@@ -133,7 +133,7 @@ pub(crate) fn take_front(own: &mut Owner) -> Option<Piece>
     requires fifo { worker_flavor own.old ≡ 0 }
     requires part { 0 < (worker_view own.old).parts }
     ensures same { SameDeque own.old own.new }
-    ensures took { MatchOption result ((worker_view own.new ≡ worker_view own.old) × Finds (worker_view own.old))
+    ensures took { MatchOption result ((worker_view own.new ≡ worker_view own.old) × TookAll (worker_view own.old))
         (λ x. Takes (worker_view own.old) (x ∷ []) (worker_view own.new)) }
 {
     own.pop_as::<TakesOne>()

@@ -4,10 +4,10 @@
 #![tactic(auto)]
 
 mod deques;
-mod law;
+mod laws;
 mod round;
 mod rule;
 
-pub use law::{deal_rises, takes_are_bounded};
-pub use round::{Pass, Round, Take};
+pub use laws::{deal_rises, takes_are_bounded};
+pub use round::{Pass, StealRound, Take};
 pub use rule::Piece;

@@ -9,7 +9,7 @@ use wire_types::Fault;
 
 /// One round of work: a deque for each worker, from which the others steal. It is shared by all workers.
 #[derive(Drop)]
-pub struct Round {
+pub struct StealRound {
     pub(crate) round: u64,
     pub(crate) ranks: u32,
     pub(crate) thieves: Vec<Thief>,
@@ -47,7 +47,7 @@ pub enum Take {
     Again,
 }
 
-impl Round {
+impl StealRound {
     ghost use Rattle.std.specs.Prelude.{◌≡◌, ◌≢◌, ◌<◌, ◌++◌, [], IfOk, IfSome, IsOkUnless, MatchOption};
     ghost use Rattle.std.specs.List.{All};
     ghost use Rattle.std.specs.List.Sorted.{IsPermutation};
@@ -64,7 +64,7 @@ impl Round {
         round: u64,
         ranks: u32,
         workers: usize,
-    ) -> Result<(Round, Vec<Pass>), Fault>
+    ) -> Result<(StealRound, Vec<Pass>), Fault>
         requires { 0 < workers }
         ensures deal { IfOk result (λ r. IsDealOf round ranks workers r.0) }
         ensures passes { IfOk result (λ r. ArePassesOf r.0 r.1.items) }
@@ -74,7 +74,7 @@ impl Round {
         let left = Vec::with_capacity(alloc, ranks as usize)?;
         let (mut passes, thieves) = start_all(alloc, round, ranks, workers)?;
         give_permits(alloc, &mut passes)?;
-        let dealt = Round {
+        let dealt = StealRound {
             round,
             ranks,
             thieves,
@@ -131,7 +131,7 @@ impl Round {
     {
         let mut passes = passes;
         join_all(&mut passes);
-        let Round {
+        let StealRound {
             round: _,
             ranks: _,
             thieves: _,

@@ -2,7 +2,7 @@
 
 ghost use Rattle.std.specs.Prelude.{◌≡◌, ◌-◌, ◌++◌, []};
 ghost use Rattle.wire_rounds.specs.Views.{deque_view, all_parts, Takes};
-ghost use Rattle.wire_rounds.specs.Rules.{Dealt, Puts, Finds};
+ghost use Rattle.wire_rounds.specs.Rules.{Dealt, Puts, TookAll};
 
 use crossbeam_deque::protocol::{Join, Outcome, Protocol, Split};
 use crossbeam_deque::{Pass, Stealer, Worker};
@@ -70,7 +70,7 @@ pub struct TakesOne;
 impl Outcome<Piece, DequeView> for TakesOne {
     ghost then = { Takes };
 
-    ghost empty = { Finds };
+    ghost empty = { TookAll };
 }
 
 /// The end of a deque at which its own worker pushes and pops.

@@ -7,7 +7,7 @@ use Rattle.wire_runs.specs.Puts.{own, stored, put_count, scope_in, scope_of}
 use Rattle.wire_runs.specs.Fences.{is_member, is_full}
 use Rattle.wire_runs.specs.Order.{Stores, IsArrival, Live, Before}
 use Rattle.wire_runs.specs.Races.{IsRewrite, IsUnordered, IsPutOnce, IsNodeRace, Delivery, ByFence, ByGet, IsOf, FenceDelivers, GetDelivers, Delivers, ComesSurely, IsDeliveryRace, IsNameRace, IsSettled}
-use Rattle.wire_runs.specs.Embeddings.{Renaming, image, image_kind, IsNameOf, IsSetOf, IsEmbedding, IsKept, EmbeddingsKeepFindings}
+use Rattle.wire_runs.specs.Embeddings.{Renaming, image, image_kind, IsNameOf, IsSetOf, IsEmbedding, IsKeptDelivery, EmbeddingsKeepFindings}
 use Rattle.wire_runs.proofs.Basics.{list_all_at_member, arrivals_step, event_within, process_within}
 use Rattle.wire_runs.proofs.Brought.{nth_arrival}
 use Rattle.wire_runs.proofs.Histories.{before_live}
@@ -238,7 +238,7 @@ module _ (to : Renaming) (small large : Plan) (e : IsEmbedding to small large) w
         }
 
   delivery_race_back : (source get : Event) (owner key : ℕ) → (race : IsDeliveryRace large source (image to get) (to.process owner) key) → same_node small owner get.proc ≡ false →
-      IsKept to small large owner (node_of small get.proc) race.delivery → IsSettled small → ⊥
+      IsKeptDelivery to small large owner (node_of small get.proc) race.delivery → IsSettled small → ⊥
   delivery_race_back source get owner key race away kept settled =
       let k = event_back to small large e get _ race.is in
       let g = now_back to k.0 (to.process owner) key k.2 in
@@ -254,7 +254,7 @@ module _ (to : Renaming) (small large : Plan) (e : IsEmbedding to small large) w
       go : (own_key : ℕ) → kind small get ≡ Some (GetNow owner own_key) → Live large (image to get) →
           ((d : Delivery) → Delivers small owner own_key (node_of small get.proc) d → ((z : Event) → IsOf small d z → Before small get z → ⊥) → ⊥) → (d : Delivery) →
           Delivers large (to.process owner) (to.key own_key) (node_of large (to.process get.proc)) d → ((z : Event) → IsOf large d z → Before large (image to get) z → ⊥) →
-          IsKept to small large owner (node_of small get.proc) d → ⊥
+          IsKeptDelivery to small large owner (node_of small get.proc) d → ⊥
       go own_key is live_get denied (ByGet g) d none kept =
           let there = subst (λ v. Delivers large (to.process owner) (to.key own_key) (node_of large (to.process get.proc)) (ByGet v)) (sym kept.1) d in
           denied (ByGet kept.0) (get_delivers_back owner own_key get is live_get kept.0 kept.2 there)

@@ -4,7 +4,7 @@ use Rattle.std.proofs.lemmas.Bool.{true≢false}
 use Rattle.wire_runs.specs.Plan.{Plan, node_of, same_node, Event}
 use Rattle.wire_runs.specs.Races.{IsDeliveryRace}
 use Rattle.wire_runs.specs.Placings.{HasSurely, IsFarRace}
-use Rattle.wire_runs.specs.PlacingLaws.{PlacingTells, AreAlone, FamilyTells}
+use Rattle.wire_runs.specs.PlacingLaws.{PlacingTells, ShareANode, FamilyTells}
 use Rattle.wire_runs.proofs.Basics.{process_within, stores_commit}
 use Rattle.wire_runs.proofs.PlacingKeeps.{turned, placing_keeps, surely_kept}
 use Rattle.wire_runs.proofs.Anywhere.{part_within, owner_within, to_node, race_is_far, far_is_race, far_not_reader, pair_not_sure, near_of_race, near_is_race}
@@ -40,7 +40,7 @@ placing_tells plan other same = let kept = placing_keeps plan other same in
     }
 
 -- a far race is one where the two are alone
-pub far_alone : (plan : Plan) (x y : Event) (p key m : ℕ) → AreAlone plan m y.proc → IsFarRace plan x y p key m → IsDeliveryRace plan x y p key
+pub far_alone : (plan : Plan) (x y : Event) (p key m : ℕ) → ShareANode plan m y.proc → IsFarRace plan x y p key m → IsDeliveryRace plan x y p key
 far_alone plan x y p key m a r =
     let on = eqb-true _ _ a.together in
     far_is_race plan x y p key m on

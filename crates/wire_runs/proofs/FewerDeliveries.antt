@@ -7,7 +7,7 @@ use Rattle.wire_runs.specs.Plan.{Plan, Event, Arrive, Get, GetNow, kind, process
 use Rattle.wire_runs.specs.Fences.{is_member}
 use Rattle.wire_runs.specs.Order.{IsArrival}
 use Rattle.wire_runs.specs.Races.{Delivery, ByFence, ByGet, Delivers, FenceDelivers, GetDelivers, IsDeliveryRace, IsSettled}
-use Rattle.wire_runs.specs.Embeddings.{Renaming, image, IsEmbedding, IsKept}
+use Rattle.wire_runs.specs.Embeddings.{Renaming, image, IsEmbedding, IsKeptDelivery}
 use Rattle.wire_runs.specs.Patterns.{Who, Only, Self, Each, Word, Pattern, Coding, Cast, group, who, members_in, instance_of, names_each, has_every, IsLoopLine, KnowsLine, IsLawful, IsCastOf}
 use Rattle.wire_runs.specs.Restrictions.{skip, back, without, restricted, removal, CanGo}
 use Rattle.wire_runs.proofs.Basics.{process_within}
@@ -57,7 +57,7 @@ module _ (pattern : Pattern) (coding : Coding) (cast : Cast) (role : ℕ) (lawfu
 
     -- a race among images, its delivery kept, is refuted
     abbrev Refutes : Event → ℕ → ℕ → Event → ℕ → ℕ → Type 0
-    Refutes source p node get owner key = (race : IsDeliveryRace large source get owner key) → IsKept to small large p node race.delivery → ⊥
+    Refutes source p node get owner key = (race : IsDeliveryRace large source get owner key) → IsKeptDelivery to small large p node race.delivery → ⊥
 
     refuted : (source y get : Event) (p owner key : ℕ) → image to y ≡ get → skip r p ≡ owner → same_node small p y.proc ≡ false → Refutes source p (node_of small y.proc) get owner key
     refuted source y get p owner key at own away =
@@ -104,14 +104,14 @@ module _ (pattern : Pattern) (coding : Coding) (cast : Cast) (role : ℕ) (lawfu
         let arrival : IsArrival large members j (image to i.0) = subst (λ v. IsArrival large members j v) (sym i.1) b.away.arrival in
         let within_m = mate_within large members j mine m b.away.full b.away.arrival m_in in
         let ltp = owner_kept p owner own (process_within large owner b.away.at _ b.away.arrival.is) in
-        let kept : IsKept to small large p (node_of small y.proc) (ByFence members j) = record {
+        let kept : IsKeptDelivery to small large p (node_of small y.proc) (ByFence members j) = record {
           own_at = i.0.at;
           arrival = subst (λ q. IsArrival large members j (image to (record { proc = q; at = i.0.at }))) proc_is arrival;
           mate = back r m;
           mate_is_member = ap (is_member members) (skip_back r m apart.1) ∙ m_in;
           mate_there = node_there m within_m apart.1 ∙ m_there ∙ sym (node_kept y get w.6 at);
         } in
-        refuted source y get p owner key at own (apart_there y get p owner w.6 ltp at own f.other) f (subst (λ d. IsKept to small large p (node_of small y.proc) d) (sym is) kept)
+        refuted source y get p owner key at own (apart_there y get p owner w.6 ltp at own f.other) f (subst (λ d. IsKeptDelivery to small large p (node_of small y.proc) d) (sym is) kept)
 
     -- a get of an image's key, by another process, isn't in the turn for r
     pub get_turn : (v e owner key own : ℕ) → Origin pattern coding cast v e (Get owner key) → (v ≡ r → ⊥) → (owner ≡ r → ⊥) → to.key own ≡ key → e ≡ r → ⊥
@@ -148,10 +148,10 @@ module _ (pattern : Pattern) (coding : Coding) (cast : Cast) (role : ℕ) (lawfu
         let i = is_image pattern coding cast r role can g e mark_g not_getter (get_turn g.proc e owner key w.2 origin not_getter not_owner w.5) in
         let lt = process_within large g.proc g.at _ b.away.is in
         let path : skip r i.0.proc ≡ g.proc = ap (λ (v : Event). v.proc) i.1 in
-        let kept : IsKept to small large p (node_of small y.proc) (ByGet g) =
+        let kept : IsKeptDelivery to small large p (node_of small y.proc) (ByGet g) =
         (i.0, i.1, node_kept i.0 g (within_small i.0.proc (omega (arith, lt, path))) i.1 ∙ b.there ∙ sym (node_kept y get w.6 at)) in
         refuted source y get p owner key at own (apart_there y get p owner w.6 (owner_kept p owner own lto) at own f.other) f
-        (subst (λ d. IsKept to small large p (node_of small y.proc) d) (sym is) kept)
+        (subst (λ d. IsKeptDelivery to small large p (node_of small y.proc) d) (sym is) kept)
 
   -- the turn of a fence's call: the caller's own, or for a process of another role; or the fence has nobody of the role but these two
   pub turn_case : (p e : ℕ) (members : List ℕ) (collect : Bool) → Origin pattern coding cast p e (Arrive members collect) →

@@ -6,9 +6,9 @@ use Rattle.wire_runs.specs.Plan.{Plan, process_count, Kind, Commit, Get, GetNow,
 use Rattle.wire_runs.specs.Races.{Delivery, ByFence, ByGet, IsOf, IsNodeRace, IsDeliveryRace, BringsAway, IsNearRace}
 use Rattle.wire_runs.specs.Findings.{Finding, Rewrite, KeyRace, NameRace, IsKeyRace, IsFound, IsSooner}
 use Rattle.wire_runs.specs.Placings.{IsPlacing, placing, paired, IsFarRace, IsSettledAnywhere}
-use Rattle.wire_runs.specs.FindingsAnywhere.{Placed, OnAll, OnPair, finding_of, IsPair, IsLeastFar, IsKeyRaceOn, IsFoundSomewhere, HasPlaced, IsPlacedSorted}
+use Rattle.wire_runs.specs.FindingsAnywhere.{PlacementFinding, OnAll, OnPair, finding_of, IsPair, IsLeastFar, IsKeyRaceOn, IsFoundSomewhere, HasPlacementFinding, IsPlacedSorted}
 use Rattle.wire_runs.specs.Laws.{IsOneWay}
-use Rattle.wire_runs.specs.PlacingLaws.{AreAlone, PlacingsAre, PlacedIsFound, FindingsAnywhere, OnePair, OneListAnywhere}
+use Rattle.wire_runs.specs.PlacingLaws.{ShareANode, PlacingsAre, PlacedIsFound, FindingsAnywhere, OnePair, OneListAnywhere}
 use Rattle.wire_runs.proofs.Basics.{stores_commit}
 use Rattle.wire_runs.proofs.Brought.{no_least}
 use Rattle.wire_runs.proofs.EventLists.{one_lower}
@@ -18,7 +18,7 @@ use Rattle.wire_runs.proofs.Families.{far_alone}
 use Rattle.wire_runs.proofs.PlacingKeeps.{turned, placing_keeps}
 use Rattle.wire_runs.proofs.Anywhere.{first_of_pair, second_of_pair, of_pair, near_is_race, placing_is, node_there, pair_node, near_of_race, near_on_pair, race_is_far, far_on_pair, far_not_reader}
 
-pair_alone : (plan : Plan) (a b : ℕ) → a < process_count plan → b < process_count plan → AreAlone (paired plan a b) a b
+pair_alone : (plan : Plan) (a b : ℕ) → a < process_count plan → b < process_count plan → ShareANode (paired plan a b) a b
 pair_alone plan a b within_a within_b =
     let on = first_of_pair plan a b within_a in
     record {
@@ -70,24 +70,24 @@ found_on_pair plan (Rewrite x y) a b h = absurd h
 found_on_pair plan (KeyRace x y owner key) a b (low, h) = (low, ⊎_elim (λ r. inl (key_race_on plan x y owner key a b r)) (λ r. inr (key_race_on plan y x owner key a b r)) h)
 found_on_pair plan (NameRace x y name) a b h = absurd h
 
-alone_turned : (plan : Plan) (a b : ℕ) → AreAlone plan a b → AreAlone plan b a
+alone_turned : (plan : Plan) (a b : ℕ) → ShareANode plan a b → ShareANode plan b a
 alone_turned plan a b are = record {
   together = eq-eqb _ _ (sym (eqb-true _ _ are.together));
   alone = λ k within same. elim (are.alone k within (eq-eqb _ _ (eqb-true _ _ same ∙ sym (eqb-true _ _ are.together)))) [ inl i ↦ inr i | inr i ↦ inl i ];
 }
 
 -- two who are alone, under other names
-alone_as : (plan : Plan) (a b p q : ℕ) → IsPair a b p q → AreAlone plan a b → AreAlone plan p q
-alone_as plan a b p q (low, inl e) are = subst (AreAlone plan p) e.1 (subst (λ c. AreAlone plan c b) e.0 are)
-alone_as plan a b p q (low, inr e) are = alone_turned plan q p (subst (AreAlone plan q) e.1 (subst (λ c. AreAlone plan c b) e.0 are))
+alone_as : (plan : Plan) (a b p q : ℕ) → IsPair a b p q → ShareANode plan a b → ShareANode plan p q
+alone_as plan a b p q (low, inl e) are = subst (ShareANode plan p) e.1 (subst (λ c. ShareANode plan c b) e.0 are)
+alone_as plan a b p q (low, inr e) are = alone_turned plan q p (subst (ShareANode plan q) e.1 (subst (λ c. ShareANode plan c b) e.0 are))
 
-key_race_alone : (plan other : Plan) → IsPlacing plan other → (x y : Event) (owner key a b : ℕ) → AreAlone other a b → IsKeyRaceOn plan x y owner key a b → IsKeyRace other x y owner key
+key_race_alone : (plan other : Plan) → IsPlacing plan other → (x y : Event) (owner key a b : ℕ) → ShareANode other a b → IsKeyRaceOn plan x y owner key a b → IsKeyRace other x y owner key
 key_race_alone plan other same x y owner key a b are (inl r) =
     inl (r.0, near_is_race other x y key (alone_as other a b x.proc y.proc r.2 are).together (((placing_keeps plan other same).near_races x y key).0 r.1))
 key_race_alone plan other same x y owner key a b are (inr r) =
     inr (far_alone other x y owner key r.0 (alone_turned other y.proc r.0 (alone_as other a b y.proc r.0 r.2 are)) (((placing_keeps plan other same).far_races x y owner key r.0).0 r.1.far))
 
-found_alone : (plan : Plan) (f : Finding) (a b : ℕ) (other : Plan) → IsPlacing plan other → AreAlone other a b → IsFoundSomewhere plan (OnPair f a b) → IsFound other f
+found_alone : (plan : Plan) (f : Finding) (a b : ℕ) (other : Plan) → IsPlacing plan other → ShareANode other a b → IsFoundSomewhere plan (OnPair f a b) → IsFound other f
 found_alone plan (Rewrite x y) a b other same are h = absurd h
 found_alone plan (KeyRace x y owner key) a b other same are (low, h) =
     (low, ⊎_elim (λ r. inl (key_race_alone plan other same x y owner key a b are r)) (λ r. inr (key_race_alone plan other same y x owner key a b are r)) h)
@@ -117,7 +117,7 @@ no_pair_no_race plan other same x y owner key none (inr r) =
     (suc f.0) f.0 (omega arith) (((placing_keeps plan other same).far_races x y owner key f.0).1 f.1)
 
 -- what some placing shows is found, on all or on a pair
-not_missed : (plan other : Plan) → IsPlacing plan other → (f : Finding) → ((g : Placed) → finding_of g ≡ f → IsFoundSomewhere plan g → ⊥) → IsFound other f → ⊥
+not_missed : (plan other : Plan) → IsPlacing plan other → (f : Finding) → ((g : PlacementFinding) → finding_of g ≡ f → IsFoundSomewhere plan g → ⊥) → IsFound other f → ⊥
 not_missed plan other same (Rewrite x y) none h = none (OnAll (Rewrite x y)) refl (((placing_keeps plan other same).rewrites x y).1 h)
 not_missed plan other same (NameRace x y name) none (low, h) =
     let kept = placing_keeps plan other same in
@@ -161,22 +161,22 @@ same_finding (NameRace x y m) (NameRace v w n) = elim (same_pair x y v w) [
 ]
 
 -- a list has the finding with some pair, or with none
-listed : (found : List Placed) (f : Finding) → ((g : Placed) × HasPlaced found g × (finding_of g ≡ f)) ⊎ ((g : Placed) → HasPlaced found g → finding_of g ≡ f → ⊥)
+listed : (found : List PlacementFinding) (f : Finding) → ((g : PlacementFinding) × HasPlacementFinding found g × (finding_of g ≡ f)) ⊎ ((g : PlacementFinding) → HasPlacementFinding found g → finding_of g ≡ f → ⊥)
 listed [] f = inr (λ g i e. i)
 listed (h ∷ found) f = go (same_finding (finding_of h) f) (listed found f)
   where
-    go : (finding_of h ≡ f) ⊎ (finding_of h ≡ f → ⊥) → ((g : Placed) × HasPlaced found g × (finding_of g ≡ f)) ⊎ ((g : Placed) → HasPlaced found g → finding_of g ≡ f → ⊥) →
-        ((g : Placed) × HasPlaced (h ∷ found) g × (finding_of g ≡ f)) ⊎ ((g : Placed) → HasPlaced (h ∷ found) g → finding_of g ≡ f → ⊥)
+    go : (finding_of h ≡ f) ⊎ (finding_of h ≡ f → ⊥) → ((g : PlacementFinding) × HasPlacementFinding found g × (finding_of g ≡ f)) ⊎ ((g : PlacementFinding) → HasPlacementFinding found g → finding_of g ≡ f → ⊥) →
+        ((g : PlacementFinding) × HasPlacementFinding (h ∷ found) g × (finding_of g ≡ f)) ⊎ ((g : PlacementFinding) → HasPlacementFinding (h ∷ found) g → finding_of g ≡ f → ⊥)
     go (inl e) rest = inl (h, inl refl, e)
     go (inr ne) (inl w) = inl (w.0, inr w.1, w.2)
     go (inr ne) (inr none) = inr (λ g i e. elim i [ inl is ↦ ne (ap finding_of (sym is) ∙ e) | inr j ↦ none g j e ])
 
-shown : (plan : Plan) (g : Placed) → IsFoundSomewhere plan g → (other : Plan) × IsPlacing plan other × IsFound other (finding_of g)
+shown : (plan : Plan) (g : PlacementFinding) → IsFoundSomewhere plan g → (other : Plan) × IsPlacing plan other × IsFound other (finding_of g)
 shown plan (OnAll f) h = (plan, (placings_are plan).itself, found_on_all plan f h plan (placings_are plan).itself)
 shown plan (OnPair f a b) h = (paired plan a b, placing_is plan (pair_node a b), found_on_pair plan f a b h)
 
 -- a plan that is settled anywhere shows nothing
-settled_shows : (plan : Plan) → IsSettledAnywhere plan → (f : Placed) → IsFoundSomewhere plan f → ⊥
+settled_shows : (plan : Plan) → IsSettledAnywhere plan → (f : PlacementFinding) → IsFoundSomewhere plan f → ⊥
 settled_shows plan s (OnAll (Rewrite x y)) h = s.no_rewrite x y h
 settled_shows plan s (OnAll (KeyRace x y owner key)) h = h
 settled_shows plan s (OnAll (NameRace x y name)) (low, inl r) = s.no_name_race x y name r
@@ -198,7 +198,7 @@ far_source plan x y owner key m r k is = go r.delivery r.carries.brings_away r.o
         let gets : kind plan x ≡ Some (Get owner key) = ap (kind plan) e ∙ b.is in
         (λ e. cc, λ p c e. cc)
 
-none_settled : (plan : Plan) → ((f : Placed) → IsFoundSomewhere plan f → ⊥) → IsSettledAnywhere plan
+none_settled : (plan : Plan) → ((f : PlacementFinding) → IsFoundSomewhere plan f → ⊥) → IsSettledAnywhere plan
 none_settled plan none = record {
   no_rewrite = λ x y r. none (OnAll (Rewrite x y)) r;
   no_near_race = λ x y key r.
@@ -299,8 +299,8 @@ one_pair plan (OnPair f a b) (OnPair g c d) h i e =
     ap (λ v. OnPair v a b) e ∙ on_pair_is_one plan g a b c d (subst (λ v. IsFoundSomewhere plan (OnPair v a b)) e h) i
 
 -- two sorted lists with the same findings are one
-one_sorted : (lower_name : ℕ → ℕ → Bool) → IsOneWay lower_name → (xs ys : List Placed) → IsPlacedSorted lower_name xs → IsPlacedSorted lower_name ys → ((f : Placed) → HasPlaced xs f → HasPlaced ys f) →
-    ((f : Placed) → HasPlaced ys f → HasPlaced xs f) → xs ≡ ys
+one_sorted : (lower_name : ℕ → ℕ → Bool) → IsOneWay lower_name → (xs ys : List PlacementFinding) → IsPlacedSorted lower_name xs → IsPlacedSorted lower_name ys → ((f : PlacementFinding) → HasPlacementFinding xs f → HasPlacementFinding ys f) →
+    ((f : PlacementFinding) → HasPlacementFinding ys f → HasPlacementFinding xs f) → xs ≡ ys
 one_sorted lower_name one [] [] a b into from = refl
 one_sorted lower_name one [] (y ∷ ys) a b into from = absurd (from y (inl refl))
 one_sorted lower_name one (x ∷ xs) [] a b into from = absurd (into x (inl refl))

@@ -9,7 +9,7 @@ use Rattle.wire_runs.specs.Names.{writes_name}
 use Rattle.wire_runs.specs.Order.{Edge, Live, live, Before, edge, further}
 use Rattle.wire_runs.specs.Races.{IsSettled}
 use Rattle.wire_runs.specs.Fate.{IsIn, IsInOrder, left_by, IsNameHistory, IsPast, Fate, Waits, Says, fate_in, HasFate, dead, told}
-use Rattle.wire_runs.specs.Laws.{Marks, HaveFates}
+use Rattle.wire_runs.specs.Laws.{HappensBefore, HaveFates}
 use Rattle.wire_runs.proofs.Basics.{event_within, process_within}
 use Rattle.wire_runs.proofs.Diamond.{writes_calls, writes_no_lookup}
 use Rattle.wire_runs.proofs.Histories.{before_live, same_process, joined, same_place}
@@ -62,7 +62,7 @@ abbrev answer_of : Fate → Answer
 answer_of Waits = Silent
 answer_of (Says a) = a
 
-module _ (plan : Plan) (settled : IsSettled plan) (marks : Marks plan) (y : Event) where
+module _ (plan : Plan) (settled : IsSettled plan) (marks : HappensBefore plan) (y : Event) where
   is_before : (x z : Event) → Before plan x z ⊎ (Before plan x z → ⊥)
   is_before x z = elim (cases_Bool (marks.before x z)) [
     | inl t ↦ inl ((marks.tells_before x z).0 t)
@@ -254,7 +254,7 @@ earlier_fates : {plan : Plan} {z y : Event} → Before plan z y → ((x : Event)
 earlier_fates (edge l e m) from = (from _ e).own_fate
 earlier_fates (further b e m) from = (from _ e).earlier _ b
 
-module _ (plan : Plan) (settled : IsSettled plan) (marks : Marks plan) where
+module _ (plan : Plan) (settled : IsSettled plan) (marks : HappensBefore plan) where
   module _ (y : Event) (l : Live plan y) (from : (x : Event) → Edge plan x y → Fated plan x) where
     abbrev picked : (z : Event) (b : Bool) → marks.before z y ≡ b → Fate
     picked z true e = (earlier_fates ((marks.tells_before z y).0 e) from).0

@@ -7,10 +7,10 @@ use Rattle.wire_runs.specs.Puts.{stored, scope_of}
 use Rattle.wire_runs.specs.Fences.{arrivals, is_member, is_full, is_collecting}
 use Rattle.wire_runs.specs.Order.{IsArrival, Live, Before}
 use Rattle.wire_runs.specs.Races.{Delivery, ByFence, ByGet, IsOf, FenceBringsAway, GetBringsAway, BringsAway}
-use Rattle.wire_runs.specs.Laws.{Marks}
+use Rattle.wire_runs.specs.Laws.{HappensBefore}
 use Rattle.wire_runs.specs.Placings.{TakesPart, Carries, HasSurely, IsFarRace}
 use Rattle.wire_runs.specs.FindingsAnywhere.{IsLeastFar}
-use Rattle.wire_runs.specs.PlacingLaws.{HaveLeast}
+use Rattle.wire_runs.specs.PlacingLaws.{HaveLeastFar}
 use Rattle.wire_runs.proofs.Basics.{event_within}
 use Rattle.wire_runs.proofs.Due.{live_source}
 use Rattle.wire_runs.proofs.Histories.{before_live}
@@ -41,7 +41,7 @@ stored_or_not plan p key n = go (stored plan p key n) refl
       | inr f ↦ inr (λ w. true≢false (sym w.2 ∙ ap (λ v. admits (scope_of plan p v) false) (same_Some _ _ (sym w.1 ∙ e)) ∙ f))
     ]
 
-module _ (plan : Plan) (marks : Marks plan) (p key m : ℕ) (get : Event) where
+module _ (plan : Plan) (marks : HappensBefore plan) (p key m : ℕ) (get : Event) where
   -- by the fence at which p's event i arrives
   record ByFenceAt (i : ℕ) : Type 0 where
     members : List ℕ
@@ -205,7 +205,7 @@ same_part plan p key k x (ByGet g) (ByFence members j) b c of_d of_e part =
 same_part plan p key k x (ByGet g) (ByGet h) b c of_d of_e part = ap (λ (v : Event). v.proc) (sym of_e ∙ of_d) ∙ part
 
 -- a race that is far with one process: whether it is with another
-far_or_not : (plan : Plan) → Marks plan → (x y : Event) (p key m : ℕ) → IsFarRace plan x y p key m → (k : ℕ) → IsFarRace plan x y p key k ⊎ (IsFarRace plan x y p key k → ⊥)
+far_or_not : (plan : Plan) → HappensBefore plan → (x y : Event) (p key m : ℕ) → IsFarRace plan x y p key m → (k : ℕ) → IsFarRace plan x y p key k ⊎ (IsFarRace plan x y p key k → ⊥)
 far_or_not plan marks x y p key m r k = elim (part_or_not r.delivery k) [
   | inr not ↦ inr (λ s. not (same_part plan p key k x s.delivery r.delivery s.carries.brings_away r.carries.brings_away s.of_it r.of_it s.carries.takes_part))
   | inl part ↦ elim (cases_eq k p) [
@@ -230,11 +230,11 @@ far_or_not plan marks x y p key m r k = elim (part_or_not r.delivery k) [
   ]
 ]
 
-least_far : (plan : Plan) → Marks plan → (x y : Event) (p key m : ℕ) → IsFarRace plan x y p key m → (k : ℕ) × IsLeastFar plan x y p key k
+least_far : (plan : Plan) → HappensBefore plan → (x y : Event) (p key m : ℕ) → IsFarRace plan x y p key m → (k : ℕ) × IsLeastFar plan x y p key k
 least_far plan marks x y p key m r = elim (lowest_of (IsFarRace plan x y p key) (far_or_not plan marks x y p key m r) (suc m)) [
   | inl w ↦ (w.0, record { far = w.2; least = w.3 })
   | inr none ↦ absurd (none m (omega arith) r)
 ]
 
-pub have_least : HaveLeast
+pub have_least : HaveLeastFar
 have_least plan marks = record { sure = sure_or_not plan marks; least = least_far plan marks }

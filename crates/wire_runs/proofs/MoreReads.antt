@@ -12,7 +12,7 @@ use Rattle.wire_runs.specs.Names.{is_publish, publishes, takes_name, writes_name
 use Rattle.wire_runs.specs.Order.{IsArrival, PublishesOnce, Edge, Follows, Meets, Feeds, Announces, may_come, Live, live, Before, edge, further}
 use Rattle.wire_runs.specs.Races.{Delivery, ByFence, ByGet, IsOf, FenceDelivers, GetDelivers, Delivers, ComesSurely, IsUnordered, IsDeliveryRace, IsSettled}
 use Rattle.wire_runs.specs.Embeddings.{Renaming, image, image_kind, IsKeyOf, IsSetOf, IsNameOf, IsEmbedding}
-use Rattle.wire_runs.specs.Parts.{Piece, Kept, Left, kept_kinds, all_kinds, place_in, Fits, IsPartEach, IsPart, in_place, IsRead, LeavesReads, AddsReads, ReadsKeepFindings}
+use Rattle.wire_runs.specs.Parts.{Piece, Kept, Left, kept_kinds, all_kinds, place_in, Fits, IsPartEach, IsPart, in_place, IsReadCall, LeavesReads, AddsReads, ReadsKeepFindings}
 use Rattle.wire_runs.proofs.Basics.{event_within, stores_commit}
 use Rattle.wire_runs.proofs.Due.{coming_event, live_source, place_path}
 use Rattle.wire_runs.proofs.Histories.{before_live, after_live, joined, same_process, no_cycle}
@@ -47,11 +47,11 @@ reads_fit to small waits (Left _ ∷ pieces) r = absurd r.0
 abbrev Stands : Renaming → List Piece → ℕ → Kind → Type 0
 Stands to pieces i k = (n : ℕ) × (place_in pieces n ≡ i) × (own_kind : Kind) × (slice_get (kept_kinds pieces) n ≡ Some own_kind) × (image_kind to own_kind ≡ k)
 
-stands_or_read : (to : Renaming) (pieces : List Piece) → LeavesReads pieces → (i : ℕ) (k : Kind) → slice_get (all_kinds to pieces) i ≡ Some k → Stands to pieces i k ⊎ IsRead k
+stands_or_read : (to : Renaming) (pieces : List Piece) → LeavesReads pieces → (i : ℕ) (k : Kind) → slice_get (all_kinds to pieces) i ≡ Some k → Stands to pieces i k ⊎ IsReadCall k
 stands_or_read to [] r i k is = absurd (none-some k is)
 stands_or_read to (Kept l ∷ pieces) r zero k is = inl (0, refl, l, refl, same_Some _ _ is)
 stands_or_read to (Kept l ∷ pieces) r (suc i) k is = elim (stands_or_read to pieces r i k is) [ inl s ↦ inl (suc s.0, ap suc s.1, s.2, s.3, s.4) | inr s ↦ inr s ]
-stands_or_read to (Left l ∷ pieces) r zero k is = inr (subst IsRead (same_Some _ _ is) r.0)
+stands_or_read to (Left l ∷ pieces) r zero k is = inr (subst IsReadCall (same_Some _ _ is) r.0)
 stands_or_read to (Left l ∷ pieces) r (suc i) k is = elim (stands_or_read to pieces r.1 i k is) [ inl s ↦ inl (s.0, ap suc s.1, s.2, s.3, s.4) | inr s ↦ inr s ]
 
 -- a name is published where an event publishes it
@@ -89,7 +89,7 @@ module _ (small large : Plan) (pieces : ℕ → List Piece) (adds : AddsReads sm
   }
 
   -- an event of the large plan is an image, or a read
-  pub spot : (z : Event) (k : Kind) → kind large z ≡ Some k → ((y : Event) × (image to y ≡ z) × (kind small y ≡ Some k)) ⊎ IsRead k
+  pub spot : (z : Event) (k : Kind) → kind large z ≡ Some k → ((y : Event) × (image to y ≡ z) × (kind small y ≡ Some k)) ⊎ IsReadCall k
   unfolding kind_at
   spot z k is = elim (stands_or_read to (pieces z.proc) (adds.reads z.proc) z.at k (ap (λ ks. slice_get ks z.at) (sym (adds.all z.proc)) ∙ is)) [
     | inl s ↦ inl (record { proc = z.proc; at = s.0 }, (λ t. record { proc = z.proc; at = s.1 t }), ap (λ ks. slice_get ks s.0) (adds.kept z.proc) ∙ s.3 ∙ ap Some (sym (kind_in_place pieces s.2) ∙ s.4))
@@ -126,7 +126,7 @@ module _ (small large : Plan) (pieces : ℕ → List Piece) (adds : AddsReads sm
   once_into : (x : Event) (name : ℕ) → PublishesOnce small x name → PublishesOnce large (image to x) name
   once_into x name o = record { is = kind_into x _ o.is; only = λ y is. only y (spot y _ is); stays = λ y. false_from_ne_true _ (λ t. stays y (kind large y) refl t) }
     where
-      only : (y : Event) → ((v : Event) × (image to v ≡ y) × (kind small v ≡ Some (Publish name))) ⊎ IsRead (Publish name) → y ≡ image to x
+      only : (y : Event) → ((v : Event) × (image to v ≡ y) × (kind small v ≡ Some (Publish name))) ⊎ IsReadCall (Publish name) → y ≡ image to x
       only y (inl s) = sym s.1 ∙ ap (image to) (o.only s.0 s.2)
       only y (inr r) = absurd r
 
@@ -322,19 +322,19 @@ module _ (small large : Plan) (pieces : ℕ → List Piece) (adds : AddsReads sm
       go _ is h = refl
 
   -- a read is live where the event before it is
-  read_live : (z : Event) (k : Kind) → kind large z ≡ Some k → IsRead k → ((x : Event) → Along x z → Live large x) → Live large z
+  read_live : (z : Event) (k : Kind) → kind large z ≡ Some k → IsReadCall k → ((x : Event) → Along x z → Live large x) → Live large z
   read_live z k is r before = live (ap (may_come large z) is ∙ may k r) (λ x f. elim (along_or_between x z f) [
     | inl a ↦ before x a
     | inr b ↦ source x f
   ])
     where
-      may : (l : Kind) → IsRead l → may_come large z (Some l) ≡ true
+      may : (l : Kind) → IsReadCall l → may_come large z (Some l) ≡ true
       may (GetNow owner key) r = refl
       may (Lookup name) r = refl
       may _ r = absurd r
 
-      not : (l : Kind) → kind large z ≡ Some l → (IsRead l → ⊥) → ⊥
-      not l el never = never (subst IsRead (same_Some _ _ (sym is ∙ el)) r)
+      not : (l : Kind) → kind large z ≡ Some l → (IsReadCall l → ⊥) → ⊥
+      not l el never = never (subst IsReadCall (same_Some _ _ (sym is ∙ el)) r)
 
       source : (x : Event) → Edge large x z → Live large x
       source x (Follows same next) = before x (same, next)

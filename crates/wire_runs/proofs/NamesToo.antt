@@ -8,7 +8,7 @@ use Rattle.wire_runs.specs.Plan.{Kind, Publish, Unpublish, kinds_of}
 use Rattle.wire_runs.specs.Fences.{is_member}
 use Rattle.wire_runs.specs.Patterns.{Who, Only, Self, Each, Word, Line, LinePublish, LineUnpublish}
 use Rattle.wire_runs.specs.Patterns.{Turns, InOrder, Round, Chosen, Step, Once, Loop, Pattern, Coding, Cast, group, who, word_code, call_in, turns, loop_calls, step_calls, calls_from}
-use Rattle.wire_runs.specs.Patterns.{IsTurnLine, AreLoopLines, IsStep, waits_step, AreSteps}
+use Rattle.wire_runs.specs.Patterns.{IsTurnLine, AreLoopLines, IsLawfulStep, waits_step, AreSteps}
 use Rattle.wire_runs.specs.Restrictions.{CanGo}
 use Rattle.wire_runs.proofs.RestrictedCalls.{kinds_append, same_code}
 use Rattle.wire_runs.proofs.RestrictedEach.{turn_member}
@@ -193,7 +193,7 @@ module _ (pattern : Pattern) (coding : Coding) (cast : Cast) (r role : ℕ) (can
         ap (has test) (kinds_append (step_calls coding cast v i step) (calls_from coding cast v (suc i) steps))
         ∙ has_append test (kinds_of (step_calls coding cast v i step)) (kinds_of (calls_from coding cast v (suc i) steps))
 
-    step_too : (i : ℕ) (waits : Bool) (step : Step) → IsStep pattern.single waits step → has test (kinds_of (step_calls coding cast r i step)) ≡ true →
+    step_too : (i : ℕ) (waits : Bool) (step : Step) → IsLawfulStep pattern.single waits step → has test (kinds_of (step_calls coding cast r i step)) ≡ true →
         (bad : ℕ) × ((u : ℕ) → (u ≡ bad → ⊥) → has test (kinds_of (step_calls coding cast u i step)) ≡ true)
     step_too i waits (Once line) known h = (r, λ u ne. t.once_too u line h)
     step_too i waits (Loop other mode lines) known h =

@@ -10,7 +10,7 @@ use Rattle.wire_runs.specs.Fences.{arrivals_with, arrivals, collects_with, colle
 use Rattle.wire_runs.specs.Names.{is_publish, publishes, takes_name}
 use Rattle.wire_runs.specs.Order.{PublishesOnce}
 use Rattle.wire_runs.specs.Races.{Delivery, ByFence, ByGet, Brings, IsSettled}
-use Rattle.wire_runs.specs.Embeddings.{Renaming, image_kind, IsNameOf, IsEmbedding, IsKept, KeepsFindings, pair, PairsSuffice}
+use Rattle.wire_runs.specs.Embeddings.{Renaming, image_kind, IsNameOf, IsEmbedding, IsKeptDelivery, KeepsFindings, pair, PairsSuffice}
 use Rattle.wire_runs.specs.Placings.{placing}
 use Rattle.wire_runs.proofs.Basics.{process_within, stores_commit}
 use Rattle.wire_runs.proofs.Fates.{live_event}
@@ -146,7 +146,7 @@ pub record Mate (plan : Plan) (owner : ℕ) (get : Event) (d : Delivery) : Type 
   pub within : mate < process_count plan
   pub owner_within : owner < process_count plan
   pub there : node_of plan mate ≡ node_of plan get.proc
-  pub is_kept : (small : Plan) → node_of small mate ≡ node_of small get.proc → IsKept itself small plan owner (node_of small get.proc) d
+  pub is_kept : (small : Plan) → node_of small mate ≡ node_of small get.proc → IsKeptDelivery itself small plan owner (node_of small get.proc) d
 
 pub mate_of : (plan : Plan) (owner key : ℕ) (get : Event) (d : Delivery) → Brings plan owner key (node_of plan get.proc) d → Mate plan owner get d
 mate_of plan owner key get (ByGet g) b =

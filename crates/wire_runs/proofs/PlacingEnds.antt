@@ -12,7 +12,7 @@ use Rattle.wire_runs.specs.Step.{is_enabled, run}
 use Rattle.wire_runs.specs.Ends.{replies_of, unanswered, process_calls, calls_of, row}
 use Rattle.wire_runs.specs.Laws.{plain_end}
 use Rattle.wire_runs.specs.Placings.{without_reply, IsPlacing}
-use Rattle.wire_runs.specs.PlacingLaws.{how_far, PlacingsEndAlike}
+use Rattle.wire_runs.specs.PlacingLaws.{how_far, SameProgressOnPlacements}
 use Rattle.wire_runs.proofs.Ends.{gives, given_by, counted_run}
 use Rattle.wire_runs.proofs.PlacingKeeps.{counts}
 use Rattle.wire_runs.proofs.PlacingRuns.{run_alike, done_alike}
@@ -78,5 +78,5 @@ module _ (plan other : Plan) (same : IsPlacing plan other) (p : ℕ) where
       ∙ ap (λ n. unanswered (is_enabled other (plain_end other) p) (n - length (replies_of plan ((plain_end plan).replies p)))) calls_same
       ∙ ap (λ n. unanswered (is_enabled other (plain_end other) p) (length (calls_of other p) - n)) replies_same)
 
-pub ends_alike : PlacingsEndAlike
+pub ends_alike : SameProgressOnPlacements
 ends_alike = row_alike

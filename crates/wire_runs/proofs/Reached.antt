@@ -8,7 +8,7 @@ use Rattle.wire_runs.specs.Step.{is_enabled, step, IsInterleaving, run_from}
 use Rattle.wire_runs.specs.Order.{Edge, Live, live, Before, edge, further}
 use Rattle.wire_runs.specs.Races.{IsSettled}
 use Rattle.wire_runs.specs.Fate.{Waits, HasFate, dead, IsSoundCut}
-use Rattle.wire_runs.specs.Laws.{Marks, SoundIsReached}
+use Rattle.wire_runs.specs.Laws.{HappensBefore, SoundIsReached}
 use Rattle.wire_runs.proofs.Basics.{process_within}
 use Rattle.wire_runs.proofs.Due.{ClosedCut, chain_in, done_same, done_other}
 use Rattle.wire_runs.proofs.Length.{left_from, left_falls, left_at_start}
@@ -28,7 +28,7 @@ find f (suc n) = go (find f n)
       | inr no_ ↦ inr (λ i lt. elim (cases_eq i n) [ inl e ↦ ap f e ∙ no_ | inr ne ↦ none i (omega (arith, lt, ne)) ])
     ]
 
-module _ (plan : Plan) (settled : IsSettled plan) (marks : Marks plan) (cut : ℕ → ℕ) (sound : IsSoundCut plan cut) where
+module _ (plan : Plan) (settled : IsSettled plan) (marks : HappensBefore plan) (cut : ℕ → ℕ) (sound : IsSoundCut plan cut) where
   -- an event of the cut is live
   live_in : (x : Event) → x.at < cut x.proc → Live plan x
   live_in x d = elim (cases_Bool (marks.alive x)) [

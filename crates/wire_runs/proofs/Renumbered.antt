@@ -7,7 +7,7 @@ use Rattle.wire_runs.specs.Fences.{collects, is_collecting}
 use Rattle.wire_runs.specs.Names.{publishes, takes_name}
 use Rattle.wire_runs.specs.Order.{PublishesOnce}
 use Rattle.wire_runs.specs.Races.{Delivery, ByFence, ByGet, Delivers, FenceDelivers, GetDelivers, IsNameRace, IsSettled}
-use Rattle.wire_runs.specs.Embeddings.{Renaming, image, name_of, IsNameOf, IsSetOf, IsEmbedding, IsKept, KeepsFindings}
+use Rattle.wire_runs.specs.Embeddings.{Renaming, image, name_of, IsNameOf, IsSetOf, IsEmbedding, IsKeptDelivery, KeepsFindings}
 use Rattle.wire_runs.specs.Parts.{Piece, Kept, place_in, MayLeave, IsPartEach}
 use Rattle.wire_runs.specs.Renamed.{renumbering, IsRenumbered, RenumberedSettle}
 use Rattle.wire_runs.proofs.Basics.{event_within, list_all_at_member}
@@ -112,12 +112,12 @@ module _ (plan other : Plan) (key name : ℕ → ℕ) (same : IsRenumbered plan 
   node_there : (p q : ℕ) → same_node plan p q ≡ same_node other p q
   node_there p q = sym (ap (λ n. n == node_of plan q) (same.nodes p)) ∙ sym (ap (λ n. node_of other p == n) (same.nodes q))
 
-  kept_fence : (owner : ℕ) (get : Event) (k : ℕ) (members : List ℕ) (j : ℕ) → FenceDelivers other owner k (node_of other get.proc) members j → IsKept to plan other owner (node_of plan get.proc) (ByFence members j)
+  kept_fence : (owner : ℕ) (get : Event) (k : ℕ) (members : List ℕ) (j : ℕ) → FenceDelivers other owner k (node_of other get.proc) members j → IsKeptDelivery to plan other owner (node_of plan get.proc) (ByFence members j)
   kept_fence owner get k members j b =
       let m = mate_on other members (node_of other get.proc) b.reaches in
       record { own_at = b.away.at; arrival = b.away.arrival; mate = m.0; mate_is_member = m.1; mate_there = sym (same.nodes m.0) ∙ m.2 ∙ same.nodes get.proc }
 
-  pub kept_delivery : (owner : ℕ) (get : Event) (k : ℕ) (d : Delivery) → Delivers other owner k (node_of other get.proc) d → IsKept to plan other owner (node_of plan get.proc) d
+  pub kept_delivery : (owner : ℕ) (get : Event) (k : ℕ) (d : Delivery) → Delivers other owner k (node_of other get.proc) d → IsKeptDelivery to plan other owner (node_of plan get.proc) d
   kept_delivery owner get k (ByFence members j) d = kept_fence owner get k members j d.brings_it
   kept_delivery owner get k (ByGet g) d =
       let b : GetDelivers other owner k (node_of other get.proc) g = d.brings_it in

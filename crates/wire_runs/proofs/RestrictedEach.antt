@@ -13,7 +13,7 @@ use Rattle.wire_runs.specs.Embeddings.{Renaming, image_kind, IsSetOf}
 use Rattle.wire_runs.specs.Parts.{Piece, Left, kept_kinds, all_kinds, Fits, IsPartEach}
 use Rattle.wire_runs.specs.Patterns.{Who, Only, Self, Each, Item, Every, One, Word, Line, LinePut, LineCommit, LineFence, LineGet, LineGetNow, LinePublish, LineLookup, LineLookupWait, LineUnpublish, LineUnpublishAll, LineFixed}
 use Rattle.wire_runs.specs.Patterns.{Turns, InOrder, Round, Chosen, Step, Once, Loop, Pattern, Coding, Cast, group, who, members_in, word_code, call_in, turns, loop_calls, step_calls, calls_from, instance_of}
-use Rattle.wire_runs.specs.Patterns.{names_each, has_each, has_every, IsLoopLine, AreLoopLines, waits_line, waits_lines, has_commit, KnowsAll, KnowsItems, KnowsLine, IsStep, waits_step, AreSteps}
+use Rattle.wire_runs.specs.Patterns.{names_each, has_each, has_every, IsLoopLine, AreLoopLines, waits_line, waits_lines, has_commit, KnowsAll, KnowsItems, KnowsLine, IsLawfulStep, waits_step, AreSteps}
 use Rattle.wire_runs.specs.Restrictions.{skip, back, without, restricted, renamed_code, keep_calls, leave_calls, loop_pieces, step_pieces, pieces_from, script_in, pieces_of, removal, CanGo}
 use Rattle.wire_runs.proofs.Basics.{list_all_at_member}
 use Rattle.wire_runs.proofs.Skip.{skip_eq, skip_lt, skip_not, skip_one, skip_back, back_skip, without_get, group_skip, filter_map, filter_comm}
@@ -145,11 +145,11 @@ module _ (pattern : Pattern) (coding : Coding) (cast : Cast) (r role : ℕ) (can
     ]
 
   -- steps
-  step_all : (waits : Bool) (p i : ℕ) (step : Step) → IsStep pattern.single waits step → all_kinds to (step_pieces coding cast r p i step) ≡ kinds_of (step_calls coding cast (skip r p) i step)
+  step_all : (waits : Bool) (p i : ℕ) (step : Step) → IsLawfulStep pattern.single waits step → all_kinds to (step_pieces coding cast r p i step) ≡ kinds_of (step_calls coding cast (skip r p) i step)
   step_all waits p i (Once line) known = all_kept to (kinds_of (call_in coding fewer p p line ∷ [])) ∙ line_same p p line known
   step_all waits p i (Loop other mode lines) known = loop_all p other mode lines known.0 (turns cast (skip r p) i other mode)
 
-  step_kept : (waits : Bool) (p i : ℕ) (step : Step) → IsStep pattern.single waits step → kept_kinds (step_pieces coding cast r p i step) ≡ kinds_of (step_calls coding fewer p i step)
+  step_kept : (waits : Bool) (p i : ℕ) (step : Step) → IsLawfulStep pattern.single waits step → kept_kinds (step_pieces coding cast r p i step) ≡ kinds_of (step_calls coding fewer p i step)
   step_kept waits p i (Once line) known = kept_kept (kinds_of (call_in coding fewer p p line ∷ []))
   step_kept waits p i (Loop other mode lines) known =
       loop_kept p other mode lines known.0 (turns cast (skip r p) i other mode) ∙ ap (λ es. kinds_of (loop_calls coding fewer p lines es)) (turns_back p i other mode)

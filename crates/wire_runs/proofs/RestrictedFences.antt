@@ -8,7 +8,7 @@ use Rattle.wire_runs.specs.Plan.{Kind, Put, Commit, Arrive, Leave, Get, GetNow, 
 use Rattle.wire_runs.specs.Fences.{is_member}
 use Rattle.wire_runs.specs.Patterns.{Only, Self, Each, Item, Every, One, Line, LinePut, LineCommit, LineFence, LineGet, LineGetNow, LinePublish, LineLookup, LineLookupWait, LineUnpublish, LineUnpublishAll, LineFixed}
 use Rattle.wire_runs.specs.Patterns.{Turns, InOrder, Round, Chosen, Step, Once, Loop, Pattern, Coding, Cast, group, who, members_in, call_in, turns, loop_calls, step_calls, calls_from, instance_of}
-use Rattle.wire_runs.specs.Patterns.{has_every, IsLoopLine, IsOptional, AreLoopLines, KnowsItems, KnowsLine, IsStep, waits_step, AreSteps}
+use Rattle.wire_runs.specs.Patterns.{has_every, IsLoopLine, IsOptional, AreLoopLines, KnowsItems, KnowsLine, IsLawfulStep, waits_step, AreSteps}
 use Rattle.wire_runs.specs.Restrictions.{skip, script_in, CanGo}
 use Rattle.wire_runs.proofs.WholeSets.{rises_set, rises_group, same_set, member_set, group_member, plays, not_two, single_stays, single_other}
 use Rattle.wire_runs.proofs.RestrictedCalls.{instance_kinds, kinds_append}
@@ -360,7 +360,7 @@ module _ (pattern : Pattern) (coding : Coding) (cast : Cast) (r role : ℕ) (can
     in_round v i other vin ne =
         cond-false _ (filter (λ e. nat_lt v e) (group other cast.roles) ++ filter (λ e. nat_lt e v) (group other cast.roles)) _ (not_in v other vin ne) ∙ filter_none v (group other cast.roles) (not_in v other vin ne)
 
-    step_says : (v w i : ℕ) (waits : Bool) → is_member whole v ≡ true → is_member whole w ≡ true → (step : Step) → IsStep pattern.single waits step →
+    step_says : (v w i : ℕ) (waits : Bool) → is_member whole v ≡ true → is_member whole w ≡ true → (step : Step) → IsLawfulStep pattern.single waits step →
         says members (kinds_of (step_calls coding cast v i step)) ≡ says members (kinds_of (step_calls coding cast w i step))
     step_says v w i waits vin win (Once line) known = line_says v v w w vin win (inr vin) (inr win) line known
     step_says v w i waits vin win (Loop other Chosen lines) known =

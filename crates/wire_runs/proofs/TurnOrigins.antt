@@ -7,7 +7,7 @@ use Rattle.wire_runs.specs.Plan.{Kind, Arrive, Get, kinds_of, kind_at, set_of}
 use Rattle.wire_runs.specs.Fences.{is_member}
 use Rattle.wire_runs.specs.Patterns.{Who, Item, Word, Line, LinePut, LineCommit, LineFence, LineGet, LineGetNow, LinePublish, LineLookup, LineLookupWait, LineUnpublish, LineUnpublishAll, LineFixed}
 use Rattle.wire_runs.specs.Patterns.{Turns, Step, Once, Loop, Pattern, Coding, Cast, group, who, members_in, word_code, call_in, turns, loop_calls, step_calls, calls_from, instance_of}
-use Rattle.wire_runs.specs.Patterns.{IsLoopLine, AreLoopLines, KnowsLine, IsStep, waits_step, AreSteps}
+use Rattle.wire_runs.specs.Patterns.{IsLoopLine, AreLoopLines, KnowsLine, IsLawfulStep, waits_step, AreSteps}
 use Rattle.wire_runs.specs.Restrictions.{script_in, CanGo}
 use Rattle.wire_runs.proofs.RestrictedCalls.{instance_kinds, kinds_append}
 use Rattle.wire_runs.proofs.RestrictedEach.{script_known, turn_member}
@@ -74,7 +74,7 @@ module _ (pattern : Pattern) (coding : Coding) (cast : Cast) (r role : ℕ) (can
       (told_marked e ks (line_behind e other mode lines known (inside e (or_left (e == e) (is_member es e) (eq-eqb e e refl)))))
       (loop_told other mode lines known es (λ q m. inside q (or_right (e == q) (is_member es q) m))))
 
-  step_told : (i : ℕ) (waits : Bool) (step : Step) → IsStep pattern.single waits step → AreTold (step_marks coding cast v i step) (kinds_of (step_calls coding cast v i step))
+  step_told : (i : ℕ) (waits : Bool) (step : Step) → IsLawfulStep pattern.single waits step → AreTold (step_marks coding cast v i step) (kinds_of (step_calls coding cast v i step))
   step_told i waits (Once line) known = told_marked v (kinds_of (call_in coding cast v v line ∷ [])) (λ k h. InScript line known refl h)
   step_told i waits (Loop other mode lines) known = loop_told other mode lines known.0 (turns cast v i other mode) (turn_member pattern coding cast r role can v i other mode)
 

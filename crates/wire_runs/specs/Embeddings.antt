@@ -126,9 +126,9 @@ pub record IsKeptFence (to : Renaming) (small large : Plan) (owner node : ℕ) (
   pub mate_there : node_of small mate ≡ node
 
 -- of a delivery of the large plan as much stands in the small one as makes a delivery there
-abbrev pub IsKept : Renaming → Plan → Plan → ℕ → ℕ → Delivery → Type 0
-IsKept to small large owner node (ByFence members j) = IsKeptFence to small large owner node members j
-IsKept to small large owner node (ByGet get) = (x : Event) × (image to x ≡ get) × (node_of small x.proc ≡ node)
+abbrev pub IsKeptDelivery : Renaming → Plan → Plan → ℕ → ℕ → Delivery → Type 0
+IsKeptDelivery to small large owner node (ByFence members j) = IsKeptFence to small large owner node members j
+IsKeptDelivery to small large owner node (ByGet get) = (x : Event) × (image to x ≡ get) × (node_of small x.proc ≡ node)
 
 -- what is found in the large plan among images is found in the small one. A delivery race is told by what is settled:
 -- which event of the delivery is the lowest that isn't before the get may differ
@@ -141,7 +141,7 @@ pub record KeepsFindings (to : Renaming) (small large : Plan) : Type 0 where
       (own_key : ℕ) × (to.key own_key ≡ key) × IsNodeRace small commit get own_key
   pub delivery_races : (source get : Event) (owner key : ℕ)
       → (race : IsDeliveryRace large source (image to get) (to.process owner) key) →
-      same_node small owner get.proc ≡ false → IsKept to small large owner (node_of small get.proc) race.delivery
+      same_node small owner get.proc ≡ false → IsKeptDelivery to small large owner (node_of small get.proc) race.delivery
       → ¬ (IsSettled small)
 
 abbrev pub EmbeddingsKeepFindings : Type 0

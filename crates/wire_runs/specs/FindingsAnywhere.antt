@@ -7,11 +7,11 @@ use Rattle.wire_runs.specs.Races.{IsNearRace}
 use Rattle.wire_runs.specs.Placings.{IsFarRace}
 
 -- a finding: of every placing, or of that which gives two processes a node of their own, the lower named first
-pub data Placed : Type 0 where
-  OnAll : Finding → Placed
-  OnPair : Finding → (lower higher : ℕ) → Placed
+pub data PlacementFinding : Type 0 where
+  OnAll : Finding → PlacementFinding
+  OnPair : Finding → (lower higher : ℕ) → PlacementFinding
 
-abbrev pub finding_of : Placed → Finding
+abbrev pub finding_of : PlacementFinding → Finding
 finding_of (OnAll f) = f
 finding_of (OnPair f a b) = f
 
@@ -30,7 +30,7 @@ IsKeyRaceOn plan x y owner key a b =
     ((x.proc ≡ owner) × IsNearRace plan x y key × IsPair a b x.proc y.proc)
     ⊎ ((m : ℕ) × IsLeastFar plan x y owner key m × IsPair a b y.proc m)
 
-abbrev pub IsFoundSomewhere : Plan → Placed → Type 0
+abbrev pub IsFoundSomewhere : Plan → PlacementFinding → Type 0
 IsFoundSomewhere plan (OnAll (Rewrite x y)) = IsFound plan (Rewrite x y)
 IsFoundSomewhere plan (OnAll (NameRace x y name)) = IsFound plan (NameRace x y name)
 IsFoundSomewhere plan (OnAll (KeyRace x y owner key)) = ⊥
@@ -38,18 +38,18 @@ IsFoundSomewhere plan (OnPair (KeyRace x y owner key) a b) = IsLower x y
     × (IsKeyRaceOn plan x y owner key a b ⊎ IsKeyRaceOn plan y x owner key a b)
 IsFoundSomewhere plan (OnPair _ a b) = ⊥
 
-abbrev pub HasPlaced : List Placed → Placed → Type 0
-HasPlaced [] f = ⊥
-HasPlaced (g ∷ found) f = (f ≡ g) ⊎ HasPlaced found f
+abbrev pub HasPlacementFinding : List PlacementFinding → PlacementFinding → Type 0
+HasPlacementFinding [] f = ⊥
+HasPlacementFinding (g ∷ found) f = (f ≡ g) ⊎ HasPlacementFinding found f
 
 -- each comes sooner than all that follow it
-abbrev pub IsPlacedSorted : (ℕ → ℕ → Bool) → List Placed → Type 0
+abbrev pub IsPlacedSorted : (ℕ → ℕ → Bool) → List PlacementFinding → Type 0
 IsPlacedSorted lower_name [] = Unit {0}
 IsPlacedSorted lower_name (g ∷ found) =
-    ((f : Placed) → HasPlaced found f → IsSooner lower_name (finding_of g) (finding_of f))
+    ((f : PlacementFinding) → HasPlacementFinding found f → IsSooner lower_name (finding_of g) (finding_of f))
     × IsPlacedSorted lower_name found
 
 -- the list of what is found on some placing, in order
-pub record IsFindingsAnywhere (plan : Plan) (lower_name : ℕ → ℕ → Bool) (found : List Placed) : Type 0 where
-  pub those : (f : Placed) → HasPlaced found f ↔ IsFoundSomewhere plan f
+pub record IsFindingsAnywhere (plan : Plan) (lower_name : ℕ → ℕ → Bool) (found : List PlacementFinding) : Type 0 where
+  pub those : (f : PlacementFinding) → HasPlacementFinding found f ↔ IsFoundSomewhere plan f
   pub sorted : IsPlacedSorted lower_name found

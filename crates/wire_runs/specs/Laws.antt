@@ -112,7 +112,7 @@ abbrev pub WithoutKeep : Type 0
 WithoutKeep = (plan : Plan) → plan.keep ≡ false → FencesBring plan
 
 -- marks that tell which events are live, and which are before which
-pub record Marks (plan : Plan) : Type 0 where
+pub record HappensBefore (plan : Plan) : Type 0 where
   pub alive : Event → Bool
   pub before : Event → Event → Bool
   pub tells_live : (y : Event) → (alive y ≡ true) ↔ Live plan y
@@ -120,11 +120,11 @@ pub record Marks (plan : Plan) : Type 0 where
 
 -- each event of a settled plan has a fate
 abbrev pub HaveFates : Type 0
-HaveFates = (plan : Plan) → IsSettled plan → Marks plan → (y : Event) → (fate : Fate) × HasFate plan y fate
+HaveFates = (plan : Plan) → IsSettled plan → HappensBefore plan → (y : Event) → (fate : Fate) × HasFate plan y fate
 
 -- a sound cut of a settled plan is what some run has come to
 abbrev pub SoundIsReached : Type 0
-SoundIsReached = (plan : Plan) (cut : ℕ → ℕ) → IsSettled plan → Marks plan → IsSoundCut plan cut → (s : State) × IsReachable plan s
+SoundIsReached = (plan : Plan) (cut : ℕ → ℕ) → IsSettled plan → HappensBefore plan → IsSoundCut plan cut → (s : State) × IsReachable plan s
     × ((p : ℕ) → s.done p ≡ cut p)
 
 -- p's next event where so many events of each process are done

@@ -88,15 +88,15 @@ abbrev pub in_place : (ℕ → List Piece) → Renaming
 in_place pieces = record { process = λ p. p; place = λ p n. place_in (pieces p) n; key = λ key. key; name = λ name. name; members = λ members. members }
 
 -- a read: a get-now or a lookup
-abbrev pub IsRead : Kind → Type 0
-IsRead (GetNow owner key) = Unit {0}
-IsRead (Lookup name) = Unit {0}
-IsRead _ = ⊥
+abbrev pub IsReadCall : Kind → Type 0
+IsReadCall (GetNow owner key) = Unit {0}
+IsReadCall (Lookup name) = Unit {0}
+IsReadCall _ = ⊥
 
 abbrev pub LeavesReads : List Piece → Type 0
 LeavesReads [] = Unit {0}
 LeavesReads (Kept k ∷ pieces) = LeavesReads pieces
-LeavesReads (Left k ∷ pieces) = IsRead k × LeavesReads pieces
+LeavesReads (Left k ∷ pieces) = IsReadCall k × LeavesReads pieces
 
 -- the large plan has the calls of the small one, and perhaps reads between them
 pub record AddsReads (small large : Plan) (pieces : ℕ → List Piece) : Type 0 where

@@ -222,9 +222,9 @@ AreLoopLines single role mode (line ∷ lines) =
     (KnowsLine single line × (IsLoopLine role line × IsTurnLine mode line)) × AreLoopLines single role mode lines
 
 -- a loop with a commit begins, and ends each turn, where no put waits
-abbrev pub IsStep : (ℕ → Bool) → Bool → Step → Type 0
-IsStep single waits (Once line) = KnowsLine single line
-IsStep single waits (Loop role mode lines) =
+abbrev pub IsLawfulStep : (ℕ → Bool) → Bool → Step → Type 0
+IsLawfulStep single waits (Once line) = KnowsLine single line
+IsLawfulStep single waits (Loop role mode lines) =
     AreLoopLines single role mode lines × (has_commit lines ≡ true → (waits ≡ false) × (waits_lines false lines ≡ false))
 
 -- whether a put may wait after the step
@@ -234,7 +234,7 @@ waits_step waits (Loop role mode lines) = waits || waits_lines waits lines
 
 abbrev pub AreSteps : (ℕ → Bool) → Bool → List Step → Type 0
 AreSteps single waits [] = Unit {0}
-AreSteps single waits (step ∷ steps) = IsStep single waits step × AreSteps single (waits_step waits step) steps
+AreSteps single waits (step ∷ steps) = IsLawfulStep single waits step × AreSteps single (waits_step waits step) steps
 
 pub record IsLawful (pattern : Pattern) : Type 0 where
   pub steps : (role : ℕ) → AreSteps pattern.single false (pattern.script role)

@@ -17,14 +17,14 @@ use Rattle.wire_runs.specs.Ends.{row}
 use Rattle.wire_runs.specs.State.{Answer, start}
 use Rattle.wire_runs.specs.Step.{is_enabled, IsInterleaving, run}
 use Rattle.wire_runs.specs.PlainRun.{plain_run}
-use Rattle.wire_runs.specs.Laws.{plain_end, IsOneWay, Marks}
+use Rattle.wire_runs.specs.Laws.{plain_end, IsOneWay, HappensBefore}
 use Rattle.wire_runs.specs.Findings.{Finding, IsFound}
-use Rattle.wire_runs.specs.FindingsAnywhere.{IsLeastFar, Placed, OnAll, OnPair, finding_of, IsFoundSomewhere}
-use Rattle.wire_runs.specs.FindingsAnywhere.{HasPlaced, IsFindingsAnywhere}
+use Rattle.wire_runs.specs.FindingsAnywhere.{IsLeastFar, PlacementFinding, OnAll, OnPair, finding_of, IsFoundSomewhere}
+use Rattle.wire_runs.specs.FindingsAnywhere.{HasPlacementFinding, IsFindingsAnywhere}
 use Rattle.wire_runs.specs.Placings.{IsPlacing, placing, paired, Carries, HasSurely, IsFarRace, IsSettledAnywhere}
 
 -- a and b are on one node, and no other process is
-pub record AreAlone (plan : Plan) (a b : ℕ) : Type 0 where
+pub record ShareANode (plan : Plan) (a b : ℕ) : Type 0 where
   pub together : same_node plan a b ≡ true
   pub alone : (k : ℕ) → k < process_count plan → same_node plan k a ≡ true → (k ≡ a) ⊎ (k ≡ b)
 
@@ -33,7 +33,7 @@ pub record AreAlone (plan : Plan) (a b : ℕ) : Type 0 where
 pub record IsPlaceable (plan : Plan) : Type 0 where
   pub anywhere : (nodes : ℕ → ℕ) → IsPlacing plan (placing plan nodes)
   pub there : (nodes : ℕ → ℕ) (p : ℕ) → p < process_count plan → node_of (placing plan nodes) p ≡ nodes p
-  pub pair : (a b : ℕ) → a < process_count plan → b < process_count plan → AreAlone (paired plan a b) a b
+  pub pair : (a b : ℕ) → a < process_count plan → b < process_count plan → ShareANode (paired plan a b) a b
   pub itself : IsPlacing plan plan
   pub back : (other : Plan) → IsPlacing plan other → IsPlacing other plan
   pub again : (other third : Plan) → IsPlacing plan other → IsPlacing other third → IsPlacing plan third
@@ -175,7 +175,7 @@ pub record IsFamily (plan : Plan) (family : Plan → Bool) : Type 0 where
   pub placings : (other : Plan) → family other ≡ true → IsPlacing plan other
   pub one : (other : Plan) × (family other ≡ true)
   pub alone : (a b : ℕ) → a ≢ b → a < process_count plan → b < process_count plan → MayMeet family a b
-      → (other : Plan) × (family other ≡ true) × AreAlone other a b
+      → (other : Plan) × (family other ≡ true) × ShareANode other a b
 
 -- there is nothing to find on any placing of the family
 pub record IsSettledIn (plan : Plan) (family : Plan → Bool) : Type 0 where
@@ -192,7 +192,7 @@ FamilyTells = (plan : Plan) (family : Plan → Bool) → IsFamily plan family
 -- are alone on a node
 pub record FoundThere (plan : Plan) (f : Finding) : Type 0 where
   pub on_all : IsFoundSomewhere plan (OnAll f) → (other : Plan) → IsPlacing plan other → IsFound other f
-  pub alone : (a b : ℕ) (other : Plan) → IsPlacing plan other → AreAlone other a b
+  pub alone : (a b : ℕ) (other : Plan) → IsPlacing plan other → ShareANode other a b
       → IsFoundSomewhere plan (OnPair f a b) → IsFound other f
   pub on_pair : (a b : ℕ) → IsFoundSomewhere plan (OnPair f a b) → IsFound (paired plan a b) f
 
@@ -201,8 +201,8 @@ PlacedIsFound = (plan : Plan) (f : Finding) → FoundThere plan f
 
 -- the list has exactly the findings of all placings, and it is empty exactly where the plan is settled anywhere
 pub record ListsAnywhere (plan : Plan) (lower_name : ℕ → ℕ → Bool) : Type 0 where
-  pub findings : (found : List Placed) → IsFindingsAnywhere plan lower_name found → (f : Finding)
-      → ((g : Placed) × HasPlaced found g × (finding_of g ≡ f)) ↔ ((other : Plan) × IsPlacing plan other
+  pub findings : (found : List PlacementFinding) → IsFindingsAnywhere plan lower_name found → (f : Finding)
+      → ((g : PlacementFinding) × HasPlacementFinding found g × (finding_of g ≡ f)) ↔ ((other : Plan) × IsPlacing plan other
       × IsFound other f)
   pub none : IsFindingsAnywhere plan lower_name [] ↔ IsSettledAnywhere plan
 
@@ -211,11 +211,11 @@ FindingsAnywhere = (plan : Plan) (lower_name : ℕ → ℕ → Bool) → ListsAn
 
 -- a finding has one pair, and for each order of the names the list is one
 abbrev pub OnePair : Type 0
-OnePair = (plan : Plan) (f g : Placed) → IsFoundSomewhere plan f → IsFoundSomewhere plan g
+OnePair = (plan : Plan) (f g : PlacementFinding) → IsFoundSomewhere plan f → IsFoundSomewhere plan g
     → finding_of f ≡ finding_of g → f ≡ g
 
 abbrev pub OneListAnywhere : Type 0
-OneListAnywhere = (plan : Plan) (lower_name : ℕ → ℕ → Bool) (xs ys : List Placed) → IsOneWay lower_name
+OneListAnywhere = (plan : Plan) (lower_name : ℕ → ℕ → Bool) (xs ys : List PlacementFinding) → IsOneWay lower_name
     → IsFindingsAnywhere plan lower_name xs →
     IsFindingsAnywhere plan lower_name ys → xs ≡ ys
 
@@ -226,8 +226,8 @@ pub record LeastIsTold (plan : Plan) : Type 0 where
   pub least : (source get : Event) (owner key m : ℕ) → IsFarRace plan source get owner key m
       → (k : ℕ) × IsLeastFar plan source get owner key k
 
-abbrev pub HaveLeast : Type 0
-HaveLeast = (plan : Plan) → Marks plan → LeastIsTold plan
+abbrev pub HaveLeastFar : Type 0
+HaveLeastFar = (plan : Plan) → HappensBefore plan → LeastIsTold plan
 
 -- whether the reply to such an event of process q may tell where processes are: it is a get of another's key, or a call
 -- of a reserved key or name
@@ -261,8 +261,8 @@ how_far (Replied reply) = Replied (bare status.Success)
 how_far end = end
 
 -- where the plain run can't go on each call has come as far on every placing: the same have a reply, and the same wait
-abbrev pub PlacingsEndAlike : Type 0
-PlacingsEndAlike =
+abbrev pub SameProgressOnPlacements : Type 0
+SameProgressOnPlacements =
     (plan other : Plan) → IsPlacing plan other → (p : ℕ)
     → map how_far (row plan (plain_end plan) p) ≡ map how_far (row other (plain_end other) p)
 

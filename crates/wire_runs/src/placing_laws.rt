@@ -5,7 +5,7 @@ ghost use Rattle.wire_runs.specs.PlacingLaws.{PlacingsAre, PlacingKeeps, OneArri
 ghost use Rattle.wire_runs.specs.PlacingLaws.{OneMemberTells, ReaderTakesNoPart, OneANodeHasNone};
 ghost use Rattle.wire_runs.specs.PlacingLaws.{NearAnywhere, FarAnywhere, SettledAnywhere, PlacingTells};
 ghost use Rattle.wire_runs.specs.PlacingLaws.{FamilyTells, PlacedIsFound, FindingsAnywhere, OnePair};
-ghost use Rattle.wire_runs.specs.PlacingLaws.{OneListAnywhere, HaveLeast, PlacingsRunAlike, PlacingsEndAlike, RepliesAnywhere};
+ghost use Rattle.wire_runs.specs.PlacingLaws.{OneListAnywhere, HaveLeastFar, PlacingsRunAlike, SameProgressOnPlacements, RepliesAnywhere};
 
 /// A plan can be placed on any nodes, and being a placing of it goes both ways and on.
 pub fn placings_are()
@@ -99,7 +99,7 @@ pub fn one_list_anywhere()
 /// Given marks, it is told whether a process surely has a key, and of a far race the lowest process with
 /// which it is far.
 pub fn have_least()
-    ensures { HaveLeast }
+    ensures { HaveLeastFar }
 {}
 
 /// A placing of a plan has the plan's runs: after the same steps as much is done, the same stands under each
@@ -110,7 +110,7 @@ pub fn placings_run_alike()
 
 /// Where the plain run can't go on each call has come as far on every placing: the same have a reply, and the same wait.
 pub fn placings_end_alike()
-    ensures { PlacingsEndAlike }
+    ensures { SameProgressOnPlacements }
 {}
 
 /// Of a plan that is settled anywhere, which calls reply the same on every placing.

@@ -9,4 +9,4 @@ pub use gate::{Gate, OpenGate};
 pub use serve::{Crew, Serves, work, work_locked};
 pub use turns::take_turns;
 pub use wire_board::{Lane, Lanes, Served};
-pub use wire_rounds::{Pass, Piece, Round, Take};
+pub use wire_rounds::{Pass, Piece, StealRound, Take};

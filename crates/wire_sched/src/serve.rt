@@ -8,7 +8,7 @@ use crate::gate::Gate;
 use std::sync::Wait;
 use wire_board::{Lanes, Served};
 use wire_locked::LockedCore;
-use wire_rounds::{Pass, Piece, Round, Take};
+use wire_rounds::{Pass, Piece, StealRound, Take};
 use wire_types::{Event, Proc};
 
 /// How often one deque may answer `Again`.
@@ -58,7 +58,7 @@ impl<'a> Serves for LockedCore<'a> {
 #[derive(Drop)]
 pub struct Crew<'r, S, G> {
     pub served: &'r S,
-    pub round: &'r Round,
+    pub round: &'r StealRound,
     pub gate: &'r G,
 }
 
@@ -77,7 +77,7 @@ pub(crate) struct Seen {
 pub fn work<R: Wait, G: Gate>(
     rt: &R,
     lanes: &Lanes<'_>,
-    round: &Round,
+    round: &StealRound,
     pass: &mut Pass,
     gate: &G,
 ) -> usize
@@ -96,7 +96,7 @@ pub fn work<R: Wait, G: Gate>(
 pub fn work_locked<R: Wait, G: Gate>(
     rt: &R,
     locked: &LockedCore<'_>,
-    round: &Round,
+    round: &StealRound,
     pass: &mut Pass,
     gate: &G,
 ) -> usize
@@ -150,7 +150,7 @@ pub(crate) fn serve_rank<R: Wait, S: Serves>(
 }
 
 /// The front piece of the worker's own deque, or else one that it steals.
-fn next_piece(round: &Round, pass: &mut Pass, victim: &mut Victim) -> Option<Piece>
+fn next_piece(round: &StealRound, pass: &mut Pass, victim: &mut Victim) -> Option<Piece>
     requires { IsPassOf round.now pass.old }
     ensures kept { IsPassOf round.now pass.new × (worker_of pass.new ≡ worker_of pass.old) }
     ensures piece { IfSome result (IsPieceOf round.now) }
@@ -163,7 +163,7 @@ fn next_piece(round: &Round, pass: &mut Pass, victim: &mut Victim) -> Option<Pie
 }
 
 /// The front piece of the first deque from here on that gives one.
-fn steal_next(round: &Round, pass: &mut Pass, victim: &mut Victim) -> Option<Piece>
+fn steal_next(round: &StealRound, pass: &mut Pass, victim: &mut Victim) -> Option<Piece>
     requires { IsPassOf round.now pass.old }
     ensures kept { IsPassOf round.now pass.new × (worker_of pass.new ≡ worker_of pass.old) }
     ensures piece { IfSome result (IsPieceOf round.now) }

@@ -8,7 +8,7 @@ use Rattle.wire_runs.specs.Patterns.{Pattern, Coding, Cast, group, instance_of, 
 use Rattle.wire_runs.specs.Restrictions.{restricted, CanGo}
 use Rattle.wire_runs.proofs.Due.{live_may}
 use Rattle.wire_runs.proofs.SmallInstances.{without_length}
-use Rattle.wire_pattern_laws.specs.Ordered.{IsInOrder, HasLeast, HasMost, AllowThree, SmallOnesAreSettled}
+use Rattle.wire_pattern_laws.specs.Ordered.{HasRolesInOrder, HasLeast, HasMost, AllowThree, SmallOnesAreSettled}
 use Rattle.wire_pattern_laws.proofs.SmallOrdered.{restricted_order, look, fewer_cast, enough_left}
 use Rattle.wire_size_laws.specs.Answered.{WaitsForOne, IsAnswered}
 use Rattle.wire_size_laws.specs.Stages.{Stages, IsStaged, IsStagedWell, StagedAnswered}
@@ -25,12 +25,12 @@ record GoesUp (stages : Stages) (pattern : Pattern) (coding : Coding) (cast : Ca
   pub staged : IsStaged stages pattern coding cast
 
 module _ (stages : Stages) (pattern : Pattern) (coding : Coding) (bound : ℕ) (least most : ℕ → ℕ) (lawful : IsLawful pattern) (allow : AllowThree bound least most)
-    (settled : (cast : Cast) → IsCastOf pattern cast → IsInOrder bound cast → HasLeast bound least cast → IsSettled (instance_of pattern coding cast))
-    (small : (cast : Cast) → IsCastOf pattern cast → IsInOrder bound cast → HasLeast bound least cast → HasMost bound most cast → IsStagedWell stages pattern coding cast) where
+    (settled : (cast : Cast) → IsCastOf pattern cast → HasRolesInOrder bound cast → HasLeast bound least cast → IsSettled (instance_of pattern coding cast))
+    (small : (cast : Cast) → IsCastOf pattern cast → HasRolesInOrder bound cast → HasLeast bound least cast → HasMost bound most cast → IsStagedWell stages pattern coding cast) where
   small_settled : SmallOnesAreSettled pattern coding bound least most
   small_settled cast cast_is order has few = settled cast cast_is order has
 
-  by_fewer : (cast : Cast) → IsCastOf pattern cast → IsInOrder bound cast → HasLeast bound least cast
+  by_fewer : (cast : Cast) → IsCastOf pattern cast → HasRolesInOrder bound cast → HasLeast bound least cast
       → ((r role : ℕ) → CanGo pattern cast r role → role < bound → most role < length (group role cast.roles) → GoesUp stages pattern coding (restricted r cast))
       → GoesUp stages pattern coding cast
   by_fewer cast cast_is order has fewer = elim (look pattern coding bound least most lawful allow small_settled cast bound (omega arith)) [
@@ -51,7 +51,7 @@ module _ (stages : Stages) (pattern : Pattern) (coding : Coding) (bound : ℕ) (
         })
   ]
 
-  bounded : (n : ℕ) (cast : Cast) → length cast.roles ≤ n → IsCastOf pattern cast → IsInOrder bound cast → HasLeast bound least cast → GoesUp stages pattern coding cast
+  bounded : (n : ℕ) (cast : Cast) → length cast.roles ≤ n → IsCastOf pattern cast → HasRolesInOrder bound cast → HasLeast bound least cast → GoesUp stages pattern coding cast
   bounded zero cast le cast_is order has = by_fewer cast cast_is order has (λ r role can lt more. absurd (let shorter = without_length r role cast.roles can.is in omega (arith, shorter, le)))
   bounded (suc n) cast le cast_is order has = by_fewer cast cast_is order has (λ r role can lt more.
       bounded n (restricted r cast) (let shorter = without_length r role cast.roles can.is in omega (arith, shorter, le))
@@ -65,8 +65,8 @@ staged_answered stages pattern coding bound least most lawful allow settled smal
 
 -- and each lookup-wait of all instances is of a name that is published once
 pub all_wait_for_one : (stages : Stages) (pattern : Pattern) (coding : Coding) (bound : ℕ) (least most : ℕ → ℕ) → IsLawful pattern → AllowThree bound least most
-    → ((cast : Cast) → IsCastOf pattern cast → IsInOrder bound cast → HasLeast bound least cast → IsSettled (instance_of pattern coding cast))
-    → ((cast : Cast) → IsCastOf pattern cast → IsInOrder bound cast → HasLeast bound least cast → HasMost bound most cast → IsStagedWell stages pattern coding cast)
-    → (cast : Cast) → IsCastOf pattern cast → IsInOrder bound cast → HasLeast bound least cast → WaitsForOne (instance_of pattern coding cast)
+    → ((cast : Cast) → IsCastOf pattern cast → HasRolesInOrder bound cast → HasLeast bound least cast → IsSettled (instance_of pattern coding cast))
+    → ((cast : Cast) → IsCastOf pattern cast → HasRolesInOrder bound cast → HasLeast bound least cast → HasMost bound most cast → IsStagedWell stages pattern coding cast)
+    → (cast : Cast) → IsCastOf pattern cast → HasRolesInOrder bound cast → HasLeast bound least cast → WaitsForOne (instance_of pattern coding cast)
 all_wait_for_one stages pattern coding bound least most lawful allow settled small cast cast_is order has =
     (bounded stages pattern coding bound least most lawful allow settled small (length cast.roles) cast (omega arith) cast_is order has).one

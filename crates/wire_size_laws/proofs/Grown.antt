@@ -6,7 +6,7 @@ use Rattle.std.proofs.lemmas.Bool.{cond-true, cond-false, cases_eq}
 use Rattle.wire_runs.specs.Patterns.{Pattern, Cast, group, IsCastOf}
 use Rattle.wire_runs.specs.Restrictions.{back, without, restricted}
 use Rattle.wire_runs.proofs.Skip.{back_skip}
-use Rattle.wire_pattern_laws.specs.Ordered.{DontFall, IsInOrder}
+use Rattle.wire_pattern_laws.specs.Ordered.{DontFall, HasRolesInOrder}
 use Rattle.std.proofs.lemmas.Option.{none-some, same_Some}
 
 abbrev pub with_one : ℕ → ℕ → List ℕ → List ℕ
@@ -101,7 +101,7 @@ with_one_get zero x (y ∷ ys) is (suc p) = refl
 with_one_get (suc r) x (y ∷ ys) is zero = refl
 with_one_get (suc r) x (y ∷ ys) is (suc p) = with_one_get r x ys is p
 
-pub grown_order : (bound r role : ℕ) (cast : Cast) → slice_get cast.roles r ≡ Some role → IsInOrder bound cast → IsInOrder bound (grown r role cast)
+pub grown_order : (bound r role : ℕ) (cast : Cast) → slice_get cast.roles r ≡ Some role → HasRolesInOrder bound cast → HasRolesInOrder bound (grown r role cast)
 grown_order bound r role cast plays order = record {
   order = with_one_order 0 r role cast.roles plays order.order;
   below = λ p other is. order.below (back r p) other (sym (with_one_get r role cast.roles plays p) ∙ is);

@@ -12,7 +12,7 @@ use Rattle.wire_runs.proofs.Basics.{event_within}
 use Rattle.wire_runs.proofs.Skip.{skip_back, back_skip, skip_lt, skip_up, without_get}
 use Rattle.wire_runs.proofs.RestrictedEach.{turns_skip, kept_is}
 use Rattle.wire_runs.proofs.RestrictedWhole.{restrictions_embed}
-use Rattle.wire_size_laws.specs.Stages.{Label, turn_labels, loop_labels, step_labels, labels_from, labels_of, By, ByNone, ByCaller, ByOther, ByLower, ByHigher, counted, Stages, Key, is_leave, key_in, key_of, IsLess}
+use Rattle.wire_size_laws.specs.Stages.{Label, turn_labels, loop_labels, step_labels, labels_from, labels_of, By, ByNone, ByCaller, ByOther, ByLower, ByHigher, counted, Stages, StageKey, is_leave, key_in, key_of, IsLess}
 
 -- a label with r's gap
 abbrev pub label_up : ℕ → Label → Label
@@ -90,7 +90,7 @@ abbrev number_up : ℕ → ℕ → ℕ
 number_up r zero = zero
 number_up r (suc p) = suc (skip r p)
 
-abbrev pub key_up : ℕ → Key → Key
+abbrev pub key_up : ℕ → StageKey → StageKey
 key_up r k = record { one = k.one; two = number_up r k.two; three = number_up r k.three; four = k.four }
 
 number_rises : (r a b : ℕ) → a < b → number_up r a < number_up r b
@@ -98,7 +98,7 @@ number_rises r a zero lt = absurd (omega (arith, lt))
 number_rises r zero (suc b) lt = omega arith
 number_rises r (suc a) (suc b) lt = let up = skip_up r a b (omega (arith, lt)) in omega (arith, up)
 
-pub less_up : (r : ℕ) (k l : Key) → IsLess k l → IsLess (key_up r k) (key_up r l)
+pub less_up : (r : ℕ) (k l : StageKey) → IsLess k l → IsLess (key_up r k) (key_up r l)
 less_up r k l (inl lt) = inl lt
 less_up r k l (inr (same, inl lt)) = inr (same, inl (number_rises r k.two l.two lt))
 less_up r k l (inr (same, inr (two, inl lt))) = inr (same, inr (ap (number_up r) two, inl (number_rises r k.three l.three lt)))

@@ -18,7 +18,7 @@ use Rattle.wire_runs.proofs.TurnMarks.{is_image}
 use Rattle.wire_runs.proofs.WholeSets.{rises_group, group_member}
 use Rattle.wire_runs.proofs.RestrictedOnce.{plays_role}
 use Rattle.wire_runs.proofs.RestrictedWhole.{restrictions_embed}
-use Rattle.wire_size_laws.specs.Stages.{Stages, Key, key_of, IsLess, IsStaged}
+use Rattle.wire_size_laws.specs.Stages.{Stages, StageKey, key_of, IsLess, IsStaged}
 use Rattle.wire_size_laws.proofs.Labels.{key_up, less_up, key_same}
 use Rattle.wire_size_laws.proofs.Descent.{by_keys}
 use Rattle.wire_size_laws.proofs.EdgesBack.{source_kind, get_back, leave_back, source_image, edge_fewer}
@@ -31,14 +31,14 @@ module _ (stages : Stages) (pattern : Pattern) (coding : Coding) (cast : Cast) (
   abbrev plan : Plan
   plan = instance_of pattern coding cast
 
-  abbrev key : Event → Key
+  abbrev key : Event → StageKey
   key = key_of stages pattern coding cast
 
-  abbrev AreLive : Key → Type 0
+  abbrev AreLive : StageKey → Type 0
   AreLive at_key = (y : Event) (k : Kind) → kind plan y ≡ Some k → key y ≡ at_key → Live plan y
 
   -- those of one key, of which lesser keys are live
-  of_key : (at_key : Key) → ((l : Key) → IsLess l at_key → AreLive l) → (m : ℕ) (y : Event) (k : Kind) → kind plan y ≡ Some k → key y ≡ at_key → y.at < m → Live plan y
+  of_key : (at_key : StageKey) → ((l : StageKey) → IsLess l at_key → AreLive l) → (m : ℕ) (y : Event) (k : Kind) → kind plan y ≡ Some k → key y ≡ at_key → y.at < m → Live plan y
   of_key at_key lesser zero y k is same lt = absurd (omega (arith, lt))
   of_key at_key lesser (suc m) y k is same lt =
       live (ap (may_come plan y) is ∙ all_may y k is) (λ x edge.
@@ -70,7 +70,7 @@ module _ (pattern : Pattern) (coding : Coding) (cast : Cast) (role : ℕ) (lawfu
       (w.0, record { lawful = lawful; cast_is = cast_is; is = plays_role (slice_get cast.roles w.0) role (sym (group_member role cast.roles w.0) ∙ w.1); four = four }, w.2, w.3, w.4)
 
   module _ (stages : Stages) (staged : (r : ℕ) → slice_get cast.roles r ≡ Some role → IsStaged stages pattern coding (restricted r cast)) where
-    abbrev key_there : Event → Key
+    abbrev key_there : Event → StageKey
     key_there = key_of stages pattern coding cast
 
     abbrev IsRight : Event → Event → Type 0

@@ -9,7 +9,7 @@ use Rattle.wire_runs.specs.Laws.{plain_end}
 use Rattle.wire_runs.specs.Embeddings.{image}
 use Rattle.wire_runs.specs.Patterns.{Pattern, Coding, Cast, group, instance_of, IsLawful, IsCastOf}
 use Rattle.wire_runs.specs.Restrictions.{restricted, removal, CanGo}
-use Rattle.wire_pattern_laws.specs.Ordered.{IsInOrder}
+use Rattle.wire_pattern_laws.specs.Ordered.{HasRolesInOrder}
 
 -- each lookup-wait is of a name that is published once and that no call takes away
 abbrev pub WaitsForOne : Plan → Type 0
@@ -49,12 +49,12 @@ HasSizes sizes cast = (role : ℕ) → length (group role cast.roles) ≡ sizes 
 -- the instances in the order of the roles, with so many processes of each role, whatever turns they take and on whatever
 -- nodes: nothing is found, and each lookup-wait is of a name that is published once
 abbrev pub AreSettled : Pattern → Coding → ℕ → (ℕ → ℕ) → Type 0
-AreSettled pattern coding bound sizes = (cast : Cast) → IsCastOf pattern cast → IsInOrder bound cast → HasSizes sizes cast
+AreSettled pattern coding bound sizes = (cast : Cast) → IsCastOf pattern cast → HasRolesInOrder bound cast → HasSizes sizes cast
     → IsSettled (instance_of pattern coding cast) × WaitsForOne (instance_of pattern coding cast)
 
 -- and every call is answered
 abbrev pub AreAnswered : Pattern → Coding → ℕ → (ℕ → ℕ) → Type 0
-AreAnswered pattern coding bound sizes = (cast : Cast) → IsCastOf pattern cast → IsInOrder bound cast → HasSizes sizes cast
+AreAnswered pattern coding bound sizes = (cast : Cast) → IsCastOf pattern cast → HasRolesInOrder bound cast → HasSizes sizes cast
     → IsAnswered (instance_of pattern coding cast)
 
 -- of each role as many, or fewer but three at least

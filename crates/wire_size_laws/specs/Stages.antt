@@ -5,7 +5,7 @@ use Rattle.wire_runs.specs.Order.{Edge}
 use Rattle.wire_runs.specs.Races.{IsSettled}
 use Rattle.wire_runs.specs.Patterns.{Line, LineFence, Step, Once, Loop, Pattern, Coding, Cast, turns, instance_of, IsLawful, IsCastOf}
 use Rattle.wire_runs.specs.Restrictions.{script_in}
-use Rattle.wire_pattern_laws.specs.Ordered.{IsInOrder, HasLeast, HasMost, AllowThree}
+use Rattle.wire_pattern_laws.specs.Ordered.{HasRolesInOrder, HasLeast, HasMost, AllowThree}
 use Rattle.wire_size_laws.specs.Answered.{WaitsForOne, IsAnswered}
 
 -- where an event comes from: the step of its role's script, the line of that step, and the process whose turn it is, the
@@ -65,30 +65,30 @@ pub record Stage : Type 0 where
 abbrev pub Stages : Type 0
 Stages = ℕ → ℕ → ℕ → Bool → Stage
 
-pub record Key : Type 0 where
+pub record StageKey : Type 0 where
   pub one : ℕ
   pub two : ℕ
   pub three : ℕ
   pub four : ℕ
 
-abbrev pub key_at : Stage → ℕ → ℕ → Key
+abbrev pub key_at : Stage → ℕ → ℕ → StageKey
 key_at s v e = record { one = s.stage; two = counted s.first v e; three = counted s.second v e; four = s.place }
 
 abbrev pub is_leave : Option Kind → Bool
 is_leave (Some (Leave members)) = true
 is_leave _ = false
 
-abbrev pub key_in : Stages → Option ℕ → Option Label → Bool → ℕ → Key
+abbrev pub key_in : Stages → Option ℕ → Option Label → Bool → ℕ → StageKey
 key_in stages (Some role) (Some l) leave v = key_at (stages role l.step l.line leave) v l.each
 key_in stages _ _ leave v = record { one = 0; two = 0; three = 0; four = 0 }
 
 -- the key of an event of an instance
-abbrev pub key_of : Stages → Pattern → Coding → Cast → Event → Key
+abbrev pub key_of : Stages → Pattern → Coding → Cast → Event → StageKey
 key_of stages pattern coding cast x =
     key_in stages (slice_get cast.roles x.proc) (slice_get (labels_of pattern cast x.proc) x.at) (is_leave (kind (instance_of pattern coding cast) x)) x.proc
 
 -- keys by their first number that differs
-abbrev pub IsLess : Key → Key → Type 0
+abbrev pub IsLess : StageKey → StageKey → Type 0
 IsLess k l = (k.one < l.one) ⊎ ((k.one ≡ l.one) × ((k.two < l.two) ⊎ ((k.two ≡ l.two) × ((k.three < l.three) ⊎ ((k.three ≡ l.three) × (k.four < l.four))))))
 
 -- in the instance no key of a process is less than an earlier one, and what an event waits for has a lesser key, or is
@@ -112,6 +112,6 @@ pub record IsStagedWell (stages : Stages) (pattern : Pattern) (coding : Coding) 
 abbrev pub StagedAnswered : Type 0
 StagedAnswered = (stages : Stages) (pattern : Pattern) (coding : Coding) (bound : ℕ) (least most : ℕ → ℕ) → IsLawful pattern
     → AllowThree bound least most
-    → ((cast : Cast) → IsCastOf pattern cast → IsInOrder bound cast → HasLeast bound least cast → IsSettled (instance_of pattern coding cast))
-    → ((cast : Cast) → IsCastOf pattern cast → IsInOrder bound cast → HasLeast bound least cast → HasMost bound most cast → IsStagedWell stages pattern coding cast)
-    → (cast : Cast) → IsCastOf pattern cast → IsInOrder bound cast → HasLeast bound least cast → IsAnswered (instance_of pattern coding cast)
+    → ((cast : Cast) → IsCastOf pattern cast → HasRolesInOrder bound cast → HasLeast bound least cast → IsSettled (instance_of pattern coding cast))
+    → ((cast : Cast) → IsCastOf pattern cast → HasRolesInOrder bound cast → HasLeast bound least cast → HasMost bound most cast → IsStagedWell stages pattern coding cast)
+    → (cast : Cast) → IsCastOf pattern cast → HasRolesInOrder bound cast → HasLeast bound least cast → IsAnswered (instance_of pattern coding cast)

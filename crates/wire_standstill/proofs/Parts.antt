@@ -4,7 +4,7 @@ use Rattle.std.proofs.lemmas.Bool.{cases_lt}
 use Rattle.std.proofs.lemmas.List.{at_drop_more, append-nil}
 use Rattle.std.proofs.Math.ListN.{drop_of_length-le}
 use Rattle.wire_runs.specs.State.{State}
-use Rattle.wire_content.specs.Scripts.{Scripts}
+use Rattle.wire_scripts.specs.Scripts.{Scripts}
 use Rattle.wire_standstill.specs.Lines.{line_of, lines_of}
 
 pub lined_more : (scripts : Scripts) (s : State) (ranks : List ℕ) (i : ℕ) (d : ℕ) (out new all : List ℕ) → i < length ranks →

@@ -3,7 +3,7 @@ use Rattle.std.specs.Prelude.{ℕ, List, [], ◌∷◌, ◌++◌, drop, Option, 
 use Rattle.wire_types.specs.declared.CallAt.{CallAt}
 use Rattle.wire_types.specs.Outcome.{Ends}
 use Rattle.wire_runs.specs.State.{State}
-use Rattle.wire_content.specs.Scripts.{Scripts}
+use Rattle.wire_scripts.specs.Scripts.{Scripts}
 use Rattle.wire_json.specs.Json.{quoted, bracketed, json_report}
 use Rattle.wire_json.specs.Chains.{call_member, proc_member, verb_member}
 use Rattle.wire_explain.specs.Stops.{standing}

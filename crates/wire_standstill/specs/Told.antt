@@ -4,10 +4,10 @@ use Rattle.wire_types.specs.Outcome.{Ends}
 use Rattle.wire_runs.specs.State.{State}
 use Rattle.wire_runs.specs.Step.{run}
 use Rattle.wire_runs.specs.PlainRun.{plain_run}
-use Rattle.wire_content.specs.Scripts.{Scripts}
-use Rattle.wire_content.specs.Planned.{plan_of}
-use Rattle.wire_script.specs.declared.Size.{Size}
-use Rattle.wire_script.specs.Reads.{Reads}
+use Rattle.wire_scripts.specs.Scripts.{Scripts}
+use Rattle.wire_scripts.specs.Planned.{plan_of}
+use Rattle.wire_reader.specs.declared.Size.{Size}
+use Rattle.wire_reader.specs.Reads.{Reads}
 use Rattle.wire_explain.specs.Quote.{shown_byte}
 use Rattle.wire_standstill.specs.Standstill.{IsStandstill}
 use Rattle.wire_standstill.specs.Lines.{told_of}

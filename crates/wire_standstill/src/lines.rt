@@ -8,9 +8,9 @@ ghost use Rattle.wire_standstill.specs.Lines as spec;
 
 use crate::standstill::Standstill;
 use std::alloc::{AllocError, Global};
-use wire_content::Scripts;
 use wire_core::Core;
 use wire_explain::{Standing, find_standing, push_said_call, shown_text};
+use wire_scripts::Scripts;
 use wire_types::{CallAt, Proc};
 use wire_words::push_number;
 

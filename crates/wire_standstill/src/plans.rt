@@ -5,7 +5,7 @@ ghost use Rattle.wire_types.specs.Outcome.{ends_of};
 ghost use Rattle.wire_types.specs.declared.Fault.TheVariants.{Memory};
 ghost use Rattle.wire_core.specs.Course.{state_of};
 ghost use Rattle.wire_explain.specs.Quote.{is_printable_text};
-ghost use Rattle.wire_script.specs.Reads.{Reads};
+ghost use Rattle.wire_reader.specs.Reads.{Reads};
 ghost use Rattle.wire_standstill.specs.Told.{TellsWhere, TellsStandstill, TellsStandstillOf};
 ghost use Rattle.wire_standstill.specs.Told.{ListsWhere, ListsStandstill, ReportsWhere, ReportsStandstill};
 
@@ -13,10 +13,10 @@ use crate::lines::standstill_text;
 use crate::report::{standstill_json, standstill_members};
 use crate::standstill::find_standstill;
 use std::alloc::{AllocError, Global};
-use wire_content::Scripts;
 use wire_core::Core;
 use wire_plan::Plan;
-use wire_script::{Size, read_sized};
+use wire_reader::{Size, read_sized};
+use wire_scripts::Scripts;
 use wire_types::{Fault, Outcome};
 
 /// What is told where a core stands.

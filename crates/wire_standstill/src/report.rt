@@ -11,10 +11,10 @@ ghost use Rattle.wire_standstill.specs.Report as spec;
 
 use crate::standstill::Standstill;
 use std::alloc::{AllocError, Global};
-use wire_content::Scripts;
 use wire_core::Core;
 use wire_explain::{Standing, find_standing};
 use wire_json::{push_list, push_quoted, report_json};
+use wire_scripts::Scripts;
 use wire_types::{CallAt, Outcome, Proc};
 use wire_words::{push_number, push_proc, verb_at};
 

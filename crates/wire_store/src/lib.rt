@@ -3,10 +3,10 @@
 #![tactic(auto)]
 
 mod chain;
-mod law;
+mod laws;
 mod seen;
 mod store;
 
-pub use law::tells_puts;
+pub use laws::tells_puts;
 pub use seen::Seen;
 pub use store::RankStore;

@@ -7,12 +7,12 @@ use Rattle.wire_types.specs.declared.Fault.TheVariants.{Memory, Read}
 use Rattle.wire_runs.specs.Plan.{Plan}
 use Rattle.wire_runs.specs.State.{State, start}
 use Rattle.wire_runs.specs.Step.{is_enabled, step, IsInterleaving, run_from, run}
-use Rattle.wire_content.specs.Scripts.{Scripts}
-use Rattle.wire_content.specs.Planned.{plan_of}
-use Rattle.wire_script.specs.declared.Size.{Size}
-use Rattle.wire_script.specs.Reads.{Reads}
-use Rattle.wire_script.proofs.Once.{reads_once}
-use Rattle.wire_script.specs.Order.{order_read}
+use Rattle.wire_scripts.specs.Scripts.{Scripts}
+use Rattle.wire_scripts.specs.Planned.{plan_of}
+use Rattle.wire_reader.specs.declared.Size.{Size}
+use Rattle.wire_reader.specs.Reads.{Reads}
+use Rattle.wire_reader.proofs.Once.{reads_once}
+use Rattle.wire_reader.specs.Order.{order_read}
 use Rattle.wire_commands.specs.Plain.{ReadAs, Refuses}
 use Rattle.wire_commands.specs.Follow.{OrdersAs, RefusesOrder, StopsInOrder, WritesFollowed, StopsBefore, report_after}
 use Rattle.wire_text_laws.specs.Again.{steps_text, ReadsAsOrder}

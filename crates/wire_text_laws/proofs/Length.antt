@@ -5,12 +5,12 @@ use Rattle.std.proofs.lemmas.List.{length-map}
 use Rattle.std.proofs.lemmas.List.Sums.{sum_by-cons}
 use Rattle.wire_runs.specs.Plan.{Process, kinds_of, event_total}
 use Rattle.wire_plan.proofs.Planning.{events_few}
-use Rattle.wire_content.specs.Scripts.{Scripts}
-use Rattle.wire_content.specs.Planned.{planned_call, planned_process, plan_of}
-use Rattle.wire_script.specs.declared.Limits.{Limits}
-use Rattle.wire_script.specs.FirstPass.{Started, Declared}
-use Rattle.wire_script.specs.Reads.{Seen, seen_in, numbered, process_of, scripts_of}
-use Rattle.wire_script.specs.Within.{started_calls, IsWithin}
+use Rattle.wire_scripts.specs.Scripts.{Scripts}
+use Rattle.wire_scripts.specs.Planned.{planned_call, planned_process, plan_of}
+use Rattle.wire_reader.specs.declared.Limits.{Limits}
+use Rattle.wire_reader.specs.FirstPass.{Started, Declared}
+use Rattle.wire_reader.specs.Reads.{Seen, seen_in, numbered, process_of, scripts_of}
+use Rattle.wire_reader.specs.Within.{started_calls, IsWithin}
 
 abbrev events_in : Process → ℕ
 events_in process = length (kinds_of process.calls)

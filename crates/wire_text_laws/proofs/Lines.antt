@@ -7,8 +7,8 @@ use Rattle.wire_runs.proofs.Lists.{list_all_weaker}
 use Rattle.wire_lines.specs.Text.{lines_of, words_of}
 use Rattle.wire_lines.specs.Said.{is_word_byte, is_name_byte, is_word, is_name, spelled_proc}
 use Rattle.wire_lines.proofs.Colon.{and_left, and_right}
-use Rattle.wire_script.specs.Statements.{is_skipped}
-use Rattle.wire_script.proofs.Recut.{no_feed, no_return, feed_byte, return_byte, pieces_line, kept_end, words_line}
+use Rattle.wire_reader.specs.Statements.{is_skipped}
+use Rattle.wire_reader.proofs.Recut.{no_feed, no_return, feed_byte, return_byte, pieces_line, kept_end, words_line}
 
 module _ (w : List ℕ) (is : IsTrue (is_word w)) where
   bytes : list_all is_word_byte w ≡ true

@@ -11,15 +11,15 @@ use Rattle.wire_runs.proofs.Lists.{slice_get-map_back}
 use borrow.Author.Tests.{lt-ltb, leb-true}
 use Rattle.wire_lines.specs.Said.{is_word, is_name, is_name_byte, spelled_proc}
 use Rattle.wire_lines.proofs.Colon.{plain, and_right, names_plain, cut_once}
-use Rattle.wire_content.specs.Scripts.{Scripts, text_at}
-use Rattle.wire_content.specs.Canonical.{process_text}
-use Rattle.wire_script.specs.Statements.{is_skipped}
-use Rattle.wire_script.specs.FirstPass.{Started, Declared, number_or_count}
-use Rattle.wire_script.specs.Reads.{seen_in, process_of, scripts_of}
-use Rattle.wire_script.proofs.Ranked.{IsGood, below_at, rank_most, name_at, number_at, one_process}
-use Rattle.wire_script.specs.Order.{proc_named}
+use Rattle.wire_scripts.specs.Scripts.{Scripts, text_at}
+use Rattle.wire_scripts.specs.Canonical.{process_text}
+use Rattle.wire_reader.specs.Statements.{is_skipped}
+use Rattle.wire_reader.specs.FirstPass.{Started, Declared, number_or_count}
+use Rattle.wire_reader.specs.Reads.{seen_in, process_of, scripts_of}
+use Rattle.wire_reader.proofs.Ranked.{IsGood, below_at, rank_most, name_at, number_at, one_process}
+use Rattle.wire_reader.specs.Order.{proc_named}
 use Rattle.wire_words.specs.Words.{name_of, text_of_process}
-use Rattle.wire_script.proofs.Recut.{proc_word}
+use Rattle.wire_reader.proofs.Recut.{proc_word}
 use Rattle.wire_text_laws.proofs.Lines.{proc_counts}
 
 -- the first place that passes is the only one that does

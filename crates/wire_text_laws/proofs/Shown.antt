@@ -2,10 +2,10 @@
 use Rattle.std.proofs.Common.{refl, ℕ, List, Ok}
 use Rattle.wire_runs.specs.State.{start}
 use Rattle.wire_runs.specs.Step.{IsInterleaving}
-use Rattle.wire_content.specs.Scripts.{Scripts, numbers_of}
-use Rattle.wire_content.specs.Planned.{plan_of}
-use Rattle.wire_script.specs.declared.Size.TheVariants.{OfVersion}
-use Rattle.wire_script.specs.Reads.{Reads}
+use Rattle.wire_scripts.specs.Scripts.{Scripts, numbers_of}
+use Rattle.wire_scripts.specs.Planned.{plan_of}
+use Rattle.wire_reader.specs.declared.Size.TheVariants.{OfVersion}
+use Rattle.wire_reader.specs.Reads.{Reads}
 use Rattle.wire_text_laws.specs.Again.{steps_text}
 use Rattle.wire_text_laws.specs.Witnessed.{IsOrderOf, WitnessIsFollowed}
 use Rattle.wire_text_laws.proofs.Steps.{order_reads_back}

@@ -4,17 +4,17 @@ use Rattle.wire_types.specs.declared.Fault.{Fault}
 use Rattle.wire_types.specs.declared.Version.{Version}
 use Rattle.wire_lines.specs.Text.{lines_of}
 use Rattle.wire_lines.specs.Said.{Said}
-use Rattle.wire_content.specs.Scripts.{Scripts}
-use Rattle.wire_script.specs.declared.Size.{Size}
-use Rattle.wire_script.specs.Limits.{limits_of}
-use Rattle.wire_script.specs.Statements.{statements}
-use Rattle.wire_script.specs.FirstPass.{Declared, nothing, FirstPass}
-use Rattle.wire_script.specs.Reads.{Reads, first_fault, scripts_of, second_pass}
-use Rattle.wire_script.specs.Within.{IsWithin}
-use Rattle.wire_script.proofs.Changed.{Runs, first_run}
-use Rattle.wire_script.proofs.Within.{first_of_version}
-use Rattle.wire_script.proofs.Ranked.{IsGood, run_good}
-use Rattle.wire_script.proofs.Once.{second_ok}
+use Rattle.wire_scripts.specs.Scripts.{Scripts}
+use Rattle.wire_reader.specs.declared.Size.{Size}
+use Rattle.wire_reader.specs.Limits.{limits_of}
+use Rattle.wire_reader.specs.Statements.{statements}
+use Rattle.wire_reader.specs.FirstPass.{Declared, nothing, FirstPass}
+use Rattle.wire_reader.specs.Reads.{Reads, first_fault, scripts_of, second_pass}
+use Rattle.wire_reader.specs.Within.{IsWithin}
+use Rattle.wire_reader.proofs.Changed.{Runs, first_run}
+use Rattle.wire_reader.proofs.Within.{first_of_version}
+use Rattle.wire_reader.proofs.Ranked.{IsGood, run_good}
+use Rattle.wire_reader.proofs.Once.{second_ok}
 
 pub record IsDeclaredBy (size : Size) (s : Scripts) : Type 0 where
   pub version : Version

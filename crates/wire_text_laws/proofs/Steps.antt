@@ -12,17 +12,17 @@ use Rattle.wire_runs.proofs.Basics.{process_within}
 use Rattle.wire_runs.proofs.Due.{has_event}
 use Rattle.wire_runs.proofs.Length.{runs_end}
 use Rattle.wire_lines.specs.Text.{lines_of, words_of}
-use Rattle.wire_content.specs.Scripts.{Scripts}
-use Rattle.wire_content.specs.Planned.{planned_process, plan_of}
-use Rattle.wire_script.specs.declared.Size.{Size}
-use Rattle.wire_script.specs.declared.Size.TheVariants.{OfVersion, Large}
-use Rattle.wire_script.specs.Limits.{limits_of, order_bytes}
-use Rattle.wire_script.specs.Within.{IsWithin}
-use Rattle.wire_script.specs.Statements.{is_skipped, statements_from, statements}
-use Rattle.wire_script.specs.FirstPass.{Declared}
-use Rattle.wire_script.specs.Reads.{seen_in, process_of, scripts_of}
-use Rattle.wire_script.proofs.Ranked.{IsGood}
-use Rattle.wire_script.specs.Order.{proc_named, order_of, order_within, order_read}
+use Rattle.wire_scripts.specs.Scripts.{Scripts}
+use Rattle.wire_scripts.specs.Planned.{planned_process, plan_of}
+use Rattle.wire_reader.specs.declared.Size.{Size}
+use Rattle.wire_reader.specs.declared.Size.TheVariants.{OfVersion, Large}
+use Rattle.wire_reader.specs.Limits.{limits_of, order_bytes}
+use Rattle.wire_reader.specs.Within.{IsWithin}
+use Rattle.wire_reader.specs.Statements.{is_skipped, statements_from, statements}
+use Rattle.wire_reader.specs.FirstPass.{Declared}
+use Rattle.wire_reader.specs.Reads.{seen_in, process_of, scripts_of}
+use Rattle.wire_reader.proofs.Ranked.{IsGood}
+use Rattle.wire_reader.specs.Order.{proc_named, order_of, order_within, order_read}
 use Rattle.wire_words.specs.Words.{name_of}
 use Rattle.wire_report.specs.Unsettled.{step_line}
 use Rattle.wire_text_laws.specs.Again.{steps_text, FitsOrder, OrderReadsBack}

@@ -1,15 +1,15 @@
 -- What was written is read again: the order of a run's steps.
 use Rattle.std.specs.Prelude.{◌≡◌, ◌≤◌, ℕ, List, length, Ok, ⊤}
 use Rattle.std.specs.List.{flat_map}
-use Rattle.wire_content.specs.Scripts.{Scripts}
-use Rattle.wire_content.specs.Planned.{plan_of}
+use Rattle.wire_scripts.specs.Scripts.{Scripts}
+use Rattle.wire_scripts.specs.Planned.{plan_of}
 use Rattle.wire_runs.specs.State.{start}
 use Rattle.wire_runs.specs.Step.{IsInterleaving}
-use Rattle.wire_script.specs.declared.Size.{Size}
-use Rattle.wire_script.specs.declared.Size.TheVariants.{OfVersion, Large}
-use Rattle.wire_script.specs.Limits.{order_bytes}
-use Rattle.wire_script.specs.Reads.{Reads}
-use Rattle.wire_script.specs.Order.{order_read}
+use Rattle.wire_reader.specs.declared.Size.{Size}
+use Rattle.wire_reader.specs.declared.Size.TheVariants.{OfVersion, Large}
+use Rattle.wire_reader.specs.Limits.{order_bytes}
+use Rattle.wire_reader.specs.Reads.{Reads}
+use Rattle.wire_reader.specs.Order.{order_read}
 use Rattle.wire_report.specs.Unsettled.{step_line}
 
 -- the lines of these steps, as a replay writes them

@@ -1,12 +1,12 @@
 -- What following the two orders of a witness writes.
 use Rattle.std.specs.Prelude.{◌≡◌, ℕ, List, [], Ok}
 use Rattle.wire_types.specs.declared.CallAt.{CallAt}
-use Rattle.wire_content.specs.Scripts.{Scripts, numbers_of}
-use Rattle.wire_script.specs.declared.Size.TheVariants.{OfVersion}
-use Rattle.wire_script.specs.Reads.{Reads}
+use Rattle.wire_scripts.specs.Scripts.{Scripts, numbers_of}
+use Rattle.wire_reader.specs.declared.Size.TheVariants.{OfVersion}
+use Rattle.wire_reader.specs.Reads.{Reads}
 use Rattle.wire_witness.specs.declared.witness.Witness.{Witness}
 use Rattle.wire_witness.specs.Witness.{IsWitness}
-use Rattle.wire_types.specs.declared.Form.TheVariants.{Lines}
+use Rattle.wire_types.specs.declared.OutputFormat.TheVariants.{Lines}
 use Rattle.wire_types.specs.declared.Orders.TheVariants.{OfFirst, OfSecond}
 use Rattle.wire_commands.specs.Witness.{witness_text}
 use Rattle.wire_text_laws.specs.Again.{steps_text, ReadsAsOrder}

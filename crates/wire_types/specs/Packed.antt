@@ -5,8 +5,8 @@ use Rattle.wire_types.specs.declared.call.Call.TheVariants.{Put, Commit, Fence, 
 use Rattle.wire_types.specs.declared.call.Scope.TheVariants.{Local, Remote, Global}
 
 -- the call of a verb's number, with an owner or a value, and a key, a name or a set
-abbrev pub call_by : ℕ → ℕ → ℕ → Call
-call_by verb upper about =
+abbrev pub unpacked_call : ℕ → ℕ → ℕ → Call
+unpacked_call verb upper about =
     if verb == 0 then Get (record { number = upper }) about
     else if verb == 1 then GetNow (record { number = upper }) about
     else if verb == 2 then Put Global about upper
@@ -23,7 +23,7 @@ call_by verb upper about =
 
 -- the call in a word whose lowest four bits are the verb's number, and a word beside it
 abbrev pub call_in : ℕ → ℕ → Call
-call_in head about = call_by (head % 16) (head / 16) about
+call_in head about = unpacked_call (head % 16) (head / 16) about
 
 -- what stands above the verb
 abbrev pub upper_of : Call → ℕ

@@ -168,14 +168,14 @@ IsLawfulCall (LookupWait name) = IsTrue (is_key name)
 IsLawfulCall (Unpublish name) = IsTrue (is_key name)
 IsLawfulCall UnpublishAll = ⊤
 
-abbrev pub IsLawful : Said → Type 0
-IsLawful (Header version) = ⊤
-IsLawful Keep = ⊤
-IsLawful (Node name) = IsTrue (is_name name)
-IsLawful (Job name) = IsTrue (is_name name)
-IsLawful (Rank node) = IsTrue (is_name node)
-IsLawful (Calls call) = IsLawfulCall call
+abbrev pub IsLawfulLine : Said → Type 0
+IsLawfulLine (Header version) = ⊤
+IsLawfulLine Keep = ⊤
+IsLawfulLine (Node name) = IsTrue (is_name name)
+IsLawfulLine (Job name) = IsTrue (is_name name)
+IsLawfulLine (Rank node) = IsTrue (is_name node)
+IsLawfulLine (Calls call) = IsLawfulCall call
 
 -- the words say it
 abbrev pub Says : List (List ℕ) → Said → Type 0
-Says words said = (words ≡ first_word said ∷ other_words said) × IsLawful said
+Says words said = (words ≡ first_word said ∷ other_words said) × IsLawfulLine said

@@ -5,7 +5,7 @@ ghost use Rattle.wire_types.specs.Forms as spec;
 
 /// The form in which a command writes its answer.
 #[derive(Clone, Copy)]
-pub enum Form {
+pub enum OutputFormat {
     /// Lines of text.
     Lines,
     /// Lines of text that tell where each call stands: the name of its file, and its line there.
@@ -16,14 +16,14 @@ pub enum Form {
     PlacedJson,
 }
 
-impl Form {
+impl OutputFormat {
     /// Whether the answer is JSON.
     pub fn is_json(self) -> bool
         ensures { result ≡ spec.is_json self }
     {
         match self {
-            Form::Json | Form::PlacedJson => true,
-            Form::Lines | Form::Places => false,
+            OutputFormat::Json | OutputFormat::PlacedJson => true,
+            OutputFormat::Lines | OutputFormat::Places => false,
         }
     }
 
@@ -32,8 +32,8 @@ impl Form {
         ensures { result ≡ spec.has_places self }
     {
         match self {
-            Form::Places | Form::PlacedJson => true,
-            Form::Lines | Form::Json => false,
+            OutputFormat::Places | OutputFormat::PlacedJson => true,
+            OutputFormat::Lines | OutputFormat::Json => false,
         }
     }
 }

@@ -19,7 +19,7 @@ mod wrap;
 
 pub use call::{Call, Scope};
 pub use fault::Fault;
-pub use form::{Form, Orders};
+pub use form::{Orders, OutputFormat};
 pub use memory::{EndlessSource, MemorySink, MemorySource};
 pub use packed::PackedCall;
 pub use place::{CallAt, Event, Proc};

@@ -1,7 +1,7 @@
 //! Calls in eight bytes.
 
 ghost use Rattle.std.specs.Prelude.{◌≡◌, ◌<◌, ◌≤◌, ◌^◌, IfSome, IfNone};
-ghost use Rattle.wire_types.specs.Packed.{call_by, upper_of};
+ghost use Rattle.wire_types.specs.Packed.{unpacked_call, upper_of};
 
 use crate::call::{Call, Scope};
 use crate::place::Proc;
@@ -33,7 +33,7 @@ impl Model for PackedCall {
 /// The call of a verb, with what stands above the verb and beside it, where that is small enough.
 fn pack(verb: u32, upper: u32, about: u32) -> Option<PackedCall>
     requires { verb < 16 }
-    ensures some { IfSome result (λ p. p ≡ call_by verb upper about) }
+    ensures some { IfSome result (λ p. p ≡ unpacked_call verb upper about) }
     ensures none { IfNone result (2 ^ 28 ≤ upper) }
 {
     if upper < 268_435_456 {

@@ -7,8 +7,8 @@ ghost use Rattle.std.specs.Prelude.{◌≡◌, ◌≢◌, ◌⊎◌, ℕ, [], fa
 ghost use Rattle.wire_types.specs.declared.Fault.TheVariants.{Memory, Read, Workers, Write};
 ghost use Rattle.wire_types.specs.Counting.{one_more};
 ghost use Rattle.wire_types.specs.Texts.{texts_of};
-ghost use Rattle.wire_content.specs.Scripts.{Scripts};
-ghost use Rattle.wire_collect.specs.Collect.{MayWork};
+ghost use Rattle.wire_scripts.specs.Scripts.{Scripts};
+ghost use Rattle.wire_parallel_run.specs.Collect.{MayWork};
 ghost use Rattle.wire_commands.specs.declared.ended.Ended.TheVariants.{Clean};
 ghost use Rattle.wire_commands.specs.Answer.{BreaksOff, Writes};
 ghost use Rattle.wire_commands.specs.Check.{EndsInOneState, IsVerdict, StopsBeforeFindings};
@@ -18,32 +18,32 @@ ghost use Rattle.wire_commands.specs.Migrate.{BreaksOffMigrated, StopsBeforeMigr
 ghost use Rattle.wire_commands.specs.Place.{BreaksOffPlaced, StopsBeforePlaced, WritesPlaced};
 ghost use Rattle.wire_commands.specs.Plain.{BreaksOffReport, ReadAs, Refuses, WritesReport};
 ghost use Rattle.wire_commands.specs.Replay.{BreaksOffReplay, StopsBeforeReplay, WritesOneEnd, WritesReplay};
-ghost use Rattle.wire_commands.specs.Why.{Answers, StopsBeforeAnswer, WritesAnswer};
+ghost use Rattle.wire_commands.specs.Why.{ExplainsOrder, StopsBeforeAnswer, WritesAnswer};
 
 use std::alloc::Global;
 use std::sync::Wait;
 use std::thread::Threads;
 pub use wire_command_line::{
-    Asked, CallPair, CallWords, Command, ExpandOptions, Judged, PairOptions, PatternOptions,
+    Asked, CallPair, CallWords, CheckScope, Command, ExpandOptions, PairOptions, PatternOptions,
     Refusal, ReplayOptions, Request, Spread, asked, read_request, workers_of,
 };
 pub use wire_commands::{
-    Ended, Manner, Mode, PairAsked, Replayed, Replaying, answer_question, check_placements,
-    check_plan, check_replies, follow_plan, migrate_plan, place_plan, replay_plan, run_plainly,
+    CommandOptions, Ended, Mode, PairAsked, ReplaySettings, Replayed, check_placements, check_plan,
+    check_replies, explain_order, follow_plan, migrate_plan, place_plan, replay_plan, run_plainly,
     witness_pair, witness_races,
 };
 pub use wire_pattern_commands::{
     Expansion, PatternAsked, Spread as SpreadOver, check_pattern, expand_pattern,
 };
+pub use wire_reader::Size;
 use wire_sched::Gate;
-pub use wire_script::Size;
-use wire_types::{Fault, Form, Sink, Source};
+use wire_types::{Fault, OutputFormat, Sink, Source};
 
 /// Within the limits of a plan's version, and in lines.
-const IN_LINES: Manner<'static> = Manner {
+const IN_LINES: CommandOptions<'static> = CommandOptions {
     name: &[],
     size: Size::OfVersion,
-    form: Form::Lines,
+    form: OutputFormat::Lines,
 };
 
 /// Checks a plan, as [`check_plan`] says.
@@ -53,7 +53,7 @@ pub fn check<R: Source, W: Sink>(
     reader: &mut R,
     writer: &mut W,
 ) -> Result<Ended, Fault>
-    ensures ok { IfOk result (λ ended. Writes Size.OfVersion Form.Lines (R.coming reader.old) (IsVerdict Form.Lines []) ended
+    ensures ok { IfOk result (λ ended. Writes Size.OfVersion OutputFormat.Lines (R.coming reader.old) (IsVerdict OutputFormat.Lines []) ended
         (W.written writer.old) (W.written writer.new)) }
     ensures quiet { OnOk result ((R.failures reader.new ≡ R.failures reader.old) × (W.failures writer.new ≡ W.failures writer.old)) }
 
@@ -62,7 +62,7 @@ pub fn check<R: Source, W: Sink>(
 
     // Either nothing was written, or the front of the findings that the fault counts.
     ensures err { IfErr result (λ e. (StopsBeforeFindings Size.OfVersion (R.coming reader.old) e × (writer.new ≡ writer.old))
-        ⊎ (BreaksOff Size.OfVersion Form.Lines (R.coming reader.old) (IsVerdict Form.Lines []) (W.written writer.old) (W.written writer.new) e
+        ⊎ (BreaksOff Size.OfVersion OutputFormat.Lines (R.coming reader.old) (IsVerdict OutputFormat.Lines []) (W.written writer.old) (W.written writer.new) e
         × (W.failures writer.new ≡ one_more (W.failures writer.old)))) }
 
     // A failed read is answered only where the reader failed.
@@ -79,7 +79,7 @@ pub fn check_anywhere<R: Source, W: Sink>(
     reader: &mut R,
     writer: &mut W,
 ) -> Result<Ended, Fault>
-    ensures ok { IfOk result (λ ended. Writes Size.OfVersion Form.Lines (R.coming reader.old) (IsVerdictAnywhere Form.Lines []) ended
+    ensures ok { IfOk result (λ ended. Writes Size.OfVersion OutputFormat.Lines (R.coming reader.old) (IsVerdictAnywhere OutputFormat.Lines []) ended
         (W.written writer.old) (W.written writer.new)) }
     ensures quiet { OnOk result ((R.failures reader.new ≡ R.failures reader.old) × (W.failures writer.new ≡ W.failures writer.old)) }
 
@@ -88,7 +88,7 @@ pub fn check_anywhere<R: Source, W: Sink>(
 
     // Either nothing was written, or the front of the findings that the fault counts.
     ensures err { IfErr result (λ e. (StopsBeforeFindings Size.OfVersion (R.coming reader.old) e × (writer.new ≡ writer.old))
-        ⊎ (BreaksOff Size.OfVersion Form.Lines (R.coming reader.old) (IsVerdictAnywhere Form.Lines []) (W.written writer.old) (W.written writer.new) e
+        ⊎ (BreaksOff Size.OfVersion OutputFormat.Lines (R.coming reader.old) (IsVerdictAnywhere OutputFormat.Lines []) (W.written writer.old) (W.written writer.new) e
         × (W.failures writer.new ≡ one_more (W.failures writer.old)))) }
 
     // A failed read is answered only where the reader failed.
@@ -128,7 +128,7 @@ pub fn rehearse<R: Source, W: Sink, T: Threads + Wait + Sync, G: Gate + Sync>(
     ensures unfailed { IfErr result (λ e. e ≢ Memory → e ≢ Read → R.failures reader.new ≡ R.failures reader.old) }
 {
     let size = Size::OfVersion;
-    let manner = Replaying {
+    let manner = ReplaySettings {
         size,
         workers,
         mode,
@@ -184,27 +184,27 @@ pub fn follow<R: Source, O: Source, W: Sink>(
     follow_plan(alloc, IN_LINES, reader, order_reader, writer)
 }
 
-/// Answers whether a chain of events leads from one call of a plan to another, as [`answer_question`] says.
+/// ExplainsOrder whether a chain of events leads from one call of a plan to another, as [`explain_order`] says.
 pub fn why<R: Source, W: Sink>(
     alloc: Global,
     reader: &mut R,
     writer: &mut W,
     words: [&str; 4],
 ) -> Result<(), Fault>
-    ensures ok { OnOk result (WritesAnswer Size.OfVersion Form.Lines (R.coming reader.old) [] (texts_of words.entry)
+    ensures ok { OnOk result (WritesAnswer Size.OfVersion OutputFormat.Lines (R.coming reader.old) [] (texts_of words.entry)
         (W.written writer.old) (W.written writer.new)) }
     ensures quiet { OnOk result ((R.failures reader.new ≡ R.failures reader.old) × (W.failures writer.new ≡ W.failures writer.old)) }
 
     // Either nothing was written, or the front of the answer that the fault counts.
     ensures err { IfErr result (λ e. (StopsBeforeAnswer Size.OfVersion (R.coming reader.old) (texts_of words.entry) e × (writer.new ≡ writer.old))
-        ⊎ (BreaksOff Size.OfVersion Form.Lines (R.coming reader.old) (Answers Form.Lines [] (texts_of words.entry))
+        ⊎ (BreaksOff Size.OfVersion OutputFormat.Lines (R.coming reader.old) (ExplainsOrder OutputFormat.Lines [] (texts_of words.entry))
         (W.written writer.old) (W.written writer.new) e × (W.failures writer.new ≡ one_more (W.failures writer.old)))) }
 
     // A failed read is answered only where the reader failed.
     ensures read_failed { result ≡ Err Read → R.failures reader.new ≡ one_more (R.failures reader.old) }
     ensures unfailed { IfErr result (λ e. e ≢ Memory → e ≢ Read → R.failures reader.new ≡ R.failures reader.old) }
 {
-    match answer_question(alloc, IN_LINES, reader, writer, words) {
+    match explain_order(alloc, IN_LINES, reader, writer, words) {
         Ok(_) => Ok(()),
         Err(fault) => Err(fault),
     }

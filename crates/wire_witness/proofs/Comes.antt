@@ -7,13 +7,13 @@ use Rattle.wire_runs.specs.State.{start, IsDone}
 use Rattle.wire_runs.specs.Step.{IsInterleaving, IsEnd}
 use Rattle.wire_runs.specs.Ends.{first_event, row}
 use Rattle.wire_types.specs.declared.CallAt.{CallAt}
-use Rattle.wire_content.specs.Scripts.{Scripts}
-use Rattle.wire_content.specs.Planned.{plan_of}
+use Rattle.wire_scripts.specs.Scripts.{Scripts}
+use Rattle.wire_scripts.specs.Planned.{plan_of}
 use Rattle.wire_core.specs.Course.{Course, plan_in, state_of}
 use Rattle.wire_core.specs.Within.{RunsWithin}
 use Rattle.wire_witness.specs.declared.runs.Run.{Run}
 use Rattle.wire_witness.specs.Witness.{ComesFirst, IsRunWithFirst, end_after}
-use Rattle.wire_witness.specs.Runs.{IsRunOf}
+use Rattle.wire_witness.specs.Runs.{IsWitnessRun}
 
 -- steps more
 pub comes_later : (plan : Plan) (steps more : List ℕ) (x y : Event) → ComesFirst plan steps x y → ComesFirst plan (steps ++ more) x y
@@ -41,7 +41,7 @@ comes_within limits old new x y runs first =
 pub finished : (old new : Course) (more : List ℕ) (x y : CallAt) (run : Run) → new ≡ record { scripts = old.scripts; history = old.history ++ more } →
     ComesFirst (plan_in old) old.history (first_event (plan_in old) x) (first_event (plan_in old) y) → IsInterleaving (plan_in new) start new.history → IsEnd (plan_in new) (state_of new) →
     slice_get (row (plan_in new) (state_of new) x.proc.number) x.call ≡ Some run.first_end → slice_get (row (plan_in new) (state_of new) y.proc.number) y.call ≡ Some run.other_end →
-    run.core ≡ new → IsRunOf old.scripts x y run
+    run.core ≡ new → IsWitnessRun old.scripts x y run
 finished old new more x y run is first legal ended first_end other_end core =
     let scripts : new.scripts ≡ old.scripts = ap (λ course. course.scripts) is in
     let comes : ComesFirst (plan_in new) new.history (first_event (plan_in new) x) (first_event (plan_in new) y) =

@@ -15,15 +15,15 @@ use Rattle.wire_runs.proofs.Fates.{live_event}
 use Rattle.wire_runs.proofs.Runs.{legal_append}
 use Rattle.wire_runs.proofs.PlainRun.{enabled_within}
 use Rattle.wire_runs.proofs.Histories.{after_live}
-use Rattle.wire_content.specs.Scripts.{Scripts}
-use Rattle.wire_content.specs.Planned.{plan_of}
-use Rattle.wire_marks.specs.Clocks.{Clocks, AreMarks, LeadsTo, marked_count}
+use Rattle.wire_scripts.specs.Scripts.{Scripts}
+use Rattle.wire_scripts.specs.Planned.{plan_of}
+use Rattle.wire_happens_before.specs.Clocks.{Clocks, AreMarks, LeadsTo, marked_count}
 use Rattle.wire_core.specs.Course.{Course, plan_in, state_of}
 use Rattle.wire_core.specs.Within.{limit_at, MayGo, RunsWithin}
 use Rattle.wire_witness.specs.declared.runs.Run.{Run}
 use Rattle.wire_witness.specs.Witness.{IsWholeRun}
 use Rattle.wire_witness.specs.NotShown.{HoldsBack, IsHeldRun, XIsFirst, XIsMissing, RunsUpTo, IsNeededRun, BothHappen, XIsNotFirst, YIsMissing}
-use Rattle.wire_witness.specs.Runs.{AreLimitsBefore, AreLimitsUpTo, fresh, HasOnly, IsAhead, GoesOn, IsRunOf, steps_of}
+use Rattle.wire_witness.specs.Runs.{AreLimitsBefore, AreLimitsUpTo, fresh, HasOnly, HasRunAhead, GoesOn, IsWitnessRun, steps_of}
 
 limit_kept : (xs : List ℕ) (x p : ℕ) → p < length xs → limit_at (xs ++ x ∷ []) p ≡ limit_at xs p
 limit_kept [] x p lt = absurd (omega (arith, lt))
@@ -149,12 +149,12 @@ scripts_kept : (s : Scripts) (limits : List ℕ) (new : Course) → RunsWithin l
 scripts_kept s limits new r = ap (λ (c : Course). c.scripts) r.follows.taken
 
 held_some : (s : Scripts) (x y : Event) (limits more : List ℕ) (core : Course) (made : Run) → AreLimitsBefore (plan_of s) y limits → y.proc < process_count (plan_of s) →
-    IsAhead s limits x y (Some core) → made.core.history ≡ core.history ++ more → IsWholeRun (plan_of s) made.core.history → IsHeldRun (plan_of s) x y (steps_of (Some made))
+    HasRunAhead s limits x y (Some core) → made.core.history ≡ core.history ++ more → IsWholeRun (plan_of s) made.core.history → IsHeldRun (plan_of s) x y (steps_of (Some made))
 held_some s x y limits more core made limited there ahead is whole =
     XIsFirst core.history more (held_within s y limits core limited there ahead.0)
     (subst (λ t. IsDone (run (plan_of t) core.history) x) (scripts_kept s limits core ahead.0) ahead.1.0) (subst (IsWholeRun (plan_of s)) is whole) (ap Some is)
 
-held_none : (s : Scripts) (x y : Event) (limits : List ℕ) → AreLimitsBefore (plan_of s) y limits → y.proc < process_count (plan_of s) → IsAhead s limits x y None →
+held_none : (s : Scripts) (x y : Event) (limits : List ℕ) → AreLimitsBefore (plan_of s) y limits → y.proc < process_count (plan_of s) → HasRunAhead s limits x y None →
     IsHeldRun (plan_of s) x y None
 held_none s x y limits limited there ahead =
     let held = held_within s y limits ahead.0 limited there ahead.1 in
@@ -191,13 +191,13 @@ needed_after s x y later to_x None limited up only goes whole =
     YIsMissing to_x on.0 up on.2 (λ done. goes.2 (subst (λ (c : Course). IsDone (state_of c) y) (sym on.1) done)) refl
 
 needed_some : (s : Scripts) (x y : Event) (limits later : List ℕ) (core : Course) (made : Option Run) → AreLimitsUpTo (plan_of s) x limits → AreLimitsUpTo (plan_of s) y later →
-    IsAhead s limits x y (Some core) → GoesOn core later y made → ((r : Run) → made ≡ Some r → IsWholeRun (plan_of s) r.core.history) → IsNeededRun (plan_of s) x y (steps_of made)
+    HasRunAhead s limits x y (Some core) → GoesOn core later y made → ((r : Run) → made ≡ Some r → IsWholeRun (plan_of s) r.core.history) → IsNeededRun (plan_of s) x y (steps_of made)
 needed_some s x y limits later core made limited limited_later ahead goes whole =
     let on = up_within s x limits [] core limited tt ahead.0 in
     subst (λ (c : Course). HasOnly c x y → GoesOn c later y made → IsNeededRun (plan_of s) x y (steps_of made)) (sym on.1)
     (λ only goes_on. needed_after s x y later on.0 made limited_later on.2 only goes_on whole) ahead.1 goes
 
-needed_none : (s : Scripts) (x y : Event) (limits : List ℕ) → AreLimitsUpTo (plan_of s) x limits → IsAhead s limits x y None → IsNeededRun (plan_of s) x y None
+needed_none : (s : Scripts) (x y : Event) (limits : List ℕ) → AreLimitsUpTo (plan_of s) x limits → HasRunAhead s limits x y None → IsNeededRun (plan_of s) x y None
 needed_none s x y limits limited ahead =
     let on = up_within s x limits [] ahead.0 limited tt ahead.1 in
     XIsNotFirst on.0 on.2 (λ only. ahead.2 (subst (λ (c : Course). HasOnly c x y) (sym on.1) only)) refl
@@ -213,53 +213,53 @@ call_there plan call lt = elim (cases_lt call.proc.number (process_count plan)) 
 -- the run in which the other call is held back, by what its functions ensure
 pub held_run_some : (s : Scripts) (first other : CallAt) (x y : Event) (limits given : List ℕ) (core : Course) (made : Run) → x ≡ first_event (plan_of s) first →
     y ≡ first_event (plan_of s) other → AreLimitsBefore (plan_of s) y limits → given ≡ limits → other.call < length (calls_of (plan_of s) other.proc.number) →
-    IsAhead s given x y (Some core) → core.scripts ≡ s → ((more : List ℕ) × (made.core.history ≡ core.history ++ more)) → IsRunOf core.scripts first other made →
+    HasRunAhead s given x y (Some core) → core.scripts ≡ s → ((more : List ℕ) × (made.core.history ≡ core.history ++ more)) → IsWitnessRun core.scripts first other made →
     IsHeldRun (plan_of s) (first_event (plan_of s) first) (first_event (plan_of s) other) (steps_of (Some made))
 held_run_some s first other x y limits given core made x_is y_is limited same there ahead scripts later is_run =
     let proc : y.proc ≡ other.proc.number = ap (λ (e : Event). e.proc) y_is in
     let inside : y.proc < process_count (plan_of s) = subst (λ p. p < process_count (plan_of s)) (sym proc) (call_there (plan_of s) other there) in
     let held : IsHeldRun (plan_of s) x y (steps_of (Some made)) =
-    held_some s x y limits later.0 core made limited inside (subst (λ l. IsAhead s l x y (Some core)) same ahead) later.1
+    held_some s x y limits later.0 core made limited inside (subst (λ l. HasRunAhead s l x y (Some core)) same ahead) later.1
     (subst (λ t. IsWholeRun (plan_of t) made.core.history) scripts is_run.with_first.whole) in
     subst (λ (e : Event × Event). IsHeldRun (plan_of s) e.0 e.1 (steps_of (Some made))) (λ i. (x_is i, y_is i)) held
 
 pub held_run_none : (s : Scripts) (first other : CallAt) (x y : Event) (limits given : List ℕ) → x ≡ first_event (plan_of s) first → y ≡ first_event (plan_of s) other →
-    AreLimitsBefore (plan_of s) y limits → given ≡ limits → other.call < length (calls_of (plan_of s) other.proc.number) → IsAhead s given x y None →
+    AreLimitsBefore (plan_of s) y limits → given ≡ limits → other.call < length (calls_of (plan_of s) other.proc.number) → HasRunAhead s given x y None →
     IsHeldRun (plan_of s) (first_event (plan_of s) first) (first_event (plan_of s) other) None
 held_run_none s first other x y limits given x_is y_is limited same there ahead =
     let proc : y.proc ≡ other.proc.number = ap (λ (e : Event). e.proc) y_is in
     let inside : y.proc < process_count (plan_of s) = subst (λ p. p < process_count (plan_of s)) (sym proc) (call_there (plan_of s) other there) in
-    subst (λ (e : Event × Event). IsHeldRun (plan_of s) e.0 e.1 None) (λ i. (x_is i, y_is i)) (held_none s x y limits limited inside (subst (λ l. IsAhead s l x y None) same ahead))
+    subst (λ (e : Event × Event). IsHeldRun (plan_of s) e.0 e.1 None) (λ i. (x_is i, y_is i)) (held_none s x y limits limited inside (subst (λ l. HasRunAhead s l x y None) same ahead))
 
 -- whether a run that was made is whole
-wholes : (s : Scripts) (first other : CallAt) (scripts : Scripts) (made : Option Run) → scripts ≡ s → IfSome made (IsRunOf scripts first other) → (r : Run) → made ≡ Some r →
+wholes : (s : Scripts) (first other : CallAt) (scripts : Scripts) (made : Option Run) → scripts ≡ s → IfSome made (IsWitnessRun scripts first other) → (r : Run) → made ≡ Some r →
     IsWholeRun (plan_of s) r.core.history
 wholes s first other scripts made same runs r is =
-    let its : IsRunOf scripts first other r = subst (λ o. IfSome o (IsRunOf scripts first other)) is runs in subst (λ t. IsWholeRun (plan_of t) r.core.history) same its.with_first.whole
+    let its : IsWitnessRun scripts first other r = subst (λ o. IfSome o (IsWitnessRun scripts first other)) is runs in subst (λ t. IsWholeRun (plan_of t) r.core.history) same its.with_first.whole
 
 -- the run in which only what is needed comes before the calls, by what its functions ensure
 needed_there : (s : Scripts) (first other : CallAt) (x y : Event) (limits later given given_later : List ℕ) (core : Course) (made : Option Run) → x ≡ first_event (plan_of s) first →
     y ≡ first_event (plan_of s) other → AreLimitsUpTo (plan_of s) x limits → AreLimitsUpTo (plan_of s) y later → given ≡ limits → given_later ≡ later →
-    IsAhead s given x y (Some core) → core.scripts ≡ s → GoesOn core given_later y made → IfSome made (IsRunOf core.scripts first other) →
+    HasRunAhead s given x y (Some core) → core.scripts ≡ s → GoesOn core given_later y made → IfSome made (IsWitnessRun core.scripts first other) →
     IsNeededRun (plan_of s) (first_event (plan_of s) first) (first_event (plan_of s) other) (steps_of made)
 needed_there s first other x y limits later given given_later core made x_is y_is limited limited_later same same_later ahead scripts goes runs =
     let needed : IsNeededRun (plan_of s) x y (steps_of made) =
-    needed_some s x y limits later core made limited limited_later (subst (λ l. IsAhead s l x y (Some core)) same ahead) (subst (λ l. GoesOn core l y made) same_later goes)
+    needed_some s x y limits later core made limited limited_later (subst (λ l. HasRunAhead s l x y (Some core)) same ahead) (subst (λ l. GoesOn core l y made) same_later goes)
     (wholes s first other core.scripts made scripts runs) in
     subst (λ (e : Event × Event). IsNeededRun (plan_of s) e.0 e.1 (steps_of made)) (λ i. (x_is i, y_is i)) needed
 
 pub needed_run_some : (s t : Scripts) (first other : CallAt) (x y : Event) (limits later given given_later : List ℕ) (core : Course) (made : Option Run) → t ≡ s →
     x ≡ first_event (plan_of t) first → y ≡ first_event (plan_of t) other → AreLimitsUpTo (plan_of s) x limits → AreLimitsUpTo (plan_of s) y later → given ≡ limits → given_later ≡ later →
-    IsAhead t given x y (Some core) → core.scripts ≡ t → GoesOn core given_later y made → IfSome made (IsRunOf core.scripts first other) →
+    HasRunAhead t given x y (Some core) → core.scripts ≡ t → GoesOn core given_later y made → IfSome made (IsWitnessRun core.scripts first other) →
     IsNeededRun (plan_of s) (first_event (plan_of s) first) (first_event (plan_of s) other) (steps_of made)
 needed_run_some s t first other x y limits later given given_later core made plan_is x_is y_is limited limited_later same same_later ahead scripts goes runs =
     needed_there s first other x y limits later given given_later core made (x_is ∙ ap (λ u. first_event (plan_of u) first) plan_is)
-    (y_is ∙ ap (λ u. first_event (plan_of u) other) plan_is) limited limited_later same same_later (subst (λ u. IsAhead u given x y (Some core)) plan_is ahead) (scripts ∙ plan_is) goes runs
+    (y_is ∙ ap (λ u. first_event (plan_of u) other) plan_is) limited limited_later same same_later (subst (λ u. HasRunAhead u given x y (Some core)) plan_is ahead) (scripts ∙ plan_is) goes runs
 
 pub needed_run_none : (s t : Scripts) (first other : CallAt) (x y : Event) (limits given : List ℕ) → t ≡ s → x ≡ first_event (plan_of t) first → y ≡ first_event (plan_of t) other →
-    AreLimitsUpTo (plan_of s) x limits → given ≡ limits → IsAhead t given x y None →
+    AreLimitsUpTo (plan_of s) x limits → given ≡ limits → HasRunAhead t given x y None →
     IsNeededRun (plan_of s) (first_event (plan_of s) first) (first_event (plan_of s) other) None
 needed_run_none s t first other x y limits given plan_is x_is y_is limited same ahead =
     subst (λ (e : Event × Event). IsNeededRun (plan_of s) e.0 e.1 None)
     (λ i. ((x_is ∙ ap (λ u. first_event (plan_of u) first) plan_is) i, (y_is ∙ ap (λ u. first_event (plan_of u) other) plan_is) i))
-    (needed_none s x y limits limited (subst (λ l. IsAhead s l x y None) same (subst (λ u. IsAhead u given x y None) plan_is ahead)))
+    (needed_none s x y limits limited (subst (λ l. HasRunAhead s l x y None) same (subst (λ u. HasRunAhead u given x y None) plan_is ahead)))

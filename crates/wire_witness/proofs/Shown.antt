@@ -4,12 +4,12 @@ use Rattle.std.specs.Prelude.{slice_get}
 use Rattle.std.proofs.lemmas.List.{map-append}
 use Rattle.wire_types.specs.declared.CallAt.{CallAt}
 use Rattle.wire_runs.proofs.Lists.{take_get}
-use Rattle.wire_content.specs.Scripts.{Scripts}
+use Rattle.wire_scripts.specs.Scripts.{Scripts}
 use Rattle.wire_findings.specs.declared.finding.Finding.{Finding}
 use Rattle.wire_witness.specs.Witness.{IsWitness}
 use Rattle.wire_witness.specs.declared.witness.Witness.{Witness}
 use Rattle.wire_races.specs.Reported.{race_calls}
-use Rattle.wire_witness.specs.Tried.{IsShownBy, IsTried, AreTried}
+use Rattle.wire_witness.specs.Tried.{IsWitnessedBy, IsTried, AreTried}
 use Rattle.wire_witness.specs.declared.tried.TriedRace.{TriedRace}
 
 with_one : (scripts : Scripts) (tried : List TriedRace) (one : TriedRace) → AreTried scripts tried → IsTried scripts one → AreTried scripts (tried ++ one ∷ [])
@@ -28,6 +28,6 @@ races_on tried later one races i race so_far at same there =
 
 -- a witness of the calls of a race shows it
 pub shown_race : (scripts : Scripts) (race : Finding) (calls : CallAt × CallAt) (witness : Witness) → Some calls ≡ race_calls race → IsWitness scripts calls.0 calls.1 witness →
-    IfSome (race_calls race) (IsShownBy scripts witness.call)
+    IfSome (race_calls race) (IsWitnessedBy scripts witness.call)
 shown_race scripts race calls witness is of_them =
-    subst (λ o. IfSome o (IsShownBy scripts witness.call)) is (record { witness = witness; of_them = of_them; ends = λ i. witness.call })
+    subst (λ o. IfSome o (IsWitnessedBy scripts witness.call)) is (record { witness = witness; of_them = of_them; ends = λ i. witness.call })

@@ -2,14 +2,14 @@
 -- comes first ends otherwise than one in which the other does. Which run of its kind each is isn't told.
 use Rattle.std.specs.Prelude.{◌≡◌, ◌⊎◌, ◌<◌, ℕ, List, [], ◌++◌, true, Option, Some, None, length, option_map}
 use Rattle.wire_types.specs.declared.CallAt.{CallAt}
-use Rattle.wire_content.specs.Scripts.{Scripts}
-use Rattle.wire_content.specs.Planned.{plan_of}
+use Rattle.wire_scripts.specs.Scripts.{Scripts}
+use Rattle.wire_scripts.specs.Planned.{plan_of}
 use Rattle.wire_words.specs.Words.{end_text}
 use Rattle.wire_runs.specs.Plan.{Plan, Event}
 use Rattle.wire_runs.specs.State.{start, next_event, IsDone}
 use Rattle.wire_runs.specs.Step.{is_enabled, IsInterleaving, run}
 use Rattle.wire_runs.specs.Ends.{calls_of, first_event}
-use Rattle.wire_marks.specs.Clocks.{LeadsTo}
+use Rattle.wire_happens_before.specs.Clocks.{LeadsTo}
 use Rattle.wire_witness.specs.Witness.{IsWholeRun, end_after}
 
 -- the steps are an interleaving in which y hasn't happened, and after which nothing but y can happen
@@ -52,21 +52,21 @@ pub record EndAlike (scripts : Scripts) (x y : CallAt) (first second : List ℕ)
   pub of_y : end_written scripts first y ≡ end_written scripts second y
 
 -- the same of two runs where both were made
-abbrev pub AreAlike : Scripts → CallAt → CallAt → Option (List ℕ) → Option (List ℕ) → Type 0
-AreAlike scripts x y (Some first) (Some second) = EndAlike scripts x y first second
-AreAlike scripts x y _ _ = Unit {0}
+abbrev pub EndAlikeWhereMade : Scripts → CallAt → CallAt → Option (List ℕ) → Option (List ℕ) → Type 0
+EndAlikeWhereMade scripts x y (Some first) (Some second) = EndAlike scripts x y first second
+EndAlikeWhereMade scripts x y _ _ = Unit {0}
 
 -- there are two runs in which only what is needed comes before the calls; of these and two others, each in which x
 -- comes first ends as each in which y does
-pub record NoneDiffers (scripts : Scripts) (x y : CallAt) (held_first held_second : Option (List ℕ)) : Type 0 where
+pub record NoRunDiffers (scripts : Scripts) (x y : CallAt) (held_first held_second : Option (List ℕ)) : Type 0 where
   pub needed_first : Option (List ℕ)
   pub needed_second : Option (List ℕ)
   pub first_is : IsNeededRun (plan_of scripts) (first_event (plan_of scripts) x) (first_event (plan_of scripts) y) needed_first
   pub second_is : IsNeededRun (plan_of scripts) (first_event (plan_of scripts) y) (first_event (plan_of scripts) x) needed_second
-  pub held : AreAlike scripts x y held_first held_second
-  pub needed : AreAlike scripts x y needed_first needed_second
-  pub held_needed : AreAlike scripts x y held_first needed_second
-  pub needed_held : AreAlike scripts x y needed_first held_second
+  pub held : EndAlikeWhereMade scripts x y held_first held_second
+  pub needed : EndAlikeWhereMade scripts x y needed_first needed_second
+  pub held_needed : EndAlikeWhereMade scripts x y held_first needed_second
+  pub needed_held : EndAlikeWhereMade scripts x y needed_first held_second
 
 -- there are two runs in which a call is held back, and two in which only what is needed comes before the calls, of
 -- which none shows a difference
@@ -75,7 +75,7 @@ pub record ShowsNothing (scripts : Scripts) (x y : CallAt) : Type 0 where
   pub held_second : Option (List ℕ)
   pub first_is : IsHeldRun (plan_of scripts) (first_event (plan_of scripts) x) (first_event (plan_of scripts) y) held_first
   pub second_is : IsHeldRun (plan_of scripts) (first_event (plan_of scripts) y) (first_event (plan_of scripts) x) held_second
-  pub none_differs : NoneDiffers scripts x y held_first held_second
+  pub none_differs : NoRunDiffers scripts x y held_first held_second
 
 -- there is such a call in the plan
 abbrev pub IsCall : Scripts → CallAt → Type 0

@@ -4,29 +4,29 @@ use Rattle.std.specs.Prelude.{if◌then◌else◌}
 use Rattle.wire_runs.specs.Plan.{Plan, Event, event_count, process_count}
 use Rattle.wire_runs.specs.State.{IsDone}
 use Rattle.wire_runs.specs.Order.{Live}
-use Rattle.wire_marks.specs.Clocks.{IsClockOf}
+use Rattle.wire_happens_before.specs.Clocks.{IsClockOf}
 use Rattle.wire_core.specs.Course.{Course, state_of}
 use Rattle.wire_core.specs.Within.{limit_at, RunsWithin}
 use Rattle.wire_types.specs.declared.CallAt.{CallAt}
-use Rattle.wire_content.specs.Scripts.{Scripts}
-use Rattle.wire_content.specs.Planned.{plan_of}
+use Rattle.wire_scripts.specs.Scripts.{Scripts}
+use Rattle.wire_scripts.specs.Planned.{plan_of}
 use Rattle.wire_words.specs.Words.{end_text}
 use Rattle.wire_witness.specs.declared.runs.Run.{Run}
 use Rattle.wire_witness.specs.declared.search.Difference.{Difference}
 use Rattle.wire_witness.specs.declared.search.Runs.{Runs}
 use Rattle.wire_runs.specs.Ends.{first_event}
 use Rattle.wire_witness.specs.Witness.{IsRunWithFirst, AreBoth, end_after}
-use Rattle.wire_witness.specs.NotShown.{AreAlike, IsHeldRun, IsNeededRun}
+use Rattle.wire_witness.specs.NotShown.{EndAlikeWhereMade, IsHeldRun, IsNeededRun}
 
 -- the core has run the scripts to an end, and in this run x comes first; the ends are those of x and of y
-pub record IsRunOf (scripts : Scripts) (x y : CallAt) (run : Run) : Type 0 where
+pub record IsWitnessRun (scripts : Scripts) (x y : CallAt) (run : Run) : Type 0 where
   pub scripts_are : run.core.scripts ≡ scripts
   pub with_first : IsRunWithFirst (plan_of scripts) run.core.history x y
   pub first_end : end_after (plan_of scripts) run.core.history x ≡ Some run.first_end
   pub other_end : end_after (plan_of scripts) run.core.history y ≡ Some run.other_end
 
 -- the ends of one of the two calls in these runs differ as they are written
-pub record AreApart (scripts : Scripts) (x y : CallAt) (first second : Run) (apart : Difference) : Type 0 where
+pub record EndsDiffer (scripts : Scripts) (x y : CallAt) (first second : Run) (apart : Difference) : Type 0 where
   pub both : AreBoth x y apart.call apart.other
   pub first_end : end_after (plan_of scripts) first.core.history apart.call ≡ Some apart.first_end
   pub second_end : end_after (plan_of scripts) second.core.history apart.call ≡ Some apart.second_end
@@ -34,8 +34,8 @@ pub record AreApart (scripts : Scripts) (x y : CallAt) (first second : Run) (apa
 
 -- where there is a first run, x comes first in it; where there is a second, y
 pub record AreRunsOf (scripts : Scripts) (x y : CallAt) (runs : Runs) : Type 0 where
-  pub first : IfSome runs.first (IsRunOf scripts x y)
-  pub second : IfSome runs.second (IsRunOf scripts y x)
+  pub first : IfSome runs.first (IsWitnessRun scripts x y)
+  pub second : IfSome runs.second (IsWitnessRun scripts y x)
 
 -- each process may take all its events, and that of the held event those before it
 abbrev pub AreLimitsBefore : Plan → Event → List ℕ → Type 0
@@ -56,9 +56,9 @@ abbrev pub HasOnly : Course → Event → Event → Type 0
 HasOnly course x y = IsDone (state_of course) x × (¬ (IsDone (state_of course) y))
 
 -- a core that has run within these limits, if then x has happened and y hasn't
-abbrev pub IsAhead : Scripts → List ℕ → Event → Event → Option Course → Type 0
-IsAhead scripts limits x y (Some course) = RunsWithin limits (fresh scripts) course × HasOnly course x y
-IsAhead scripts limits x y None = (course : Course) × RunsWithin limits (fresh scripts) course × (¬ (HasOnly course x y))
+abbrev pub HasRunAhead : Scripts → List ℕ → Event → Event → Option Course → Type 0
+HasRunAhead scripts limits x y (Some course) = RunsWithin limits (fresh scripts) course × HasOnly course x y
+HasRunAhead scripts limits x y None = (course : Course) × RunsWithin limits (fresh scripts) course × (¬ (HasOnly course x y))
 
 -- the steps of a run, if it was made
 abbrev pub steps_of : Option Run → Option (List ℕ)
@@ -82,6 +82,6 @@ pub record AreNeededRuns (scripts : Scripts) (x y : CallAt) (runs : Runs) : Type
 
 -- of the needed runs the first ends as the second, and each of them as the held run in which the other call comes first
 pub record AreAlikeBeside (scripts : Scripts) (x y : CallAt) (held needed : Runs) : Type 0 where
-  pub needed_alike : AreAlike scripts x y (steps_of needed.first) (steps_of needed.second)
-  pub held_needed : AreAlike scripts x y (steps_of held.first) (steps_of needed.second)
-  pub needed_held : AreAlike scripts x y (steps_of needed.first) (steps_of held.second)
+  pub needed_alike : EndAlikeWhereMade scripts x y (steps_of needed.first) (steps_of needed.second)
+  pub held_needed : EndAlikeWhereMade scripts x y (steps_of held.first) (steps_of needed.second)
+  pub needed_held : EndAlikeWhereMade scripts x y (steps_of needed.first) (steps_of held.second)

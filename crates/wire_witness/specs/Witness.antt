@@ -3,8 +3,8 @@
 use Rattle.std.specs.Prelude.{◌≡◌, ◌≢◌, ◌⊎◌, ℕ, List, ◌++◌, Option, Some, slice_get}
 use Rattle.wire_types.specs.declared.CallAt.{CallAt}
 use Rattle.wire_types.specs.declared.CallEnd.{CallEnd}
-use Rattle.wire_content.specs.Scripts.{Scripts, numbers_of}
-use Rattle.wire_content.specs.Planned.{plan_of}
+use Rattle.wire_scripts.specs.Scripts.{Scripts, numbers_of}
+use Rattle.wire_scripts.specs.Planned.{plan_of}
 use Rattle.wire_words.specs.Words.{end_text}
 use Rattle.wire_runs.specs.Plan.{Plan, Event}
 use Rattle.wire_runs.specs.State.{start, IsDone}

@@ -11,8 +11,8 @@ use crate::tried::{TriedRace, count_shown, try_races};
 use std::alloc::Global;
 use std::thread::Threads;
 use wire_findings::FindingList;
+use wire_happens_before::{HappensBefore, MarkedPlan};
 use wire_json::RaceCounts;
-use wire_marks::{MarkedPlan, Marks};
 use wire_plan::Plan;
 use wire_races::finding_list;
 use wire_types::Fault;
@@ -91,7 +91,7 @@ pub fn search_races(
     ensures ok { IfOk result (IsRaceSearch plan.now most) }
     ensures err { IfErr result (λ e. e ≡ Memory) }
 {
-    let marks = Marks::of(alloc, plan)?;
+    let marks = HappensBefore::of(alloc, plan)?;
     let search = search_marked(rt, alloc, &marks.with(plan), most);
     drop(marks);
     search

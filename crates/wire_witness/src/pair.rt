@@ -3,7 +3,7 @@
 ghost use Rattle.std.specs.Prelude.{◌≡◌, ◌<◌, length, IfOk, IfErr};
 ghost use Rattle.wire_types.specs.declared.Fault.TheVariants.{Memory};
 ghost use Rattle.wire_runs.specs.Ends.{calls_of};
-ghost use Rattle.wire_content.specs.Planned.{plan_of};
+ghost use Rattle.wire_scripts.specs.Planned.{plan_of};
 ghost use Rattle.wire_races.specs.Racing.{AreRacing};
 ghost use Rattle.wire_witness.specs.Searches as spec;
 ghost use Rattle.wire_witness.specs.Searches.{IsPairSearch};
@@ -11,7 +11,7 @@ ghost use Rattle.wire_witness.specs.Searches.{IsPairSearch};
 use crate::search::find_witness;
 use crate::witness::Witness;
 use std::alloc::Global;
-use wire_marks::{MarkedPlan, Marks};
+use wire_happens_before::{HappensBefore, MarkedPlan};
 use wire_plan::Plan;
 use wire_races::are_racing;
 use wire_types::{CallAt, Fault};
@@ -81,7 +81,7 @@ pub fn search_pair(alloc: Global, plan: &Plan, calls: (CallAt, CallAt)) -> Resul
     ensures ok { IfOk result (IsPairSearch plan.now calls.0 calls.1) }
     ensures err { IfErr result (λ e. e ≡ Memory) }
 {
-    let marks = Marks::of(alloc, plan)?;
+    let marks = HappensBefore::of(alloc, plan)?;
     let search = search_calls(alloc, &marks.with(plan), calls);
     drop(marks);
     search

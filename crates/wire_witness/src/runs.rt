@@ -6,16 +6,16 @@ ghost use Rattle.wire_types.specs.declared.Fault.TheVariants.{Memory};
 ghost use Rattle.wire_runs.specs.Plan.{event_of, event_count, Event as Spot};
 ghost use Rattle.wire_runs.specs.State.{IsDone};
 ghost use Rattle.wire_runs.specs.Ends.{calls_of, first_event};
-ghost use Rattle.wire_content.specs.Planned.{plan_of};
+ghost use Rattle.wire_scripts.specs.Planned.{plan_of};
 ghost use Rattle.wire_core.specs.Course.{plan_in, state_of};
 ghost use Rattle.wire_core.specs.Within.{RunsWithin};
 ghost use Rattle.wire_witness.specs.Witness.{ComesFirst};
 ghost use Rattle.wire_witness.specs.NotShown.{IsHeldRun, IsNeededRun};
-ghost use Rattle.wire_witness.specs.Runs.{AreLimitsBefore, AreLimitsUpTo, GoesOn, HasOnly, IsAhead, IsRunOf, steps_of};
+ghost use Rattle.wire_witness.specs.Runs.{AreLimitsBefore, AreLimitsUpTo, GoesOn, HasOnly, HasRunAhead, IsWitnessRun, steps_of};
 
 use std::alloc::{AllocError, Global};
 use wire_core::Core;
-use wire_marks::MarkedPlan;
+use wire_happens_before::MarkedPlan;
 use wire_plan::Plan;
 use wire_types::{CallAt, CallEnd, Event, Fault, Proc};
 
@@ -103,7 +103,7 @@ fn finish<'a>(core: Core<'a>, first: CallAt, other: CallAt) -> Run<'a>
     requires comes { ComesFirst (plan_in core) core.history (first_event (plan_in core) first) (first_event (plan_in core) other) }
     requires first_there { first.call < length (calls_of (plan_in core) first.proc.number) }
     requires other_there { other.call < length (calls_of (plan_in core) other.proc.number) }
-    ensures run { IsRunOf core.entry.scripts first other result }
+    ensures run { IsWitnessRun core.entry.scripts first other result }
     ensures later { (more : List ℕ) × (result.core.history ≡ core.entry.history ++ more) }
 {
     let mut core = core;
@@ -126,7 +126,7 @@ fn core_ahead<'a>(
     y: Event,
 ) -> Result<Option<Core<'a>>, Fault>
     ensures scripts { IfOk result (λ o. IfSome o (λ core. core.scripts ≡ plan.now)) }
-    ensures within { IfOk result (IsAhead plan.now limits.now (event_of x) (event_of y)) }
+    ensures within { IfOk result (HasRunAhead plan.now limits.now (event_of x) (event_of y)) }
     ensures ahead { IfOk result (λ o. IfSome o (λ core. ComesFirst (plan_in core) core.history (event_of x) (event_of y))) }
     ensures err { IfErr result (λ e. e ≡ Memory) }
 {
@@ -151,7 +151,7 @@ fn finish_after<'a>(
     requires comes { ComesFirst (plan_in core) core.history (first_event (plan_in core) first) (first_event (plan_in core) other) }
     requires first_there { first.call < length (calls_of (plan_in core) first.proc.number) }
     requires other_there { other.call < length (calls_of (plan_in core) other.proc.number) }
-    ensures run { IfSome result (IsRunOf core.entry.scripts first other) }
+    ensures run { IfSome result (IsWitnessRun core.entry.scripts first other) }
     ensures goes_on { GoesOn core.entry limits.now (event_of y) result }
 {
     let mut core = core;
@@ -172,7 +172,7 @@ pub(crate) fn make_held_run<'a>(
 ) -> Result<Option<Run<'a>>, Fault>
     requires first_there { first.call < length (calls_of (plan_of plan.now) first.proc.number) }
     requires other_there { other.call < length (calls_of (plan_of plan.now) other.proc.number) }
-    ensures ok { IfOk result (λ o. IfSome o (IsRunOf plan.now first other)) }
+    ensures ok { IfOk result (λ o. IfSome o (IsWitnessRun plan.now first other)) }
     ensures made { IfOk result (λ o. IsHeldRun (plan_of plan.now) (first_event (plan_of plan.now) first) (first_event (plan_of plan.now) other) (steps_of o)) }
     ensures err { IfErr result (λ e. e ≡ Memory) }
 {
@@ -195,7 +195,7 @@ pub(crate) fn make_needed_run<'a>(
 ) -> Result<Option<Run<'a>>, Fault>
     requires first_there { first.call < length (calls_of (plan_of marked.now) first.proc.number) }
     requires other_there { other.call < length (calls_of (plan_of marked.now) other.proc.number) }
-    ensures ok { IfOk result (λ o. IfSome o (IsRunOf marked.now first other)) }
+    ensures ok { IfOk result (λ o. IfSome o (IsWitnessRun marked.now first other)) }
     ensures made { IfOk result (λ o. IsNeededRun (plan_of marked.now) (first_event (plan_of marked.now) first)
         (first_event (plan_of marked.now) other) (steps_of o)) }
     ensures err { IfErr result (λ e. e ≡ Memory) }

@@ -3,20 +3,20 @@
 ghost use Rattle.std.specs.Prelude.{◌≡◌, ◌<◌, ◌↔◌, length, IfOk, IfSome, IfNone, IfErr, IsTrue};
 ghost use Rattle.wire_types.specs.declared.Fault.TheVariants.{Memory};
 ghost use Rattle.wire_runs.specs.Ends.{calls_of};
-ghost use Rattle.wire_content.specs.Planned.{plan_of};
-ghost use Rattle.wire_content.specs.Scripts.{numbers_of};
+ghost use Rattle.wire_scripts.specs.Planned.{plan_of};
+ghost use Rattle.wire_scripts.specs.Scripts.{numbers_of};
 ghost use Rattle.wire_words.specs.Words.{end_text};
 ghost use Rattle.wire_witness.specs.Witness.{IsWitness};
-ghost use Rattle.wire_witness.specs.NotShown.{AreAlike, EndAlike, IsNotShown, NoneDiffers, ShowsNothing};
-ghost use Rattle.wire_witness.specs.Runs.{AreAlikeBeside, AreApart, AreHeldRuns, AreNeededRuns, AreRunsOf, IsRunOf};
+ghost use Rattle.wire_witness.specs.NotShown.{EndAlikeWhereMade, EndAlike, IsNotShown, NoRunDiffers, ShowsNothing};
+ghost use Rattle.wire_witness.specs.Runs.{AreAlikeBeside, EndsDiffer, AreHeldRuns, AreNeededRuns, AreRunsOf, IsWitnessRun};
 ghost use Rattle.wire_witness.specs.Runs.{steps_of};
 
 use crate::runs::{Run, make_held_run, make_needed_run};
 use crate::witness::Witness;
 use std::alloc::{AllocError, Global};
-use wire_content::Scripts;
-use wire_marks::MarkedPlan;
+use wire_happens_before::MarkedPlan;
 use wire_plan::Plan;
+use wire_scripts::Scripts;
 use wire_types::{CallAt, CallEnd, Fault};
 use wire_words::push_end;
 
@@ -78,9 +78,9 @@ fn find_difference(
     first: &Run<'_>,
     second: &Run<'_>,
 ) -> Result<Option<Difference>, AllocError>
-    requires first { IsRunOf plan.now pair.x pair.y first.now }
-    requires second { IsRunOf plan.now pair.y pair.x second.now }
-    ensures apart { IfOk result (λ o. IfSome o (AreApart plan.now pair.x pair.y first.now second.now)) }
+    requires first { IsWitnessRun plan.now pair.x pair.y first.now }
+    requires second { IsWitnessRun plan.now pair.y pair.x second.now }
+    ensures apart { IfOk result (λ o. IfSome o (EndsDiffer plan.now pair.x pair.y first.now second.now)) }
     ensures alike { IfOk result (λ o. IfNone o (EndAlike plan.now pair.x pair.y first.now.core.history second.now.core.history)) }
 {
     let scripts = plan.scripts();
@@ -136,8 +136,8 @@ fn lay(
     first: &Run<'_>,
     second: &Run<'_>,
 ) -> Result<Option<Witness>, AllocError>
-    requires first { IsRunOf plan.now pair.x pair.y first.now }
-    requires second { IsRunOf plan.now pair.y pair.x second.now }
+    requires first { IsWitnessRun plan.now pair.x pair.y first.now }
+    requires second { IsWitnessRun plan.now pair.y pair.x second.now }
     ensures shown { IfOk result (λ o. IfSome o (IsWitness plan.now pair.x pair.y)) }
     ensures alike { IfOk result (λ o. IfNone o (EndAlike plan.now pair.x pair.y first.now.core.history second.now.core.history)) }
 {
@@ -156,10 +156,10 @@ fn lay_both(
     first: &Option<Run<'_>>,
     second: &Option<Run<'_>>,
 ) -> Result<Option<Witness>, AllocError>
-    requires first { IfSome first.now (IsRunOf plan.now pair.x pair.y) }
-    requires second { IfSome second.now (IsRunOf plan.now pair.y pair.x) }
+    requires first { IfSome first.now (IsWitnessRun plan.now pair.x pair.y) }
+    requires second { IfSome second.now (IsWitnessRun plan.now pair.y pair.x) }
     ensures shown { IfOk result (λ o. IfSome o (IsWitness plan.now pair.x pair.y)) }
-    ensures alike { IfOk result (λ o. IfNone o (AreAlike plan.now pair.x pair.y (steps_of first.now) (steps_of second.now))) }
+    ensures alike { IfOk result (λ o. IfNone o (EndAlikeWhereMade plan.now pair.x pair.y (steps_of first.now) (steps_of second.now))) }
 {
     let Some(first) = first else {
         return Ok(None);
@@ -249,7 +249,7 @@ fn find_beside(
     requires y_there { pair.y.call < length (calls_of (plan_of marked.now) pair.y.proc.number) }
     requires held { AreRunsOf marked.now pair.x pair.y held.now }
     ensures shown { IfOk result (λ o. IfSome o (IsWitness marked.now pair.x pair.y)) }
-    ensures not_shown { IfOk result (λ o. IfNone o (NoneDiffers marked.now pair.x pair.y (steps_of held.now.first) (steps_of held.now.second))) }
+    ensures not_shown { IfOk result (λ o. IfNone o (NoRunDiffers marked.now pair.x pair.y (steps_of held.now.first) (steps_of held.now.second))) }
     ensures err { IfErr result (λ e. e ≡ Memory) }
 {
     let plan = marked.plan();

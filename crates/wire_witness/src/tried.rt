@@ -8,7 +8,7 @@ ghost use Rattle.wire_witness.specs.Tried.{AreTried, IsTried};
 use crate::search::find_witness;
 use std::alloc::{AllocError, Global};
 use wire_findings::Finding;
-use wire_marks::MarkedPlan;
+use wire_happens_before::MarkedPlan;
 use wire_races::race_calls;
 use wire_types::{CallAt, Fault};
 

@@ -13,8 +13,8 @@ use Rattle.wire_types.specs.declared.CallEnd.TheVariants.{Replied, Waiting, Read
 use Rattle.wire_types.specs.declared.verb.Verb.{Verb}
 use Rattle.wire_types.specs.declared.verb.Verb.TheVariants as verb
 use Rattle.wire_types.specs.Verbs.{text_of_verb}
-use Rattle.wire_content.specs.Scripts.{Scripts, Process, text_at, call_at}
-use Rattle.wire_content.specs.Canonical.{process_text}
+use Rattle.wire_scripts.specs.Scripts.{Scripts, Process, text_at, call_at}
+use Rattle.wire_scripts.specs.Canonical.{process_text}
 
 -- the name of a status in the PMIx Standard 5.0
 abbrev pub status_name : Status → List ℕ

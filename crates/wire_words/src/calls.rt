@@ -3,13 +3,13 @@
 ghost use Rattle.std.specs.Prelude.{◌≡◌, ◌+◌, ◌<◌, ◌≤◌, ◌++◌, decimal, length, OnOk, OnErr, option_copied};
 ghost use Rattle.std.specs.Prelude.{vec_capacity};
 ghost use Rattle.wire_types.specs.Verbs as verbs;
-ghost use Rattle.wire_content.specs.Scripts.{call_at};
-ghost use Rattle.wire_content.specs.Canonical.{process_text};
+ghost use Rattle.wire_scripts.specs.Scripts.{call_at};
+ghost use Rattle.wire_scripts.specs.Canonical.{process_text};
 ghost use Rattle.wire_words.specs.Words as spec;
 
 use itoa::Buffer;
 use std::alloc::AllocError;
-use wire_content::{Process, Scripts};
+use wire_scripts::{Process, Scripts};
 use wire_types::{Call, CallAt, Proc, Verb};
 
 /// Appends a number in decimal. It takes memory only where there is no room for it; the one error is that this

@@ -1,12 +1,12 @@
 //! What became of a call.
 
 ghost use Rattle.std.specs.Prelude.{◌≡◌, ◌++◌, OnOk};
-ghost use Rattle.wire_content.specs.Scripts.{call_at};
+ghost use Rattle.wire_scripts.specs.Scripts.{call_at};
 ghost use Rattle.wire_words.specs.Words as spec;
 
 use crate::calls::{find_call, push_number};
 use std::alloc::AllocError;
-use wire_content::Scripts;
+use wire_scripts::Scripts;
 use wire_types::{Call, CallAt, CallEnd, Status, Value};
 
 /// Appends what became of a call: the name of the reply's status and, after a space, what the reply

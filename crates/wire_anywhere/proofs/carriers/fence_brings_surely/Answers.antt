@@ -2,7 +2,7 @@ use Rattle.std.proofs.Common.{◌≤◌, ◌<◌, ◌+◌, ◌∙◌, ℕ, List,
 use Rattle.std.proofs.lemmas.Bool.{true≢false}
 use Rattle.wire_runs.specs.Plan.{event_of}
 use Rattle.wire_runs.specs.Order.{IsArrival, Before}
-use Rattle.wire_content.specs.Planned.{plan_of}
+use Rattle.wire_scripts.specs.Planned.{plan_of}
 use Rattle.wire_plan.specs.Index.{IsDelivering, AreArrivals}
 use Rattle.wire_races.proofs.KeyRaces.{owner_within}
 use Rattle.wire_anywhere.proofs.Surely.{none_later, none_left, none_after, none_here, sure_here, found_first, found_none}

@@ -1,6 +1,6 @@
 use Rattle.std.proofs.Common.{map}
 use Rattle.wire_runs.specs.Plan.{event_of}
-use Rattle.wire_content.specs.Planned.{plan_of}
+use Rattle.wire_scripts.specs.Planned.{plan_of}
 use Rattle.wire_anywhere.specs.Carriers.{NoneLacks}
 use Rattle.wire_anywhere.proofs.carriers.first_lacking.Given as goal
 

@@ -1,7 +1,7 @@
 use Rattle.std.proofs.Common.{sym, map}
 use Rattle.std.proofs.lemmas.Bool.{true≢false}
 use Rattle.wire_runs.specs.Plan.{event_of}
-use Rattle.wire_content.specs.Planned.{plan_of}
+use Rattle.wire_scripts.specs.Planned.{plan_of}
 use Rattle.wire_anywhere.proofs.Surely.{first_is_before, then_first, then_none}
 use Rattle.wire_anywhere.proofs.carriers.get_brings_surely.Goals as goal
 

@@ -2,16 +2,16 @@ use Rattle.std.proofs.Common.{◌≡◌, ◌∙◌, ℕ, sym, inl, inr, Bool, tr
 use Rattle.std.proofs.lemmas.Bool.{true≢false}
 use Rattle.std.proofs.lemmas.Result.{on_ok_weaker}
 use Rattle.wire_runs.specs.Plan.{Plan, Event, event_of}
-use Rattle.wire_content.specs.Planned.{plan_of}
-use Rattle.wire_races.specs.KeyRaces.{IsOpen}
+use Rattle.wire_scripts.specs.Planned.{plan_of}
+use Rattle.wire_races.specs.KeyRaces.{IsOpenRead}
 use Rattle.wire_anywhere.specs.Carriers.{IsSureByFence, IsSureByGet}
-use Rattle.wire_anywhere.specs.Races.{IsUnsure}
+use Rattle.wire_anywhere.specs.Races.{IsUnsureAnywhere}
 use Rattle.wire_anywhere.proofs.Surely.{by_fence, by_get, either_way}
 use Rattle.wire_anywhere.proofs.Far.{sure_none, adds_far}
 use Rattle.wire_anywhere.proofs.far_races.add_far_races.Goals as goal
 
-is_unsure : (plan : Plan) (get : Event) (owner key : ℕ) (a b : Bool) → IsOpen plan get owner key → (IsSureByFence plan owner key get.proc get → a ≡ true) → a ≡ false →
-    (IsSureByGet plan owner key get.proc get → b ≡ true) → b ≡ false → IsUnsure plan get owner key
+is_unsure : (plan : Plan) (get : Event) (owner key : ℕ) (a b : Bool) → IsOpenRead plan get owner key → (IsSureByFence plan owner key get.proc get → a ≡ true) → a ≡ false →
+    (IsSureByGet plan owner key get.proc get → b ≡ true) → b ≡ false → IsUnsureAnywhere plan get owner key
 is_unsure plan get owner key a b opened fence no_fence by no_get = record {
   opened = opened;
   not_sure = λ h. elim (either_way plan owner key get.proc get h) [

@@ -3,12 +3,12 @@ use Rattle.std.proofs.lemmas.Bool.{true≢false}
 use Rattle.std.proofs.lemmas.List.{length-map}
 use Rattle.std.proofs.lemmas.Option.{slice_get_within}
 use Rattle.wire_runs.specs.Plan.{event_of}
-use Rattle.wire_content.specs.Planned.{plan_of}
+use Rattle.wire_scripts.specs.Planned.{plan_of}
 use Rattle.wire_fates.proofs.Places.{place_at}
 use Rattle.wire_runs.proofs.Anywhere.{far_not_reader}
 use Rattle.wire_anywhere.proofs.Far.{far_get, no_get, get_more, get_skip, gets_done}
 use Rattle.wire_anywhere.proofs.Races.{get_source}
-use Rattle.wire_anywhere.specs.Adding.{Adds}
+use Rattle.wire_anywhere.specs.Adding.{AddsPlacementFindings}
 use Rattle.wire_anywhere.specs.Races.{AreFarGetsBelow}
 use Rattle.wire_anywhere.proofs.far_races.add_get_races.Goals as goal
 use Rattle.wire_anywhere.proofs.far_races.add_get_races.Goals.{then-is_far+in_ok-add_race, else-is_far}
@@ -53,11 +53,11 @@ loop-get-preserved c =
     elim c.if-is_far.branch [
       | then-is_far+in_ok-add_race w ↦
           (let both = c.is_far.ensures.0 w.if-is_far.true in
-          subst (λ l. Adds plan c.args.found.now l (AreFarGetsBelow plan get p key places (n + 1))) (sym w.found-is)
+          subst (λ l. AddsPlacementFindings plan c.args.found.now l (AreFarGetsBelow plan get p key places (n + 1))) (sym w.found-is)
           (get_more plan get p key places c.requires.gets c.args.found.now c.loop-get.found w.add_race.new.found n (n + 1) _ (omega arith) at
           (far_get plan get p key c.requires.unsure _ (c.requires.gets.only n _ at) both.0 both.1) c.loop-get.invariant (rw w.plan.ensures at w.in_ok-add_race.ensures)))
       | else-is_far w ↦
-          subst (λ l. Adds plan c.args.found.now l (AreFarGetsBelow plan get p key places (n + 1))) (sym w.found-is)
+          subst (λ l. AddsPlacementFindings plan c.args.found.now l (AreFarGetsBelow plan get p key places (n + 1))) (sym w.found-is)
           (get_skip plan get p key places c.requires.gets c.args.found.now c.loop-get.found n (n + 1) _ (omega arith) at
           (λ both. true≢false (sym (c.is_far.ensures.1 both) ∙ w.if-is_far.false)) c.loop-get.invariant)
     ]

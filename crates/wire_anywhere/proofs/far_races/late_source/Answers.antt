@@ -3,7 +3,7 @@ use Rattle.std.specs.Prelude.{option_map}
 use Rattle.std.proofs.lemmas.Bool.{true≢false}
 use Rattle.std.proofs.lemmas.Option.{slice_get-map}
 use Rattle.wire_runs.specs.Plan.{event_of}
-use Rattle.wire_content.specs.Planned.{plan_of}
+use Rattle.wire_scripts.specs.Planned.{plan_of}
 use Rattle.wire_anywhere.proofs.Far.{first_is_late, sure_not_late, nobody_late}
 use Rattle.wire_anywhere.proofs.KeptGets.{none_first}
 use Rattle.wire_anywhere.proofs.far_races.late_source.Goals as goal

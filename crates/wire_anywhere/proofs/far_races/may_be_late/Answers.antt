@@ -2,7 +2,7 @@ use Rattle.std.proofs.Common.{◌≡◌, ◌∙◌, suc, sym, subst}
 use Rattle.std.proofs.lemmas.Bool.{true≢false, false_from_ne_true, not_from_true, not_from_false}
 use Rattle.wire_runs.specs.Plan.{event_of}
 use Rattle.wire_runs.specs.Order.{Live, Before}
-use Rattle.wire_content.specs.Planned.{plan_of}
+use Rattle.wire_scripts.specs.Planned.{plan_of}
 use Rattle.wire_fates.specs.Deliveries.{MayBeLate}
 use Rattle.wire_anywhere.proofs.Far.{may_told, told_may}
 use Rattle.wire_anywhere.proofs.far_races.may_be_late.Goals as goal

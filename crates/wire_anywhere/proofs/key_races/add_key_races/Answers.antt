@@ -1,7 +1,7 @@
 use Rattle.std.proofs.Common.{refl}
 use Rattle.std.proofs.lemmas.Result.{on_ok_weaker}
 use Rattle.wire_runs.specs.Plan.{process_count}
-use Rattle.wire_content.specs.Planned.{plan_of}
+use Rattle.wire_scripts.specs.Planned.{plan_of}
 use Rattle.wire_anywhere.specs.Races.{IsShownOf, IsShown}
 use Rattle.wire_anywhere.proofs.Pieces.{pieces_added}
 use Rattle.wire_anywhere.proofs.Races.{shown_within, shown_below}

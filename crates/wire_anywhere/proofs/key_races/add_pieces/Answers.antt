@@ -1,7 +1,7 @@
 use Rattle.std.proofs.Common.{◌≡◌, ◌∙◌, ap, sym, subst, ◌∷◌, [], length, refl, append_assoc, append-nil, arith}
 use Rattle.std.specs.Vec.Iter.{into_iter_items}
 use Rattle.std.proofs.lemmas.List.{nil_from_length}
-use Rattle.wire_anywhere.specs.Adding.{Adds, IsInSome}
+use Rattle.wire_anywhere.specs.Adding.{AddsPlacementFindings, IsInSome}
 use Rattle.wire_anywhere.proofs.Growing.{appended}
 use Rattle.wire_anywhere.proofs.Pieces.{some_more, none_more}
 use Rattle.wire_anywhere.proofs.key_races.add_pieces.Goals as goal
@@ -35,4 +35,4 @@ returns c = λ plan.
     let empty : into_iter_items at.piece-iterator ≡ [] = nil_from_length _ (sym at.invariant.1 ∙ none.0) in
     let given = c.into_iter-piece-iterator.ensures.into_iter_gives.0 in
     let every = sym (append-nil at.yielded) ∙ rw empty at at.invariant.0 ∙ given in
-    subst (λ l. Adds plan c.args.found.now at.found (IsInSome plan l)) every (at.invariant.2 plan)
+    subst (λ l. AddsPlacementFindings plan c.args.found.now at.found (IsInSome plan l)) every (at.invariant.2 plan)

@@ -1,5 +1,5 @@
 use Rattle.std.proofs.Common.{◌+◌, arith}
-use Rattle.wire_content.specs.Planned.{plan_of}
+use Rattle.wire_scripts.specs.Planned.{plan_of}
 use Rattle.wire_anywhere.specs.Races.{IsShownBy}
 use Rattle.wire_anywhere.proofs.Growing.{no_event, one_event}
 use Rattle.wire_anywhere.proofs.key_races.add_process.Goals as goal

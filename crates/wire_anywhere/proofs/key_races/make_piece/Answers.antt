@@ -1,4 +1,4 @@
-use Rattle.wire_content.specs.Planned.{plan_of}
+use Rattle.wire_scripts.specs.Planned.{plan_of}
 use Rattle.wire_anywhere.specs.Races.{IsShownOf}
 use Rattle.wire_anywhere.proofs.Pieces.{piece_of}
 use Rattle.wire_anywhere.proofs.key_races.make_piece.Goals as goal

@@ -2,7 +2,7 @@ use Rattle.std.proofs.Common.{◌≡◌, ◌-◌, ap, subst, ◌∙◌, arith, I
 use Rattle.std.specs.List.{AllZip, range_with_len}
 use Rattle.rayon.specs.Numbers.{nat_range}
 use Rattle.wire_runs.specs.Plan.{process_count}
-use Rattle.wire_content.specs.Planned.{plan_of}
+use Rattle.wire_scripts.specs.Planned.{plan_of}
 use Rattle.wire_anywhere.specs.Races.{IsShownOf}
 use Rattle.wire_anywhere.specs.Adding.{IsPiece}
 use Rattle.wire_anywhere.proofs.Pieces.{are_pieces}

@@ -1,7 +1,7 @@
 use Rattle.std.proofs.Common.{refl}
 use Rattle.wire_runs.specs.Plan.{event_of}
 use Rattle.wire_types.specs.declared.Event.{Event}
-use Rattle.wire_content.specs.Planned.{plan_of}
+use Rattle.wire_scripts.specs.Planned.{plan_of}
 use Rattle.wire_board.proofs.Leaving.{waits_for_more}
 use Rattle.wire_board.proofs.fence_end.end_before.Goals as goal
 

@@ -1,6 +1,6 @@
 use Rattle.std.proofs.Common.{◌≡◌, ℕ, ◌<◌, Some}
 use Rattle.std.specs.Prelude.{◌≢◌, slice_get}
-use Rattle.wire_content.specs.Planned.{plan_of}
+use Rattle.wire_scripts.specs.Planned.{plan_of}
 use Rattle.wire_fates.specs.declared.Fate.{Fate}
 use Rattle.wire_fates.specs.declared.Fate.TheVariants.{Waits}
 use Rattle.wire_fates.specs.Fates.{IsFateOf}

@@ -1,7 +1,7 @@
 use Rattle.std.proofs.Common.{◌∙◌, ap, sym, subst, true≢false}
 use Rattle.std.proofs.lemmas.Bool.{not_from_true, not_from_false, false_from_ne_true}
 use Rattle.wire_runs.specs.Plan.{event_of}
-use Rattle.wire_content.specs.Planned.{plan_of}
+use Rattle.wire_scripts.specs.Planned.{plan_of}
 use Rattle.wire_fates.specs.declared.fate.Fate.TheVariants.{Waits}
 use Rattle.wire_fates.specs.Fates.{IsFateOf, fate_told}
 use Rattle.wire_board.proofs.SameFates.{fates_decide}

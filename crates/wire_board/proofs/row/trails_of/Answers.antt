@@ -2,8 +2,8 @@ use Rattle.std.proofs.Common.{◌≡◌, ◌∙◌, length, sym, ap, subst, arit
 use Rattle.std.proofs.lemmas.Option.{none-some}
 use Rattle.wire_types.specs.declared.Proc.{Proc}
 use Rattle.wire_runs.specs.Plan.{process_count}
-use Rattle.wire_content.specs.Scripts.{Scripts}
-use Rattle.wire_content.specs.Planned.{plan_of}
+use Rattle.wire_scripts.specs.Scripts.{Scripts}
+use Rattle.wire_scripts.specs.Planned.{plan_of}
 use Rattle.wire_board.specs.Lanes.{IsLaneOf}
 use Rattle.wire_board.proofs.Told.{Taking, taking_none, taking_more, taking_at, tells_all, tells_none}
 use Rattle.wire_board.proofs.row.trails_of.Goals as goal

@@ -3,7 +3,7 @@ use Rattle.std.proofs.lemmas.Bool.{true≢false}
 use Rattle.std.proofs.lemmas.Option.{none-some}
 use Rattle.wire_runs.specs.Plan.{event_of}
 use Rattle.wire_runs.specs.Fate.{Waits, HasFate}
-use Rattle.wire_content.specs.Planned.{plan_of}
+use Rattle.wire_scripts.specs.Planned.{plan_of}
 use Rattle.wire_fates.specs.Fates.{IsFateOf}
 use Rattle.wire_board.specs.Positions.{hold}
 use Rattle.wire_board.proofs.Showing.{shown_from, shown_sources}

@@ -1,5 +1,5 @@
 use Rattle.wire_runs.specs.Plan.{event_of}
-use Rattle.wire_content.specs.Planned.{plan_of}
+use Rattle.wire_scripts.specs.Planned.{plan_of}
 use Rattle.wire_board.proofs.Showing.{sources_shown, none_told}
 use Rattle.wire_board.proofs.shown.shows_sources.Goals as goal
 

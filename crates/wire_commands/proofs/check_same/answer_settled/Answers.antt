@@ -1,5 +1,5 @@
 use Rattle.std.proofs.Common.{◌≡◌, ◌∙◌, ap, arith, length, vec_len}
-use Rattle.wire_content.specs.Planned.{plan_of}
+use Rattle.wire_scripts.specs.Planned.{plan_of}
 use Rattle.wire_anywhere_report.specs.Differing.{differing_form}
 use Rattle.wire_commands.specs.Answer.{rows_in}
 use Rattle.wire_commands.specs.Ending.{ended_of}

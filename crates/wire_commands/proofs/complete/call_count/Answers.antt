@@ -1,6 +1,6 @@
 use Rattle.std.proofs.Common.{◌∙◌, ap, sym, refl, length, arith}
 use Rattle.std.proofs.lemmas.Option.{slice_get_read, slice_get_past}
-use Rattle.wire_content.specs.Scripts.{calls_in}
+use Rattle.wire_scripts.specs.Scripts.{calls_in}
 use Rattle.wire_commands.proofs.complete.call_count.Goals as goal
 
 pub returns-in-Some-clause-count : goal.returns-in-Some-clause-count

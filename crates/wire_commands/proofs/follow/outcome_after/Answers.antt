@@ -1,7 +1,7 @@
 use Rattle.std.proofs.Common.{inl, inr}
 use Rattle.std.proofs.lemmas.Result.{IfOk-weaker, IfErr-weaker}
 use Rattle.wire_types.specs.Outcome.{ends_of}
-use Rattle.wire_content.specs.Scripts.{numbers_of}
+use Rattle.wire_scripts.specs.Scripts.{numbers_of}
 use Rattle.wire_commands.proofs.Followed.{reached, stopped}
 use Rattle.wire_commands.proofs.follow.outcome_after.Goals as goal
 

@@ -1,5 +1,5 @@
 use Rattle.std.proofs.Common.{◌≡◌, subst, IfOk}
-use Rattle.wire_content.specs.Canonical.{canonical}
+use Rattle.wire_scripts.specs.Canonical.{canonical}
 use Rattle.wire_commands.proofs.place.text_with.Goals as goal
 
 pub returns-clause-ok : goal.returns-clause-ok

@@ -1,8 +1,8 @@
 use Rattle.std.proofs.Common.{◌≡◌, ◌⊎◌, subst, inl, map, IfOk, IfErr, Err}
 use Rattle.wire_types.specs.declared.Fault.TheVariants.{Memory}
-use Rattle.wire_commands.specs.Why.{Asks}
+use Rattle.wire_commands.specs.Why.{QuestionNames}
 use Rattle.wire_commands.proofs.Handed.{handed_on, not_ok}
-use Rattle.wire_commands.specs.Why.{Answers}
+use Rattle.wire_commands.specs.Why.{ExplainsOrder}
 use Rattle.wire_types.specs.Texts.{texts_of}
 use Rattle.wire_commands.specs.Answer.{rows_in}
 use Rattle.wire_types.specs.Forms.{is_json}
@@ -16,9 +16,9 @@ returns-in_err-plan-clause-err c = handed_on c.from_residual.result c.in_err-pla
 
 pub returns-clause-ok : goal.returns-clause-ok
 returns-clause-ok c =
-    subst (λ s. IfOk c.answer_plan-answer.result (λ a. Answers c.args.telling.form c.args.telling.places.name.now (texts_of c.args.words) s
+    subst (λ s. IfOk c.answer_plan-answer.result (λ a. ExplainsOrder c.args.telling.form c.args.telling.places.name.now (texts_of c.args.words) s
     (rows_in c.args.telling.places) a.text.items a.ended)) c.in_ok-plan.ensures.ok c.answer_plan-answer.ensures.ok
 
 pub returns-clause-err : goal.returns-clause-err
 returns-clause-err c =
-    subst (λ s. IfErr c.answer_plan-answer.result (λ e. (e ≡ Memory) ⊎ Asks s (texts_of c.args.words) (Err e))) c.in_ok-plan.ensures.ok c.answer_plan-answer.ensures.err
+    subst (λ s. IfErr c.answer_plan-answer.result (λ e. (e ≡ Memory) ⊎ QuestionNames s (texts_of c.args.words) (Err e))) c.in_ok-plan.ensures.ok c.answer_plan-answer.ensures.err

@@ -1,6 +1,6 @@
 use Rattle.std.proofs.Common.{◌≡◌, ◌⊎◌, subst, inl, map, IfOk, IfErr, Err}
 use Rattle.wire_types.specs.declared.Fault.TheVariants.{Memory}
-use Rattle.wire_commands.specs.Why.{Asks}
+use Rattle.wire_commands.specs.Why.{QuestionNames}
 use Rattle.wire_commands.proofs.Handed.{handed_on, not_ok}
 use Rattle.wire_commands.specs.Witness.{ShowsPair}
 use Rattle.wire_types.specs.Texts.{texts_of}
@@ -21,4 +21,4 @@ returns-clause-ok c =
 
 pub returns-clause-err : goal.returns-clause-err
 returns-clause-err c =
-    subst (λ s. IfErr c.answer_plan-answer.result (λ e. (e ≡ Memory) ⊎ Asks s (texts_of c.args.asked.words) (Err e))) c.in_ok-plan.ensures.ok c.answer_plan-answer.ensures.err
+    subst (λ s. IfErr c.answer_plan-answer.result (λ e. (e ≡ Memory) ⊎ QuestionNames s (texts_of c.args.asked.words) (Err e))) c.in_ok-plan.ensures.ok c.answer_plan-answer.ensures.err

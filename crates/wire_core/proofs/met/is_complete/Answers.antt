@@ -1,6 +1,6 @@
 use Rattle.std.proofs.Common.{◌∙◌, ap, sym, suc}
 use Rattle.wire_runs.specs.Fences.{is_complete, arrivals}
-use Rattle.wire_content.specs.Planned.{plan_of}
+use Rattle.wire_scripts.specs.Planned.{plan_of}
 use Rattle.wire_core.proofs.met.is_complete.Goals as goal
 
 pub returns : goal.returns

@@ -1,6 +1,6 @@
 use Rattle.std.proofs.Common.{◌≡◌, ℕ, Some, vec_len}
 use Rattle.std.specs.Prelude.{slice_get, vec_capacity}
-use Rattle.wire_content.specs.Planned.{plan_of}
+use Rattle.wire_scripts.specs.Planned.{plan_of}
 use Rattle.wire_runs.specs.State.{start}
 use Rattle.wire_core.specs.Ranks.{IsRankOf}
 use Rattle.wire_core.specs.declared.rank.Rank.{Rank}

@@ -1,5 +1,5 @@
 use Rattle.std.proofs.Common.{arith}
-use Rattle.wire_content.specs.Planned.{plan_of}
+use Rattle.wire_scripts.specs.Planned.{plan_of}
 use Rattle.wire_differing.proofs.Coming.{end_within}
 use Rattle.wire_differing.proofs.answered.count_answered.Goals as goal
 

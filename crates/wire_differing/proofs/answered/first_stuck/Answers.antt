@@ -1,5 +1,5 @@
 use Rattle.std.proofs.Common.{arith}
-use Rattle.wire_content.specs.Planned.{plan_of}
+use Rattle.wire_scripts.specs.Planned.{plan_of}
 use Rattle.wire_runs.proofs.Fates.{live_within}
 use Rattle.wire_differing.proofs.answered.first_stuck.Goals as goal
 

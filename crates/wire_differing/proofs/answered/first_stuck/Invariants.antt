@@ -1,5 +1,5 @@
 use Rattle.std.proofs.Common.{ℕ, ◌<◌}
-use Rattle.wire_content.specs.Planned.{plan_of}
+use Rattle.wire_scripts.specs.Planned.{plan_of}
 use Rattle.wire_differing.specs.Answered.{IsStuck}
 use Rattle.wire_differing.proofs.answered.first_stuck.Given as goal
 

@@ -1,7 +1,7 @@
 use Rattle.std.proofs.Common.{◌∙◌, sym, refl, map}
 use Rattle.std.proofs.lemmas.Bool.{true≢false}
 use Rattle.wire_runs.specs.Plan.{event_of}
-use Rattle.wire_content.specs.Planned.{plan_of}
+use Rattle.wire_scripts.specs.Planned.{plan_of}
 use Rattle.wire_fates.proofs.Marked.{marks_of}
 use Rattle.wire_differing.proofs.Coming.{done_live, comes_exactly}
 use Rattle.wire_differing.proofs.answered.is_answered.Goals as goal

@@ -1,6 +1,6 @@
 use Rattle.std.proofs.Common.{◌+◌, sym, subst, map, arith}
 use Rattle.wire_runs.specs.Plan.{event_of}
-use Rattle.wire_content.specs.Planned.{plan_of}
+use Rattle.wire_scripts.specs.Planned.{plan_of}
 use Rattle.wire_differing.specs.Answered.{AreStuckTo}
 use Rattle.wire_differing.proofs.Coming.{no_more, one_stuck, all_stuck}
 use Rattle.wire_differing.proofs.answered.stuck_events.Goals.{in-Some+in_ok-push, in_default}

@@ -1,4 +1,4 @@
-use Rattle.wire_content.specs.Planned.{plan_of}
+use Rattle.wire_scripts.specs.Planned.{plan_of}
 use Rattle.wire_runs.proofs.Basics.{event_within}
 use Rattle.wire_differing.proofs.replies.scope_of.Goals as goal
 

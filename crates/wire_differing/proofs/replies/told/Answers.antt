@@ -1,6 +1,6 @@
 use Rattle.std.proofs.Common.{arith}
 use Rattle.wire_runs.specs.Plan.{event_of}
-use Rattle.wire_content.specs.Planned.{plan_of}
+use Rattle.wire_scripts.specs.Planned.{plan_of}
 use Rattle.wire_differing.proofs.Coming.{end_within}
 use Rattle.wire_differing.proofs.Placed.{settled_here, no_get}
 use Rattle.wire_differing.proofs.replies.told.Goals as goal

@@ -3,7 +3,7 @@ use Rattle.std.specs.Prelude.{◌≢◌}
 use Rattle.std.proofs.lemmas.Bool.{true≢false}
 use Rattle.wire_runs.specs.Plan.{event_of}
 use Rattle.wire_runs.specs.Puts.{scope_of}
-use Rattle.wire_content.specs.Planned.{plan_of}
+use Rattle.wire_scripts.specs.Planned.{plan_of}
 use Rattle.wire_plan.specs.Index.{IsFirstPut}
 use Rattle.wire_runs.proofs.Basics.{event_within}
 use Rattle.wire_differing.proofs.Placed.{own_get, never_get, get_alike, get_differs}

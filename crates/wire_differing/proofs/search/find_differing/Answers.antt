@@ -1,4 +1,4 @@
-use Rattle.wire_content.specs.Planned.{plan_of}
+use Rattle.wire_scripts.specs.Planned.{plan_of}
 use Rattle.wire_differing.proofs.Placed.{settled_here}
 use Rattle.wire_differing.proofs.search.find_differing.Goals as goal
 

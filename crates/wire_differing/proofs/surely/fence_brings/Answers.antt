@@ -3,7 +3,7 @@ use Rattle.std.proofs.lemmas.Bool.{true≢false}
 use Rattle.wire_runs.specs.Plan.{event_of}
 use Rattle.wire_runs.specs.Order.{IsArrival, Before}
 use Rattle.wire_plan.specs.Index.{IsDelivering}
-use Rattle.wire_content.specs.Planned.{plan_of}
+use Rattle.wire_scripts.specs.Planned.{plan_of}
 use Rattle.wire_runs.proofs.Basics.{process_within}
 use Rattle.wire_differing.proofs.Sure.{none_later, none_left, none_after, none_here, sure_here}
 use Rattle.wire_differing.proofs.surely.fence_brings.Goals as goal

@@ -1,7 +1,7 @@
 use Rattle.std.proofs.Common.{sym, inl, inr}
 use Rattle.std.proofs.lemmas.Bool.{true≢false}
 use Rattle.wire_runs.specs.Plan.{event_of}
-use Rattle.wire_content.specs.Planned.{plan_of}
+use Rattle.wire_scripts.specs.Planned.{plan_of}
 use Rattle.wire_differing.proofs.Sure.{either, either_way}
 use Rattle.wire_differing.proofs.surely.has_surely.Goals as goal
 

@@ -1,6 +1,6 @@
 use Rattle.std.proofs.Common.{◌≡◌, ◌<◌, ◌+◌, ◌^◌, length, slice_get}
-use Rattle.wire_script.specs.Statements.{statements}
-use Rattle.wire_script.specs.Left.{statements_left}
+use Rattle.wire_reader.specs.Statements.{statements}
+use Rattle.wire_reader.specs.Left.{statements_left}
 use Rattle.wire_explain.proofs.explanation.line_of_step.Given as goal
 
 abbrev pub invariant-lines : goal.invariant-lines

@@ -1,5 +1,5 @@
 use Rattle.std.proofs.Common.{◌≡◌, ◌<◌, ◌+◌, ◌^◌, length}
-use Rattle.wire_script.specs.Left.{statements_left}
+use Rattle.wire_reader.specs.Left.{statements_left}
 use Rattle.wire_explain.specs.Place.{place_from, place_of}
 use Rattle.wire_explain.proofs.line_places.place_of.Given as goal
 

@@ -1,7 +1,7 @@
 use Rattle.std.proofs.Common.{◌≡◌, ◌≤◌}
 use Rattle.wire_runs.specs.Plan.{set_of}
 use Rattle.wire_runs.specs.Fences.{arrivals}
-use Rattle.wire_content.specs.Scripts.{set_at}
+use Rattle.wire_scripts.specs.Scripts.{set_at}
 use Rattle.wire_core.specs.Course.{plan_in}
 use Rattle.wire_explain.proofs.not_arrived.arrivals.Given as goal
 

@@ -1,6 +1,6 @@
 use Rattle.std.proofs.Common.{◌∙◌, ap, arith}
 use Rattle.wire_runs.specs.Plan.{event_count}
-use Rattle.wire_content.specs.Planned.{plan_of}
+use Rattle.wire_scripts.specs.Planned.{plan_of}
 use Rattle.wire_core.specs.Course.{plan_in}
 use Rattle.wire_core.proofs.Bring.{done_within}
 use Rattle.wire_explain.proofs.not_arrived.done_of.Goals as goal

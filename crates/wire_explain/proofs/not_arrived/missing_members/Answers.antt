@@ -1,5 +1,5 @@
 use Rattle.wire_runs.specs.Plan.{set_of}
-use Rattle.wire_content.specs.Scripts.{set_at}
+use Rattle.wire_scripts.specs.Scripts.{set_at}
 use Rattle.wire_core.specs.Course.{plan_in, state_of}
 use Rattle.wire_explain.specs.Stops.{is_missing}
 use Rattle.wire_explain.proofs.Sets.{missing_more}

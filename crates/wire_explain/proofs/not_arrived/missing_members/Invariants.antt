@@ -1,7 +1,7 @@
 use Rattle.std.proofs.Common.{◌≡◌, take}
 use Rattle.std.specs.Prelude.{filter}
 use Rattle.wire_runs.specs.Plan.{set_of}
-use Rattle.wire_content.specs.Scripts.{numbers_of, set_at}
+use Rattle.wire_scripts.specs.Scripts.{numbers_of, set_at}
 use Rattle.wire_core.specs.Course.{plan_in, state_of}
 use Rattle.wire_explain.specs.Stops.{is_missing}
 use Rattle.wire_explain.proofs.not_arrived.missing_members.Given as goal

@@ -1,9 +1,9 @@
 use Rattle.std.proofs.Common.{subst, List}
 use Rattle.std.proofs.lemmas.Result.{IfOk-weaker}
 use Rattle.wire_types.specs.declared.Proc.{Proc}
-use Rattle.wire_content.specs.Scripts.{numbers_of}
+use Rattle.wire_scripts.specs.Scripts.{numbers_of}
 use Rattle.wire_explain.specs.Told.{TellsStop}
-use Rattle.wire_script.proofs.Steps.{handed_on}
+use Rattle.wire_reader.proofs.Steps.{handed_on}
 use Rattle.wire_explain.proofs.Texts.{of_plan, of_order, of_memory}
 use Rattle.wire_explain.proofs.stop.explain_stop.Goals as goal
 

@@ -1,5 +1,5 @@
 use Rattle.std.proofs.Common.{codes}
-use Rattle.wire_content.specs.Scripts.{text_at}
+use Rattle.wire_scripts.specs.Scripts.{text_at}
 use Rattle.wire_explain.proofs.Texts.{then_joined}
 use Rattle.wire_explain.proofs.wait_words.push_published.Goals as goal
 

@@ -1,7 +1,7 @@
 use Rattle.std.proofs.Common.{◌∙◌, sym, refl, List, ◌++◌, codes, append-nil}
 use Rattle.std.proofs.lemmas.List.{at_drop_more, at_drop_all}
 use Rattle.wire_types.specs.declared.Proc.{Proc}
-use Rattle.wire_content.specs.Scripts.{numbers_of}
+use Rattle.wire_scripts.specs.Scripts.{numbers_of}
 use Rattle.wire_explain.specs.Stops.{rank_list_text}
 use Rattle.wire_explain.proofs.Texts.{joined}
 use Rattle.wire_explain.proofs.wait_words.push_rank_list.Goals as goal

@@ -1,5 +1,5 @@
 use Rattle.std.proofs.Common.{◌≡◌, ◌++◌, drop}
-use Rattle.wire_content.specs.Scripts.{numbers_of}
+use Rattle.wire_scripts.specs.Scripts.{numbers_of}
 use Rattle.wire_explain.specs.Stops.{rank_list_text}
 use Rattle.wire_explain.proofs.wait_words.push_rank_list.Given as goal
 

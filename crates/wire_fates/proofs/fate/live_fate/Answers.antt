@@ -2,7 +2,7 @@ use Rattle.std.proofs.Common.{◌∙◌, ◌∷◌, [], ap, refl, sym, Some, inl
 use Rattle.std.specs.Prelude.{option_map}
 use Rattle.wire_runs.specs.Plan.{event_of}
 use Rattle.wire_runs.proofs.Fates.{live_within}
-use Rattle.wire_content.specs.Planned.{plan_of}
+use Rattle.wire_scripts.specs.Planned.{plan_of}
 use Rattle.wire_plan.specs.Kinds.{kind_of}
 use Rattle.wire_fates.proofs.Fates.{says, publish_says, lookup_says, unpublish_says, waiting_is, leave_may, stands}
 use Rattle.wire_fates.proofs.fate.live_fate.Goals as goal

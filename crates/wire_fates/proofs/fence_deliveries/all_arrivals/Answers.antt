@@ -1,6 +1,6 @@
 use Rattle.std.proofs.Common.{ap, subst, map}
 use Rattle.wire_runs.specs.Plan.{event_of}
-use Rattle.wire_content.specs.Planned.{plan_of}
+use Rattle.wire_scripts.specs.Planned.{plan_of}
 use Rattle.wire_plan.specs.Index.{AreArrivals}
 use Rattle.wire_runs.proofs.Basics.{event_within}
 use Rattle.wire_fates.proofs.Arrivals.{ended}

@@ -2,7 +2,7 @@ use Rattle.std.proofs.Common.{◌+◌, ◌∙◌, sym, refl, map, arith}
 use Rattle.std.proofs.lemmas.List.{length-map}
 use Rattle.std.proofs.lemmas.Bool.{true≢false}
 use Rattle.wire_runs.specs.Plan.{event_of}
-use Rattle.wire_content.specs.Planned.{plan_of}
+use Rattle.wire_scripts.specs.Planned.{plan_of}
 use Rattle.wire_runs.specs.Order.{Live}
 use Rattle.wire_fates.proofs.Arrivals.{one_more, all_places}
 use Rattle.wire_fates.proofs.Places.{place_at}

@@ -1,6 +1,6 @@
 use Rattle.std.proofs.Common.{◌≡◌, ◌+◌, ◌∙◌, suc, ap, arith}
 use Rattle.wire_runs.specs.Plan.{kind_at}
-use Rattle.wire_content.specs.Planned.{plan_of}
+use Rattle.wire_scripts.specs.Planned.{plan_of}
 use Rattle.wire_runs.proofs.Basics.{event_within}
 use Rattle.wire_plan.proofs.Planning.{count_fits}
 use Rattle.wire_fates.proofs.First.{leave_next}

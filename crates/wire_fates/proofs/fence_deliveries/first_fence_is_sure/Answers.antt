@@ -1,7 +1,7 @@
 use Rattle.std.proofs.Common.{sym, subst}
 use Rattle.std.proofs.lemmas.Bool.{true≢false}
 use Rattle.wire_runs.specs.Plan.{event_of}
-use Rattle.wire_content.specs.Planned.{plan_of}
+use Rattle.wire_scripts.specs.Planned.{plan_of}
 use Rattle.wire_fates.specs.Deliveries.{IsSure}
 use Rattle.wire_fates.proofs.Surely.{first_sure, never_sure}
 use Rattle.wire_fates.proofs.fence_deliveries.first_fence_is_sure.Goals as goal

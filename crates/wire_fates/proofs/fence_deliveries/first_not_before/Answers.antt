@@ -1,6 +1,6 @@
 use Rattle.std.proofs.Common.{◌+◌, map, arith}
 use Rattle.wire_runs.specs.Plan.{event_of}
-use Rattle.wire_content.specs.Planned.{plan_of}
+use Rattle.wire_scripts.specs.Planned.{plan_of}
 use Rattle.wire_runs.specs.Order.{Before}
 use Rattle.wire_fates.proofs.Arrivals.{one_more}
 use Rattle.wire_fates.proofs.Places.{place_at}

@@ -1,4 +1,4 @@
-use Rattle.wire_content.specs.Planned.{plan_of}
+use Rattle.wire_scripts.specs.Planned.{plan_of}
 use Rattle.wire_fates.proofs.Surely.{next_from}
 use Rattle.wire_fates.proofs.fence_deliveries.next_arrival.Goals as goal
 

@@ -3,7 +3,7 @@ use Rattle.std.proofs.lemmas.Bool.{true≢false}
 use Rattle.wire_runs.specs.Plan.{event_of, node_of}
 use Rattle.wire_runs.proofs.Basics.{process_within}
 use Rattle.wire_runs.proofs.Fates.{live_event}
-use Rattle.wire_content.specs.Planned.{plan_of}
+use Rattle.wire_scripts.specs.Planned.{plan_of}
 use Rattle.wire_fates.specs.Deliveries.{IsSureByFence}
 use Rattle.wire_fates.proofs.Arrivals.{of_rising}
 use Rattle.wire_fates.proofs.OwnFences.{arrives_there, own_fence_sure, own_fence_tells, sent_by_own, owner_calls}

@@ -2,7 +2,7 @@ use Rattle.std.proofs.Common.{◌≤◌, map, length, refl, sym, arith}
 use Rattle.std.proofs.lemmas.Bool.{true≢false}
 use Rattle.std.proofs.lemmas.List.{length-map}
 use Rattle.wire_runs.specs.Plan.{event_of}
-use Rattle.wire_content.specs.Planned.{plan_of}
+use Rattle.wire_scripts.specs.Planned.{plan_of}
 use Rattle.wire_fates.proofs.Places.{place_at}
 use Rattle.wire_fates.proofs.Gets.{none_further, sure_found, none_sure}
 use Rattle.wire_fates.proofs.get_deliveries.get_comes_surely.Goals as goal

@@ -2,7 +2,7 @@ use Rattle.std.proofs.Common.{◌≡◌, ◌∙◌, ◌<◌, ap, sym, subst, Som
 use Rattle.std.proofs.lemmas.Bool.{true≢false}
 use Rattle.wire_runs.specs.Plan.{Get, event_of, kind, node_of, same_node, process_count}
 use Rattle.wire_runs.specs.Sight.{served}
-use Rattle.wire_content.specs.Planned.{plan_of}
+use Rattle.wire_scripts.specs.Planned.{plan_of}
 use Rattle.wire_runs.proofs.Basics.{process_within}
 use Rattle.wire_fates.specs.Pasts.{GivesSight, GivesGet}
 use Rattle.wire_fates.proofs.KeyFates.{get_shown, get_never}

@@ -1,6 +1,6 @@
 use Rattle.std.proofs.Common.{ap, sym, subst, ◌∷◌, []}
 use Rattle.wire_runs.specs.Plan.{event_of}
-use Rattle.wire_content.specs.Planned.{plan_of}
+use Rattle.wire_scripts.specs.Planned.{plan_of}
 use Rattle.wire_runs.specs.Puts.{own}
 use Rattle.wire_runs.specs.Sight.{held}
 use Rattle.wire_runs.proofs.Basics.{event_within}

@@ -1,9 +1,9 @@
 use Rattle.std.proofs.Common.{◌-◌, ◌≤◌, ℕ, length}
 use Rattle.wire_runs.specs.Plan.{event_of}
-use Rattle.wire_content.specs.Planned.{plan_of}
+use Rattle.wire_scripts.specs.Planned.{plan_of}
 use Rattle.wire_runs.specs.Order.{Live, Before}
 use Rattle.wire_runs.specs.Races.{IsSettled}
-use Rattle.wire_marks.specs.Updates.{AreUpdates}
+use Rattle.wire_happens_before.specs.Updates.{AreUpdates}
 use Rattle.wire_fates.specs.Pasts.{events_in}
 use Rattle.wire_fates.proofs.Cuts.{IsNarrowed}
 use Rattle.wire_fates.proofs.name_fates.count_before.Given as goal

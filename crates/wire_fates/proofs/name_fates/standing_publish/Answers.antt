@@ -1,5 +1,5 @@
 use Rattle.wire_runs.specs.Plan.{event_of}
-use Rattle.wire_content.specs.Planned.{plan_of}
+use Rattle.wire_scripts.specs.Planned.{plan_of}
 use Rattle.wire_fates.proofs.NameFates.{standing_none, standing_found, standing_within}
 use Rattle.wire_fates.proofs.name_fates.standing_publish.Goals as goal
 

@@ -1,5 +1,5 @@
 use Rattle.std.proofs.Common.{◌≡◌, map, take}
-use Rattle.wire_content.specs.Scripts.{numbers_of}
+use Rattle.wire_scripts.specs.Scripts.{numbers_of}
 use Rattle.wire_fence.proofs.table.copy_sets.Given as goal
 
 abbrev pub invariant-loop-set : goal.invariant-loop-set

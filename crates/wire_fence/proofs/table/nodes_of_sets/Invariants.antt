@@ -1,7 +1,7 @@
 use Rattle.std.proofs.Common.{◌≡◌, ℕ, ◌&&◌, nat_lt}
 use Rattle.wire_runs.specs.Fences.{has_node}
-use Rattle.wire_content.specs.Scripts.{Scripts, set_at}
-use Rattle.wire_content.specs.Planned.{plan_of}
+use Rattle.wire_scripts.specs.Scripts.{Scripts, set_at}
+use Rattle.wire_scripts.specs.Planned.{plan_of}
 use Rattle.wire_procmap.specs.Map.{map_of}
 use Rattle.wire_fence.specs.FenceTable.{is_noted}
 use Rattle.wire_fence.proofs.table.nodes_of_sets.Given as goal

@@ -1,8 +1,8 @@
 use Rattle.std.proofs.Common.{◌∙◌, ◌<◌, ◌==◌, length, sym, ap, arith}
 use Rattle.std.proofs.lemmas.List.{get_or-map, length-map}
 use Rattle.wire_types.specs.declared.Proc.{Proc}
-use Rattle.wire_content.specs.Scripts.{numbers_of}
-use Rattle.wire_content.specs.Map.{node_at}
+use Rattle.wire_scripts.specs.Scripts.{numbers_of}
+use Rattle.wire_scripts.specs.Map.{node_at}
 use Rattle.wire_fence.specs.FenceTable.{is_noted}
 use Rattle.wire_fence.proofs.Nodes.{noted_none, noted_more}
 use Rattle.wire_fence.proofs.table.note_nodes.Goals as goal

@@ -1,5 +1,5 @@
 use Rattle.std.proofs.Common.{◌≡◌, map, take, length}
-use Rattle.wire_content.specs.Scripts.{numbers_of, set_at}
+use Rattle.wire_scripts.specs.Scripts.{numbers_of, set_at}
 use Rattle.wire_fence.proofs.table.sizes_of.Given as goal
 
 abbrev pub invariant-loop-row : goal.invariant-loop-row

@@ -1,6 +1,6 @@
 use Rattle.wire_runs.specs.Patterns as plan
 use Rattle.wire_pattern.specs.Instances.{cast_of, process_text, word_text}
-use Rattle.wire_pattern.specs.Shown.{who_by, indexed_by}
+use Rattle.wire_pattern.specs.Views.{who_by, indexed_by}
 use Rattle.wire_instances.proofs.Wholes.{owned_written}
 use Rattle.wire_instances.proofs.calls.write_owned.Goals as goal
 

@@ -1,6 +1,6 @@
 use Rattle.std.proofs.Common.{◌≡◌, map, drop}
 use Rattle.wire_pattern.specs.Instances as spec
-use Rattle.wire_instances.specs.Shown.{turn_by, choice_by}
+use Rattle.wire_instances.specs.Views.{turn_by, choice_by}
 use Rattle.wire_instances.proofs.frame.is_taken.Given as goal
 
 abbrev pub invariant-loop-choice : goal.invariant-loop-choice

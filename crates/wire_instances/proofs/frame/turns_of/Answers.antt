@@ -2,7 +2,7 @@ use Rattle.std.proofs.Common.{◌≡◌, ◌∙◌, ap}
 use Rattle.std.proofs.lemmas.Result.{IfOk-weaker}
 use Rattle.wire_runs.specs.Patterns as plan
 use Rattle.wire_pattern.specs.Instances.{cast_of}
-use Rattle.wire_pattern.specs.Shown.{turns_by}
+use Rattle.wire_pattern.specs.Views.{turns_by}
 use Rattle.wire_instances.specs.Tables.{Scene}
 use Rattle.wire_instances.proofs.frame.turns_of.Goals as goal
 

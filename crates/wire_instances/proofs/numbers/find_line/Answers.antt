@@ -1,6 +1,6 @@
 use Rattle.std.proofs.Common.{◌∙◌, ◌∷◌, [], ap, Bool, if◌then◌else◌}
 use Rattle.wire_pattern.specs.Instances.{nodes_lines, jobs_lines}
-use Rattle.wire_instances.specs.Shown.{cast_by}
+use Rattle.wire_instances.specs.Views.{cast_by}
 use Rattle.wire_instances.specs.Search.{past}
 use Rattle.wire_instances.proofs.Searches.{line_found}
 use Rattle.wire_instances.proofs.numbers.find_line.Goals as goal

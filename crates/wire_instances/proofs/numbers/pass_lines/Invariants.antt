@@ -1,5 +1,5 @@
 use Rattle.std.proofs.Common.{◌≡◌, map, drop}
-use Rattle.wire_pattern.specs.Shown.{line_by}
+use Rattle.wire_pattern.specs.Views.{line_by}
 use Rattle.wire_instances.specs.Search.{past}
 use Rattle.wire_instances.proofs.numbers.pass_lines.Given as goal
 

@@ -1,7 +1,7 @@
 use Rattle.std.proofs.Common.{ap, sym}
 use Rattle.wire_runs.specs.Patterns as plan
 use Rattle.wire_pattern.specs.Instances.{cast_of}
-use Rattle.wire_pattern.specs.Shown.{turns_by}
+use Rattle.wire_pattern.specs.Views.{turns_by}
 use Rattle.wire_instances.specs.Search.{past}
 use Rattle.wire_instances.proofs.Searches.{no_turns}
 use Rattle.wire_instances.proofs.numbers.pass_loop.Goals as goal

@@ -1,6 +1,6 @@
 use Rattle.std.proofs.Common.{◌≡◌, map, drop}
 use Rattle.wire_pattern.specs.Instances.{steps_lines}
-use Rattle.wire_pattern.specs.Shown.{step_by}
+use Rattle.wire_pattern.specs.Views.{step_by}
 use Rattle.wire_instances.specs.Search.{past}
 use Rattle.wire_instances.proofs.numbers.pass_steps.Given as goal
 

@@ -1,5 +1,5 @@
 use Rattle.std.proofs.Common.{ℕ, map, get_or}
-use Rattle.wire_pattern.specs.Shown.{line_by}
+use Rattle.wire_pattern.specs.Views.{line_by}
 use Rattle.wire_instances.proofs.Loops.{turns_passed}
 use Rattle.wire_instances.proofs.Texts.{get_or_same}
 use Rattle.wire_instances.proofs.numbers.pass_turns.Goals as goal

@@ -1,5 +1,5 @@
 use Rattle.std.proofs.Common.{◌≡◌, ℕ, map, flat_map, drop}
-use Rattle.wire_pattern.specs.Shown.{line_by}
+use Rattle.wire_pattern.specs.Views.{line_by}
 use Rattle.wire_instances.specs.Search.{past}
 use Rattle.wire_instances.proofs.numbers.pass_turns.Given as goal
 

@@ -1,5 +1,5 @@
 use Rattle.std.proofs.Common.{◌≡◌, map, drop}
-use Rattle.wire_pattern.specs.Shown.{role_by}
+use Rattle.wire_pattern.specs.Views.{role_by}
 use Rattle.wire_instances.specs.Asked as spec
 use Rattle.wire_instances.specs.Asked.{asked_by}
 use Rattle.wire_instances.proofs.sizes.group_size.Given as goal

@@ -3,7 +3,7 @@ use Rattle.std.proofs.lemmas.List.{length-map}
 use Rattle.std.proofs.lemmas.List.Sums.{sum_by_more}
 use Rattle.wire_types.specs.declared.fault.Fault.TheVariants.{TooMany}
 use Rattle.wire_pattern.specs.Instances.{number_in}
-use Rattle.wire_pattern.specs.Shown.{role_by}
+use Rattle.wire_pattern.specs.Views.{role_by}
 use Rattle.wire_instances.proofs.Loops.{role_there}
 use Rattle.wire_instances.proofs.sizes.processes_within.Goals as goal
 

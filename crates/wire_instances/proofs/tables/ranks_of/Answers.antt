@@ -1,6 +1,6 @@
 use Rattle.std.proofs.Common.{◌∙◌, ◌==◌, ◌<◌, ap, length, map, arith, length-set}
 use Rattle.std.proofs.lemmas.List.{get_or_read}
-use Rattle.wire_pattern.specs.Shown.{role_by}
+use Rattle.wire_pattern.specs.Views.{role_by}
 use Rattle.wire_instances.specs.Tables.{jobs_by}
 use Rattle.wire_instances.proofs.Ranked.{its_job, job_count, low_rank, grow, counted, ranked}
 use Rattle.wire_instances.proofs.tables.ranks_of.Goals as goal

@@ -1,6 +1,6 @@
 use Rattle.std.proofs.Common.{◌≡◌, ◌<◌, ◌==◌, ℕ, length, take, map}
 use Rattle.std.specs.Prelude.{slice_index_or, count_by}
-use Rattle.wire_pattern.specs.Shown.{role_by}
+use Rattle.wire_pattern.specs.Views.{role_by}
 use Rattle.wire_instances.specs.Tables.{jobs_by, rank_in}
 use Rattle.wire_instances.proofs.tables.ranks_of.Given as goal
 

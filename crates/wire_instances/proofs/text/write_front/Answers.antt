@@ -1,4 +1,4 @@
-use Rattle.wire_instances.specs.Shown.{cast_by}
+use Rattle.wire_instances.specs.Views.{cast_by}
 use Rattle.wire_instances.proofs.Wholes.{front_written}
 use Rattle.wire_instances.proofs.text.write_front.Goals as goal
 

@@ -1,7 +1,7 @@
 use Rattle.std.proofs.Common.{◌∙◌, ◌∷◌, ap, sym, flat_map}
 use Rattle.wire_types.specs.Said as said
 use Rattle.wire_types.specs.declared.Version.TheVariants.{Two}
-use Rattle.wire_content.specs.Canonical.{line_text, keep_said}
+use Rattle.wire_scripts.specs.Canonical.{line_text, keep_said}
 use Rattle.wire_instances.proofs.Wholes.{last_piece}
 use Rattle.wire_instances.proofs.text.write_header.Goals as goal
 

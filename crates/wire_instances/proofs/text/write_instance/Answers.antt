@@ -1,5 +1,5 @@
 use Rattle.wire_pattern.specs.Instances.{instance_text}
-use Rattle.wire_instances.specs.Shown.{cast_by}
+use Rattle.wire_instances.specs.Views.{cast_by}
 use Rattle.wire_instances.proofs.Fronts.{all_written}
 use Rattle.wire_instances.proofs.text.write_instance.Goals as goal
 

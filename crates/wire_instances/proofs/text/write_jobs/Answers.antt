@@ -1,6 +1,6 @@
 use Rattle.std.proofs.Common.{◌∙◌, ◌++◌, ap, sym}
 use Rattle.wire_types.specs.Said as said
-use Rattle.wire_content.specs.Canonical.{line_text}
+use Rattle.wire_scripts.specs.Canonical.{line_text}
 use Rattle.wire_instances.proofs.Loops.{jobs_step}
 use Rattle.wire_instances.proofs.text.write_jobs.Goals as goal
 

@@ -1,5 +1,5 @@
 use Rattle.std.proofs.Common.{◌++◌, map, drop, flat_map}
-use Rattle.wire_content.specs.Canonical.{line_text}
+use Rattle.wire_scripts.specs.Canonical.{line_text}
 use Rattle.wire_pattern.specs.Instances.{jobs_said}
 use Rattle.wire_instances.specs.Written.{AgreeOn}
 use Rattle.wire_instances.proofs.text.write_jobs.Given as goal

@@ -1,6 +1,6 @@
 use Rattle.std.proofs.Common.{◌++◌, map, drop}
 use Rattle.wire_pattern.specs.Instances.{call_said}
-use Rattle.wire_pattern.specs.Shown.{line_by}
+use Rattle.wire_pattern.specs.Views.{line_by}
 use Rattle.wire_instances.specs.Written.{AgreeOn, calls_text}
 use Rattle.wire_instances.proofs.text.write_lines.Given as goal
 

@@ -1,6 +1,6 @@
 use Rattle.std.proofs.Common.{◌∙◌, ◌++◌, ◌+◌, ◌<◌, ap, length, take, drop, flat_map, arith}
 use Rattle.std.proofs.lemmas.Grind.{common_steps}
-use Rattle.wire_content.specs.Canonical.{line_text}
+use Rattle.wire_scripts.specs.Canonical.{line_text}
 use Rattle.wire_pattern.specs.Instances.{members_said, roles_from}
 use Rattle.wire_instances.specs.Tables.{first_of}
 use Rattle.wire_instances.proofs.Loops.{job_is, job_differs, members_step, members_skip}

@@ -1,5 +1,5 @@
 use Rattle.std.proofs.Common.{◌++◌, drop, flat_map}
-use Rattle.wire_content.specs.Canonical.{line_text}
+use Rattle.wire_scripts.specs.Canonical.{line_text}
 use Rattle.wire_pattern.specs.Instances.{members_said, roles_from, cast_of}
 use Rattle.wire_instances.specs.Tables.{first_of}
 use Rattle.wire_instances.specs.Written.{AgreeOn}

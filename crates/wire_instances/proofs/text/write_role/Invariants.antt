@@ -1,5 +1,5 @@
 use Rattle.std.proofs.Common.{◌++◌, ◌-◌, flat_map}
-use Rattle.wire_content.specs.Canonical.{line_text}
+use Rattle.wire_scripts.specs.Canonical.{line_text}
 use Rattle.wire_instances.specs.Written.{AgreeOn, role_said}
 use Rattle.wire_instances.proofs.text.write_role.Given as goal
 

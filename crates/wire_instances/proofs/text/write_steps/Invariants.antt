@@ -1,6 +1,6 @@
 use Rattle.std.proofs.Common.{◌++◌, map, drop}
 use Rattle.wire_pattern.specs.Instances.{steps_said}
-use Rattle.wire_pattern.specs.Shown.{step_by}
+use Rattle.wire_pattern.specs.Views.{step_by}
 use Rattle.wire_instances.specs.Written.{AgreeOn, calls_text}
 use Rattle.wire_instances.proofs.text.write_steps.Given as goal
 

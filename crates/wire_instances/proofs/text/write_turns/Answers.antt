@@ -1,5 +1,5 @@
 use Rattle.std.proofs.Common.{map, get_or}
-use Rattle.wire_pattern.specs.Shown.{line_by}
+use Rattle.wire_pattern.specs.Views.{line_by}
 use Rattle.wire_instances.proofs.Loops.{turns_step}
 use Rattle.wire_instances.proofs.Texts.{get_or_same}
 use Rattle.wire_instances.proofs.text.write_turns.Goals as goal

@@ -3,8 +3,8 @@ use Rattle.std.proofs.lemmas.Grind.{common_steps}
 use Rattle.wire_pattern.specs.declared.call.Who.TheVariants.{Only}
 use Rattle.wire_pattern.specs.declared.call.Item.{Item}
 use Rattle.wire_pattern.specs.declared.call.Item.TheVariants.{One}
-use Rattle.wire_content.specs.Canonical.{items_text}
-use Rattle.wire_pattern.specs.Shown.{item_by}
+use Rattle.wire_scripts.specs.Canonical.{items_text}
+use Rattle.wire_pattern.specs.Views.{view_item}
 use Rattle.wire_pattern.specs.Instances.{items_said}
 use Rattle.wire_instances.proofs.Loops.{item_step}
 use Rattle.wire_instances.proofs.SetFronts.{front_of_set}
@@ -25,7 +25,7 @@ loop-item-preserved c =
     c.write_item.new.out.items _
     there (get_or_same items i no_item there)
     (c.in_ok-write_item.ensures ∙ ap (λ xs. take (c.args.excerpt.now.wanted + 1) (c.loop-item.word.items ++ items_text
-    (items_said f.pattern f.cast c.args.calling.caller c.args.calling.each (item_by (get_or xs i no_item))))) c.deref-item-items.ensures.value)
+    (items_said f.pattern f.cast c.args.calling.caller c.args.calling.each (view_item (get_or xs i no_item))))) c.deref-item-items.ensures.value)
     c.loop-item.invariant
 
 pub returns : goal.returns

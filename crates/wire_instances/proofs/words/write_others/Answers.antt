@@ -3,7 +3,7 @@ use Rattle.wire_pattern.specs.declared.call.Who.{Who}
 use Rattle.wire_pattern.specs.declared.call.Who.TheVariants.{Only}
 use Rattle.wire_runs.specs.Patterns as plan
 use Rattle.wire_pattern.specs.Instances.{cast_of, process_text}
-use Rattle.wire_pattern.specs.Shown.{who_by}
+use Rattle.wire_pattern.specs.Views.{who_by}
 use Rattle.wire_instances.proofs.Loops.{index_step}
 use Rattle.wire_instances.proofs.Texts.{get_or_same}
 use Rattle.wire_instances.proofs.words.write_others.Goals as goal

@@ -1,7 +1,7 @@
 use Rattle.std.proofs.Common.{◌≡◌, ◌++◌, map, drop}
 use Rattle.wire_runs.specs.Patterns as plan
 use Rattle.wire_pattern.specs.Instances.{cast_of, process_text}
-use Rattle.wire_pattern.specs.Shown.{who_by}
+use Rattle.wire_pattern.specs.Views.{who_by}
 use Rattle.wire_instances.specs.Written.{ended_text}
 use Rattle.wire_instances.proofs.words.write_others.Given as goal
 

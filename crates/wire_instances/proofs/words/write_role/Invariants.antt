@@ -2,7 +2,7 @@ use Rattle.std.proofs.Common.{◌+◌, ◌++◌, ◌-◌, map}
 use Rattle.std.specs.List.{range_with_len}
 use Rattle.wire_runs.specs.Patterns as plan
 use Rattle.wire_pattern.specs.Instances.{cast_of, process_item}
-use Rattle.wire_content.specs.Canonical.{items_text}
+use Rattle.wire_scripts.specs.Canonical.{items_text}
 use Rattle.wire_instances.specs.Written.{AgreeOn}
 use Rattle.wire_instances.proofs.words.write_role.Given as goal
 

@@ -2,7 +2,7 @@ use Rattle.std.proofs.Common.{◌∙◌, ◌++◌, ap, sym}
 use Rattle.std.proofs.lemmas.Result.{on_ok_weaker}
 use Rattle.wire_runs.specs.Patterns as plan
 use Rattle.wire_pattern.specs.Instances.{cast_of, process_text}
-use Rattle.wire_pattern.specs.Shown.{who_by}
+use Rattle.wire_pattern.specs.Views.{who_by}
 use Rattle.wire_instances.proofs.Texts.{indexed_word}
 use Rattle.wire_instances.proofs.words.write_word.Goals as goal
 

@@ -1,6 +1,6 @@
 use Rattle.std.proofs.Common.{◌≡◌, ◌++◌, map, drop}
 use Rattle.wire_types.specs.Texts.{lists_of}
-use Rattle.wire_content.specs.Scripts.{numbers_of}
+use Rattle.wire_scripts.specs.Scripts.{numbers_of}
 use Rattle.wire_words.specs.Words.{name_of}
 use Rattle.wire_json.proofs.forms.names_of.Given as goal
 

@@ -3,7 +3,7 @@ use Rattle.std.proofs.lemmas.Result.{IfOk-weaker}
 use Rattle.serde_json.specs.View.{view}
 use Rattle.wire_types.specs.Outcome.{ends_of}
 use Rattle.wire_types.specs.Texts.{lists_of}
-use Rattle.wire_content.specs.Scripts.{numbers_of}
+use Rattle.wire_scripts.specs.Scripts.{numbers_of}
 use Rattle.wire_json.specs.Trees.{ranks_data}
 use Rattle.wire_json.proofs.Texts.{unsettled_told}
 use Rattle.wire_json.proofs.forms.unsettled_json.Goals as goal

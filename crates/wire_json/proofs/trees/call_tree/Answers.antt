@@ -2,7 +2,7 @@ use Rattle.std.proofs.Common.{◌≡◌, ◌∙◌, ap, sym, refl, ℕ, List, �
 use Rattle.std.proofs.lemmas.Result.{IfOk-weaker}
 use Rattle.wire_types.specs.declared.Value.{Value}
 use Rattle.wire_types.specs.declared.Value.TheVariants as value
-use Rattle.wire_content.specs.Scripts.{Scripts}
+use Rattle.wire_scripts.specs.Scripts.{Scripts}
 use Rattle.wire_words.specs.Words.{value_text, verb_text, end_word}
 use Rattle.wire_json.specs.Json.{printed}
 use Rattle.wire_json.specs.Trees.{valued_data, reply_data}

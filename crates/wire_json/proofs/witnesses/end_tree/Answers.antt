@@ -4,7 +4,7 @@ use Rattle.serde_json.specs.Data.{Data}
 use Rattle.serde_json.specs.View.{view}
 use Rattle.wire_types.specs.declared.Value.{Value}
 use Rattle.wire_types.specs.declared.Value.TheVariants as value
-use Rattle.wire_content.specs.Scripts.{Scripts}
+use Rattle.wire_scripts.specs.Scripts.{Scripts}
 use Rattle.wire_words.specs.Words.{value_text, end_word}
 use Rattle.wire_json.specs.Json.{printed}
 use Rattle.wire_json.specs.WitnessTrees.{valued_run, run_with}

@@ -1,6 +1,6 @@
 use Rattle.std.proofs.lemmas.Result.{IfOk-weaker}
 use Rattle.serde_json.specs.View.{view}
-use Rattle.wire_content.specs.Scripts.{numbers_of}
+use Rattle.wire_scripts.specs.Scripts.{numbers_of}
 use Rattle.wire_json.proofs.WitnessTexts.{run_told}
 use Rattle.wire_json.proofs.witnesses.run_json.Goals as goal
 

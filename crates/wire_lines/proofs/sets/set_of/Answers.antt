@@ -2,7 +2,7 @@ use Rattle.std.proofs.Common.{◌≡◌, ◌∙◌, sym, map, true≢false}
 use Rattle.std.specs.List.{slice_split}
 use Rattle.wire_types.specs.Said.{spelled_item}
 use Rattle.wire_types.specs.Texts.{texts_of}
-use Rattle.wire_lines.specs.Shown.{item_by}
+use Rattle.wire_lines.specs.Views.{view_item}
 use Rattle.wire_lines.proofs.Joined.{comma, joined, some_items, no_set}
 use Rattle.wire_lines.proofs.sets.set_of.Goals as goal
 
@@ -10,8 +10,8 @@ pub returns-in-Some-clause-found : goal.returns-in-Some-clause-found
 returns-in-Some-clause-found c =
     let f = rw c.in-Some.is at c.in_ok-items.ensures.found in
     let p : texts_of c.deref.result.now ≡ slice_split comma c.args.word.now = rw c.deref.ensures.value c.in_ok-parts.ensures in
-    let e : slice_split comma c.args.word.now ≡ map spelled_item (map item_by c.in-Some.items.items) = sym (f.0 ∙ p) in
-    (joined c.args.word.now (map item_by c.in-Some.items.items) e, (some_items c.args.word.now (map item_by c.in-Some.items.items) e, f.1))
+    let e : slice_split comma c.args.word.now ≡ map spelled_item (map view_item c.in-Some.items.items) = sym (f.0 ∙ p) in
+    (joined c.args.word.now (map view_item c.in-Some.items.items) e, (some_items c.args.word.now (map view_item c.in-Some.items.items) e, f.1))
 
 pub returns-clause-none : goal.returns-clause-none
 returns-clause-none c =

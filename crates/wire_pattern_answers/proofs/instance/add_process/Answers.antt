@@ -1,7 +1,7 @@
 use Rattle.std.proofs.Common.{◌≡◌, ◌++◌, ◌∙◌, ap, subst, refl, length}
 use Rattle.std.specs.Prelude.{OnOk, slice_get}
 use Rattle.std.proofs.lemmas.Option.{slice_get_read}
-use Rattle.wire_content.specs.Scripts.{calls_in}
+use Rattle.wire_scripts.specs.Scripts.{calls_in}
 use Rattle.wire_pattern_answers.specs.Notes.{process_notes}
 use Rattle.wire_pattern_answers.proofs.Walks.{no_script, script_calls}
 use Rattle.wire_pattern_answers.proofs.instance.add_process.Goals as goal

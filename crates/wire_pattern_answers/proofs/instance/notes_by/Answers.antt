@@ -3,9 +3,9 @@ use Rattle.std.proofs.lemmas.List.{length-map}
 use Rattle.std.proofs.lemmas.Option.{slice_get_read}
 use Rattle.std.specs.Prelude.{slice_get}
 use Rattle.wire_types.specs.Texts.{lists_of}
-use Rattle.wire_content.specs.Scripts.{calls_in}
+use Rattle.wire_scripts.specs.Scripts.{calls_in}
 use Rattle.wire_pattern.specs.Planned.{steps_in}
-use Rattle.wire_instances.specs.Shown.{cast_by}
+use Rattle.wire_instances.specs.Views.{cast_by}
 use Rattle.wire_instances.proofs.Texts.{get_or_same}
 use Rattle.wire_pattern_waits.specs.Places.{steps_places}
 use Rattle.wire_pattern_answers.specs.Notes.{process_notes, notes_from}

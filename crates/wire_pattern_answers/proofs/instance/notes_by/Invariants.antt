@@ -1,6 +1,6 @@
 use Rattle.std.proofs.Common.{◌≡◌, ◌++◌, drop}
 use Rattle.wire_types.specs.Texts.{lists_of}
-use Rattle.wire_instances.specs.Shown.{cast_by}
+use Rattle.wire_instances.specs.Views.{cast_by}
 use Rattle.wire_pattern_answers.specs.Notes.{notes_from}
 use Rattle.wire_pattern_answers.proofs.instance.notes_by.Given as goal
 

@@ -2,7 +2,7 @@ use Rattle.std.proofs.Common.{◌∙◌, ap}
 use Rattle.wire_types.specs.Outcome.{Ends}
 use Rattle.wire_types.specs.Texts.{lists_of}
 use Rattle.wire_pattern.specs.Instances.{cast_of}
-use Rattle.wire_instances.specs.Shown.{cast_by}
+use Rattle.wire_instances.specs.Views.{cast_by}
 use Rattle.wire_pattern_answers.specs.Notes.{notes_from}
 use Rattle.wire_pattern_answers.proofs.Noted.{scripts_told}
 use Rattle.wire_pattern_answers.proofs.instance.notes_on.Goals as goal

@@ -1,4 +1,4 @@
-use Rattle.wire_instances.specs.Shown.{cast_by}
+use Rattle.wire_instances.specs.Views.{cast_by}
 use Rattle.wire_pattern_answers.proofs.ReadOnce.{noted_there}
 use Rattle.wire_pattern_answers.proofs.instance.notes_there.Goals as goal
 

@@ -1,5 +1,5 @@
-use Rattle.wire_content.specs.Scripts.{numbers_of}
-use Rattle.wire_instances.specs.Shown.{cast_by}
+use Rattle.wire_scripts.specs.Scripts.{numbers_of}
+use Rattle.wire_instances.specs.Views.{cast_by}
 use Rattle.wire_pattern_answers.proofs.ReadOnce.{noted_apart}
 use Rattle.wire_pattern_answers.proofs.instance.placed_notes.Goals as goal
 

@@ -1,5 +1,5 @@
 use Rattle.std.proofs.Common.{◌≡◌, ◌||◌, ◌∷◌, [], ◌∙◌, ap, subst, arith}
-use Rattle.wire_instances.specs.Shown.{cast_by}
+use Rattle.wire_instances.specs.Views.{cast_by}
 use Rattle.wire_pattern_answers.specs.Notes.{is_told, is_noted, IsAnsweredApart, IsAnsweredByOne, AreToldToo}
 use Rattle.wire_pattern_answers.proofs.Tellings.{told_too, by_none, by_one_more}
 use Rattle.wire_pattern_answers.proofs.instance.tell_each.Goals as goal

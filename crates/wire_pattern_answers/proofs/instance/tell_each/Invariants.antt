@@ -1,4 +1,4 @@
-use Rattle.wire_instances.specs.Shown.{cast_by}
+use Rattle.wire_instances.specs.Views.{cast_by}
 use Rattle.wire_pattern_answers.specs.Notes.{IsAnsweredByOne, AreToldToo}
 use Rattle.wire_pattern_answers.proofs.instance.tell_each.Given as goal
 

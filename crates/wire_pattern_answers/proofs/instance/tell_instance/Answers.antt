@@ -1,5 +1,5 @@
 use Rattle.std.proofs.Common.{◌||◌, ◌∙◌, ap}
-use Rattle.wire_instances.specs.Shown.{cast_by}
+use Rattle.wire_instances.specs.Views.{cast_by}
 use Rattle.wire_pattern_answers.specs.Notes.{is_told, is_noted, IsAnsweredThere}
 use Rattle.wire_pattern_answers.proofs.Tellings.{told_too}
 use Rattle.wire_pattern_answers.proofs.instance.tell_instance.Goals as goal

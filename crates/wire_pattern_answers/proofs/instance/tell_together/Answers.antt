@@ -1,5 +1,5 @@
 use Rattle.std.proofs.Common.{◌||◌, ◌∙◌, [], ap, sym}
-use Rattle.wire_instances.specs.Shown.{cast_by}
+use Rattle.wire_instances.specs.Views.{cast_by}
 use Rattle.wire_pattern_answers.specs.Notes.{is_told, is_noted, is_open, IsAnsweredApart}
 use Rattle.wire_pattern_answers.proofs.Tellings.{told_too, together_closed, together_each}
 use Rattle.wire_pattern_answers.proofs.instance.tell_together.Goals as goal

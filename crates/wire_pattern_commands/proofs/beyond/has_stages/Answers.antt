@@ -1,7 +1,7 @@
 use Rattle.std.proofs.Common.{subst}
 use Rattle.std.specs.Prelude.{IfSome}
 use Rattle.wire_reply_laws.specs.Promised.{AllStaged}
-use Rattle.wire_pattern_stages.specs.Shown.{stages_by}
+use Rattle.wire_pattern_stages.specs.Views.{stages_by}
 use Rattle.wire_pattern_commands.proofs.beyond.has_stages.Goals as goal
 
 pub returns-clause-ok : goal.returns-clause-ok

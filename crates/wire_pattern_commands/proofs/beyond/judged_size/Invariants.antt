@@ -1,5 +1,5 @@
 use Rattle.std.proofs.Common.{◌≡◌, map, drop}
-use Rattle.wire_pattern.specs.Shown.{role_by}
+use Rattle.wire_pattern.specs.Views.{role_by}
 use Rattle.wire_pattern_commands.specs.Beyond.{smallest}
 use Rattle.wire_pattern_commands.proofs.beyond.judged_size.Given as goal
 

@@ -1,5 +1,5 @@
 use Rattle.std.proofs.Common.{◌∙◌, ◌≤◌, ap, subst, ℕ, sum_by}
-use Rattle.wire_script.specs.declared.Limits.{Limits}
+use Rattle.wire_reader.specs.declared.Limits.{Limits}
 use Rattle.wire_pattern_commands.proofs.Expansions.{cast_made, few_enough}
 use Rattle.wire_pattern_commands.proofs.expand.cast_asked.Goals as goal
 

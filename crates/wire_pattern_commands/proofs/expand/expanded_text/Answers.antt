@@ -1,4 +1,4 @@
-use Rattle.wire_instances.specs.Shown.{cast_by}
+use Rattle.wire_instances.specs.Views.{cast_by}
 use Rattle.wire_pattern_commands.proofs.Expansions.{expanded, not_expanded}
 use Rattle.wire_pattern_commands.proofs.expand.expanded_text.Goals as goal
 

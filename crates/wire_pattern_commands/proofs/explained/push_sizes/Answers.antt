@@ -1,5 +1,5 @@
 use Rattle.std.proofs.Common.{map, drop}
-use Rattle.wire_pattern.specs.Shown.{role_by}
+use Rattle.wire_pattern.specs.Views.{role_by}
 use Rattle.wire_pattern_commands.proofs.FirstWaits.{sizes_end}
 use Rattle.wire_pattern_commands.proofs.explained.push_sizes.Goals as goal
 

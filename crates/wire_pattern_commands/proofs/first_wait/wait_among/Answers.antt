@@ -1,6 +1,6 @@
 use Rattle.std.proofs.Common.{arith}
-use Rattle.wire_sweep.specs.Shown.{selection_by}
-use Rattle.wire_sweep.proofs.Judged.{item_sizes, item_total}
+use Rattle.wire_cutoff.specs.Views.{selection_by}
+use Rattle.wire_cutoff.proofs.Judged.{item_sizes, item_total}
 use Rattle.wire_pattern_waits.proofs.Judged.{listed_at, each_more, each_all}
 use Rattle.wire_pattern_commands.specs.FirstWait.{RunsThrough}
 use Rattle.wire_pattern_commands.proofs.FirstWaits.{first_of, runs_through}

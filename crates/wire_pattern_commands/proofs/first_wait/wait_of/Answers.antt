@@ -1,6 +1,6 @@
 use Rattle.std.proofs.Common.{◌∙◌}
-use Rattle.wire_instances.specs.Shown.{cast_by}
-use Rattle.wire_sweep.specs.Shown.{selection_by}
+use Rattle.wire_instances.specs.Views.{cast_by}
+use Rattle.wire_cutoff.specs.Views.{selection_by}
 use Rattle.wire_pattern_waits.proofs.Told.{cast_is}
 use Rattle.wire_pattern_commands.proofs.FirstWaits.{wait_of_selection}
 use Rattle.wire_pattern_commands.proofs.first_wait.wait_of.Goals as goal

@@ -1,6 +1,6 @@
 use Rattle.std.proofs.Common.{◌≡◌, ◌++◌, map, drop}
 use Rattle.std.specs.List.{flat_map}
-use Rattle.wire_pattern.specs.Shown.{role_by}
+use Rattle.wire_pattern.specs.Views.{role_by}
 use Rattle.wire_pattern_commands.specs.AtLeast.{least_line}
 use Rattle.wire_pattern_commands.proofs.least.write_roles.Given as goal
 

@@ -1,5 +1,5 @@
 use Rattle.std.proofs.Common.{◌&&◌, subst}
-use Rattle.wire_instances.specs.Shown.{cast_by}
+use Rattle.wire_instances.specs.Views.{cast_by}
 use Rattle.wire_pattern_commands.specs.Succeeding.{IsCastTold}
 use Rattle.wire_pattern_commands.proofs.Succeeded.{both_told, fails_apart}
 use Rattle.wire_pattern_commands.proofs.succeeding.instance_succeeds.Goals as goal

@@ -1,5 +1,5 @@
 use Rattle.std.proofs.Common.{subst}
-use Rattle.wire_sweep.specs.Shown.{selection_by}
+use Rattle.wire_cutoff.specs.Views.{selection_by}
 use Rattle.wire_pattern_waits.proofs.Told.{cast_is}
 use Rattle.wire_pattern_commands.specs.Succeeding.{IsCastTold}
 use Rattle.wire_pattern_commands.proofs.succeeding.selection_succeeds.Goals as goal

@@ -1,6 +1,6 @@
 use Rattle.std.proofs.Common.{true, arith}
-use Rattle.wire_sweep.specs.Shown.{selection_by}
-use Rattle.wire_sweep.proofs.Judged.{item_sizes, item_total}
+use Rattle.wire_cutoff.specs.Views.{selection_by}
+use Rattle.wire_cutoff.proofs.Judged.{item_sizes, item_total}
 use Rattle.wire_pattern_waits.proofs.Judged.{listed_at, each_more, each_all}
 use Rattle.wire_pattern_commands.specs.Succeeding.{IsSelectionTold}
 use Rattle.wire_pattern_commands.proofs.Succeeded.{told_as, one_fails}

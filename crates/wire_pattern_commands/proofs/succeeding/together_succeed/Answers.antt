@@ -1,6 +1,6 @@
 use Rattle.std.proofs.Common.{◌∙◌, ap}
-use Rattle.wire_content.specs.Placed.{placed}
-use Rattle.wire_content.specs.Scripts.{numbers_of}
+use Rattle.wire_scripts.specs.Placed.{placed}
+use Rattle.wire_scripts.specs.Scripts.{numbers_of}
 use Rattle.wire_pattern_commands.specs.Succeeding.{all_succeed}
 use Rattle.wire_pattern_commands.proofs.succeeding.together_succeed.Goals as goal
 

@@ -1,5 +1,5 @@
 use Rattle.std.proofs.Common.{◌∙◌, ap}
-use Rattle.wire_sweep_laws.specs.Sizes.{total_of}
+use Rattle.wire_cutoff_laws.specs.Sizes.{total_of}
 use Rattle.wire_pattern_later.specs.Later.{sizes_with}
 use Rattle.wire_pattern_later.proofs.Grown.{told_grown, told_cast}
 use Rattle.wire_pattern_later.proofs.later.grown.Goals as goal

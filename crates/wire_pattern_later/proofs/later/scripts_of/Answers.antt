@@ -1,8 +1,8 @@
 use Rattle.std.proofs.Common.{◌+◌, ap, Ok}
-use Rattle.wire_script.specs.declared.Size.TheVariants.{OfVersion}
-use Rattle.wire_script.specs.Reads.{Reads}
+use Rattle.wire_reader.specs.declared.Size.TheVariants.{OfVersion}
+use Rattle.wire_reader.specs.Reads.{Reads}
 use Rattle.wire_pattern.specs.Instances.{instance_text}
-use Rattle.wire_instances.specs.Shown.{cast_by}
+use Rattle.wire_instances.specs.Views.{cast_by}
 use Rattle.wire_pattern_later.proofs.Grown.{front_of, reads_text, none_read, nothing_read}
 use Rattle.wire_pattern_later.proofs.later.scripts_of.Goals as goal
 

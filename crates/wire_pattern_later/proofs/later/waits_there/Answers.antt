@@ -1,9 +1,9 @@
 use Rattle.std.proofs.Common.{◌≡◌, ap, Ok, None, subst, rules}
 use Rattle.std.specs.Prelude.{IfSome}
-use Rattle.wire_script.specs.declared.Size.TheVariants.{OfVersion}
-use Rattle.wire_script.specs.Reads.{Reads}
+use Rattle.wire_reader.specs.declared.Size.TheVariants.{OfVersion}
+use Rattle.wire_reader.specs.Reads.{Reads}
 use Rattle.wire_pattern.specs.Instances.{instance_text}
-use Rattle.wire_instances.specs.Shown.{cast_by}
+use Rattle.wire_instances.specs.Views.{cast_by}
 use Rattle.wire_pattern_later.proofs.Grown.{read_grown, unread_grown, waits_grown}
 use Rattle.wire_pattern_later.proofs.later.waits_there.Goals as goal
 

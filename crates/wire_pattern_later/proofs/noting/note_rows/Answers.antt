@@ -4,7 +4,7 @@ use Rattle.std.proofs.lemmas.Option.{slice_get_read}
 use Rattle.std.specs.Prelude.{slice_get}
 use Rattle.wire_types.specs.Texts.{lists_of}
 use Rattle.wire_pattern.specs.Planned.{steps_in}
-use Rattle.wire_instances.specs.Shown.{cast_by}
+use Rattle.wire_instances.specs.Views.{cast_by}
 use Rattle.wire_instances.proofs.Texts.{get_or_same}
 use Rattle.wire_pattern_waits.specs.LineSets.{has_line}
 use Rattle.wire_pattern_waits.specs.Places.{steps_places}

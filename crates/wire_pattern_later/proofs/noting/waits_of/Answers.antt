@@ -1,6 +1,6 @@
 use Rattle.std.proofs.Common.{◌∙◌, ap}
 use Rattle.wire_types.specs.Texts.{lists_of}
-use Rattle.wire_instances.specs.Shown.{cast_by}
+use Rattle.wire_instances.specs.Views.{cast_by}
 use Rattle.wire_pattern_later.proofs.Noted.{waits_told}
 use Rattle.wire_pattern_later.proofs.noting.waits_of.Goals as goal
 

@@ -1,6 +1,6 @@
 use Rattle.std.proofs.Common.{◌≡◌, map, drop}
 use Rattle.std.specs.List.{list_any}
-use Rattle.wire_pattern.specs.Shown.{line_by}
+use Rattle.wire_pattern.specs.Views.{line_by}
 use Rattle.wire_pattern_later.specs.Through.{may_wait}
 use Rattle.wire_pattern_later.proofs.through.any_waits.Given as goal
 

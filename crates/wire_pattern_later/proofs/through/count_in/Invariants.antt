@@ -1,6 +1,6 @@
 use Rattle.std.proofs.Common.{◌≡◌, ◌+◌, ◌≤◌, map, drop}
 use Rattle.std.specs.Prelude.{count_by}
-use Rattle.wire_pattern.specs.Shown.{step_by}
+use Rattle.wire_pattern.specs.Views.{step_by}
 use Rattle.wire_pattern_later.specs.Through.{is_through}
 use Rattle.wire_pattern_later.proofs.through.count_in.Given as goal
 

@@ -1,5 +1,5 @@
 use Rattle.std.proofs.Common.{map, arith}
-use Rattle.wire_pattern.specs.Shown.{role_by}
+use Rattle.wire_pattern.specs.Views.{role_by}
 use Rattle.wire_pattern_later.specs.Through.{first_size}
 use Rattle.wire_pattern_later.proofs.Loops.{three_least, max_least}
 use Rattle.wire_pattern_later.proofs.through.first_size.Goals as goal

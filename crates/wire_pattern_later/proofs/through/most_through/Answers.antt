@@ -1,6 +1,6 @@
 use Rattle.std.proofs.Common.{◌∙◌, ap, sym, length, arith}
 use Rattle.std.proofs.lemmas.List.{length-map}
-use Rattle.wire_pattern.specs.Shown.{role_by}
+use Rattle.wire_pattern.specs.Views.{role_by}
 use Rattle.wire_pattern_later.specs.Through.{through_count}
 use Rattle.wire_pattern_later.proofs.Loops.{most_step}
 use Rattle.wire_pattern_later.proofs.through.most_through.Goals as goal

@@ -1,5 +1,5 @@
 use Rattle.std.proofs.Common.{◌≡◌, map, drop}
-use Rattle.wire_pattern.specs.Shown.{line_by}
+use Rattle.wire_pattern.specs.Views.{line_by}
 use Rattle.wire_pattern_later.specs.Through.{waits_behind}
 use Rattle.wire_pattern_later.proofs.through.waits_behind.Given as goal
 

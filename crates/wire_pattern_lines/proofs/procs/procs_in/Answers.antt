@@ -3,7 +3,7 @@ use Rattle.std.specs.List.{slice_split, list_all, join_with_byte}
 use Rattle.wire_types.specs.Texts.{texts_of}
 use Rattle.wire_lines.proofs.Joined.{comma}
 use Rattle.wire_pattern_lines.specs.Said.{Proc, spelled_proc, is_lawful_proc}
-use Rattle.wire_pattern_lines.specs.Shown.{proc_by}
+use Rattle.wire_pattern_lines.specs.Views.{proc_by}
 use Rattle.wire_pattern_lines.proofs.Parts.{joined, some_parts, some_mapped, no_list, proc_plain}
 use Rattle.wire_pattern_lines.proofs.Through.{some_through, none_through}
 use Rattle.wire_pattern_lines.proofs.procs.procs_in.Goals as goal

@@ -1,6 +1,6 @@
 use Rattle.wire_lines.proofs.Joined.{spelt_more}
 use Rattle.wire_pattern_lines.specs.Said.{spelled_proc, is_lawful_proc}
-use Rattle.wire_pattern_lines.specs.Shown.{proc_by}
+use Rattle.wire_pattern_lines.specs.Views.{proc_by}
 use Rattle.wire_pattern_lines.proofs.Parts.{no_parts, lawful_more}
 use Rattle.wire_pattern_lines.proofs.procs.procs_of.Goals as goal
 

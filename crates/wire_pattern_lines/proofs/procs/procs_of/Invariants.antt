@@ -2,7 +2,7 @@ use Rattle.std.proofs.Common.{◌≡◌, map, take, true}
 use Rattle.std.specs.List.{list_all}
 use Rattle.wire_types.specs.Texts.{texts_of}
 use Rattle.wire_pattern_lines.specs.Said.{spelled_proc, is_lawful_proc}
-use Rattle.wire_pattern_lines.specs.Shown.{proc_by}
+use Rattle.wire_pattern_lines.specs.Views.{proc_by}
 use Rattle.wire_pattern_lines.proofs.procs.procs_of.Given as goal
 
 abbrev pub invariant-loop-part : goal.invariant-loop-part

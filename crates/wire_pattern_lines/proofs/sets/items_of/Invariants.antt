@@ -2,11 +2,11 @@ use Rattle.std.proofs.Common.{◌≡◌, map, take, true}
 use Rattle.std.specs.List.{list_all}
 use Rattle.wire_types.specs.Texts.{texts_of}
 use Rattle.wire_pattern_lines.specs.Said.{spelled_item, is_lawful_item}
-use Rattle.wire_pattern_lines.specs.Shown.{item_by}
+use Rattle.wire_pattern_lines.specs.Views.{view_item}
 use Rattle.wire_pattern_lines.proofs.sets.items_of.Given as goal
 
 abbrev pub invariant-loop-part : goal.invariant-loop-part
 invariant-loop-part l = record {
-  spelt : map spelled_item (map item_by l.items.items) ≡ texts_of (take l.part-index l.parts);
-  lawful : list_all is_lawful_item (map item_by l.items.items) ≡ true;
+  spelt : map spelled_item (map view_item l.items.items) ≡ texts_of (take l.part-index l.parts);
+  lawful : list_all is_lawful_item (map view_item l.items.items) ≡ true;
 }

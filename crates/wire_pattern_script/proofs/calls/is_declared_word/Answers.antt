@@ -1,7 +1,7 @@
 use Rattle.std.proofs.Common.{◌∙◌, ap}
 use Rattle.std.specs.List.{list_all}
 use Rattle.wire_pattern_script.specs.Faults.{is_declared_who}
-use Rattle.wire_pattern.specs.Shown.{who_by}
+use Rattle.wire_pattern.specs.Views.{who_by}
 use Rattle.wire_pattern_script.proofs.Mapped.{all_of}
 use Rattle.wire_pattern_script.proofs.calls.is_declared_word.Goals as goal
 

@@ -1,7 +1,7 @@
 use Rattle.std.proofs.Common.{◌∙◌, ap, map}
 use Rattle.std.specs.List.{list_all}
 use Rattle.wire_pattern.specs.Lawful.{is_known_who}
-use Rattle.wire_pattern.specs.Shown.{who_by, role_by}
+use Rattle.wire_pattern.specs.Views.{who_by, role_by}
 use Rattle.wire_pattern_script.proofs.Mapped.{all_of}
 use Rattle.wire_pattern_script.proofs.calls.is_known_word.Goals as goal
 

@@ -1,5 +1,5 @@
 use Rattle.wire_types.specs.Texts.{texts_of}
-use Rattle.wire_script.specs.Left.{statements_left}
+use Rattle.wire_reader.specs.Left.{statements_left}
 use Rattle.wire_pattern_script.proofs.Judging.{refused}
 use Rattle.wire_pattern_script.proofs.first_pass.declare_lines.Goals as goal
 

@@ -1,6 +1,6 @@
 use Rattle.std.proofs.Common.{◌<◌, ◌+◌, ◌^◌, length, Result}
 use Rattle.wire_types.specs.declared.Fault.{Fault}
-use Rattle.wire_script.specs.Left.{statements_left}
+use Rattle.wire_reader.specs.Left.{statements_left}
 use Rattle.wire_pattern_script.specs.FirstPass.{Declared, JudgesAll}
 use Rattle.wire_pattern_script.specs.Drafted.{declared_of}
 use Rattle.wire_pattern_script.proofs.first_pass.declare_lines.Given as goal

@@ -1,7 +1,7 @@
 use Rattle.std.proofs.Common.{◌∙◌, ap}
 use Rattle.std.specs.List.{list_all}
 use Rattle.wire_pattern_script.specs.FirstPass.{is_short_proc}
-use Rattle.wire_pattern_lines.specs.Shown.{proc_by}
+use Rattle.wire_pattern_lines.specs.Views.{proc_by}
 use Rattle.wire_pattern_script.proofs.Mapped.{all_of}
 use Rattle.wire_pattern_script.proofs.first_pass.has_short_indices.Goals as goal
 

@@ -2,7 +2,7 @@ use Rattle.std.proofs.Common.{◌∙◌, ap}
 use Rattle.std.specs.List.{list_all}
 use Rattle.std.specs.Borrow.{Bor}
 use Rattle.std.specs.Prelude.{List, ℕ}
-use Rattle.wire_script.specs.FirstPass.{is_short_name}
+use Rattle.wire_reader.specs.FirstPass.{is_short_name}
 use Rattle.wire_pattern_script.proofs.Mapped.{all_of}
 use Rattle.wire_pattern_script.proofs.first_pass.is_short.Goals as goal
 

@@ -1,6 +1,6 @@
 use Rattle.std.proofs.Common.{refl, List, ℕ}
 use Rattle.std.specs.Borrow.{Bor}
-use Rattle.wire_pattern.specs.Shown.{step_by}
+use Rattle.wire_pattern.specs.Views.{step_by}
 use Rattle.wire_pattern_script.specs.Numbers.{loop_of}
 use Rattle.wire_pattern_script.specs.Drafted.{declared_of}
 use Rattle.wire_pattern_script.specs.Drafted.{loop_of as draft_loop_of}

@@ -1,6 +1,6 @@
 use Rattle.std.proofs.Common.{◌≡◌, map, take}
 use Rattle.wire_pattern_script.specs.Numbers.{line_of}
-use Rattle.wire_pattern.specs.Shown.{line_by}
+use Rattle.wire_pattern.specs.Views.{line_by}
 use Rattle.wire_pattern_script.specs.Drafted.{placed_of}
 use Rattle.wire_pattern_script.specs.Drafted.{declared_of}
 use Rattle.wire_pattern_script.proofs.numbers.numbered_lines.Given as goal

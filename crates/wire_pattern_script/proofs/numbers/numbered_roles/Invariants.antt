@@ -1,6 +1,6 @@
 use Rattle.std.proofs.Common.{◌≡◌, map, take}
 use Rattle.wire_pattern_script.specs.Numbers.{role_of}
-use Rattle.wire_pattern.specs.Shown.{role_by}
+use Rattle.wire_pattern.specs.Views.{role_by}
 use Rattle.wire_pattern_script.specs.Drafted.{role_of as draft_role_of}
 use Rattle.wire_pattern_script.specs.Drafted.{declared_of}
 use Rattle.wire_pattern_script.proofs.numbers.numbered_roles.Given as goal

@@ -1,5 +1,5 @@
 use Rattle.std.proofs.Common.{◌≡◌, ◌++◌, map, flat_map, drop}
-use Rattle.wire_pattern.specs.Shown.{step_by}
+use Rattle.wire_pattern.specs.Views.{step_by}
 use Rattle.wire_pattern_script.specs.Numbers.{steps_of}
 use Rattle.wire_pattern_script.specs.Drafted.{declared_of}
 use Rattle.wire_pattern_script.specs.Drafted.{step_of as draft_step_of}

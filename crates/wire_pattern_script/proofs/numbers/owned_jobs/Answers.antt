@@ -1,5 +1,5 @@
 use Rattle.std.proofs.Common.{ap, refl, map}
-use Rattle.wire_pattern.specs.Shown.{job_by}
+use Rattle.wire_pattern.specs.Views.{job_by}
 use Rattle.wire_pattern_script.specs.Drafted.{job_of}
 use Rattle.wire_pattern_script.proofs.Mapped.{pushed_one, whole_one}
 use Rattle.wire_pattern_script.proofs.numbers.owned_jobs.Goals as goal

@@ -1,5 +1,5 @@
 use Rattle.std.proofs.Common.{◌≡◌, map, take}
-use Rattle.wire_pattern.specs.Shown.{job_by}
+use Rattle.wire_pattern.specs.Views.{job_by}
 use Rattle.wire_pattern_script.specs.Drafted.{job_of}
 use Rattle.wire_pattern_script.proofs.numbers.owned_jobs.Given as goal
 

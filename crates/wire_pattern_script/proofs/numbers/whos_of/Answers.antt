@@ -1,7 +1,7 @@
 use Rattle.std.proofs.Common.{ap, refl, map}
 use Rattle.wire_pattern_script.specs.Numbers.{who_of}
-use Rattle.wire_pattern.specs.Shown.{who_by}
-use Rattle.wire_pattern_lines.specs.Shown.{proc_by}
+use Rattle.wire_pattern.specs.Views.{who_by}
+use Rattle.wire_pattern_lines.specs.Views.{proc_by}
 use Rattle.wire_pattern_script.specs.Drafted.{declared_of}
 use Rattle.wire_pattern_script.proofs.Mapped.{pushed, whole}
 use Rattle.wire_pattern_script.proofs.numbers.whos_of.Goals as goal

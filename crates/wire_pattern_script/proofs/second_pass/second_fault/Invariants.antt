@@ -1,6 +1,6 @@
 use Rattle.std.proofs.Common.{◌≡◌, map, drop}
 use Rattle.wire_pattern_script.specs.Faults.{scripts_fault}
-use Rattle.wire_pattern.specs.Shown.{role_by}
+use Rattle.wire_pattern.specs.Views.{role_by}
 use Rattle.wire_pattern_script.proofs.second_pass.second_fault.Given as goal
 
 abbrev pub invariant-loop-role : goal.invariant-loop-role

@@ -1,6 +1,6 @@
 use Rattle.std.proofs.Common.{◌≡◌, map, drop}
 use Rattle.wire_pattern.specs.Lawful.{waits_after_all}
-use Rattle.wire_pattern.specs.Shown.{line_by}
+use Rattle.wire_pattern.specs.Views.{line_by}
 use Rattle.wire_pattern_script.proofs.third_pass.waits_after_all.Given as goal
 
 abbrev pub invariant-loop-line : goal.invariant-loop-line

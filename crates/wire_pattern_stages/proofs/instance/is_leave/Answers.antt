@@ -1,6 +1,6 @@
 use Rattle.std.proofs.Common.{sym, ap, arith}
 use Rattle.wire_runs.specs.Plan.{event_of}
-use Rattle.wire_content.specs.Planned.{plan_of}
+use Rattle.wire_scripts.specs.Planned.{plan_of}
 use Rattle.wire_size_laws.specs.Stages.{is_leave}
 use Rattle.wire_pattern_stages.proofs.Lists.{past_none}
 use Rattle.wire_pattern_stages.proofs.instance.is_leave.Goals as goal

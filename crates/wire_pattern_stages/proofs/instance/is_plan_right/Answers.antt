@@ -1,7 +1,7 @@
 use Rattle.std.proofs.Common.{subst, arith}
 use Rattle.wire_types.specs.declared.place.Proc.{Proc}
 use Rattle.wire_runs.specs.Plan.{event_count}
-use Rattle.wire_content.specs.Planned.{plan_of}
+use Rattle.wire_scripts.specs.Planned.{plan_of}
 use Rattle.wire_pattern_stages.specs.Rising.{AreRight}
 use Rattle.wire_pattern_stages.specs.Tables.{view_key}
 use Rattle.wire_pattern_stages.proofs.Lists.{one_number}

@@ -1,4 +1,4 @@
-use Rattle.wire_content.specs.Planned.{plan_of}
+use Rattle.wire_scripts.specs.Planned.{plan_of}
 use Rattle.wire_pattern_stages.specs.Rising.{IsRight}
 use Rattle.wire_pattern_stages.specs.Tables.{view_key}
 use Rattle.wire_pattern_stages.proofs.Lists.{one_number}

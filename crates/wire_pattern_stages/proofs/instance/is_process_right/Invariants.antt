@@ -1,4 +1,4 @@
-use Rattle.wire_content.specs.Planned.{plan_of}
+use Rattle.wire_scripts.specs.Planned.{plan_of}
 use Rattle.wire_pattern_stages.specs.Rising.{AreRight}
 use Rattle.wire_pattern_stages.specs.Tables.{view_key}
 use Rattle.wire_pattern_stages.proofs.instance.is_process_right.Given as goal

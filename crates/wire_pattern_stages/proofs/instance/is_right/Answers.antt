@@ -1,5 +1,5 @@
 use Rattle.wire_runs.specs.Plan.{event_of}
-use Rattle.wire_content.specs.Planned.{plan_of}
+use Rattle.wire_scripts.specs.Planned.{plan_of}
 use Rattle.wire_pattern_stages.specs.Tables.{view_key}
 use Rattle.wire_pattern_stages.proofs.Sources.{each_goes}
 use Rattle.wire_pattern_stages.proofs.instance.is_right.Goals as goal

@@ -1,7 +1,7 @@
 use Rattle.std.proofs.Common.{◌≡◌, ◌++◌, map, drop}
-use Rattle.wire_pattern.specs.Shown.{step_by}
-use Rattle.wire_instances.specs.Shown.{cast_by}
-use Rattle.wire_pattern_stages.specs.Shown.{label_by}
+use Rattle.wire_pattern.specs.Views.{step_by}
+use Rattle.wire_instances.specs.Views.{cast_by}
+use Rattle.wire_pattern_stages.specs.Views.{label_by}
 use Rattle.wire_pattern_stages.specs.Lines as spec
 use Rattle.wire_pattern_stages.proofs.labels.add_steps.Given as goal
 

@@ -1,6 +1,6 @@
 use Rattle.std.proofs.Common.{◌≡◌, ◌++◌, map, drop}
-use Rattle.wire_pattern.specs.Shown.{line_by}
-use Rattle.wire_pattern_stages.specs.Shown.{label_by}
+use Rattle.wire_pattern.specs.Views.{line_by}
+use Rattle.wire_pattern_stages.specs.Views.{label_by}
 use Rattle.wire_pattern_stages.specs.Lines as spec
 use Rattle.wire_pattern_stages.proofs.labels.add_turns.Given as goal
 

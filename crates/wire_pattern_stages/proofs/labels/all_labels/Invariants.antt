@@ -1,5 +1,5 @@
 use Rattle.std.proofs.Common.{◌≡◌, ◌++◌, drop}
-use Rattle.wire_instances.specs.Shown.{cast_by}
+use Rattle.wire_instances.specs.Views.{cast_by}
 use Rattle.wire_pattern_stages.specs.Lines.{rows_labels}
 use Rattle.wire_pattern_stages.specs.Tables.{rows_by}
 use Rattle.wire_pattern_stages.proofs.labels.all_labels.Given as goal

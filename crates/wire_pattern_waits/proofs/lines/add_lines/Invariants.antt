@@ -1,5 +1,5 @@
 use Rattle.std.proofs.Common.{◌≡◌, ◌++◌, map, drop}
-use Rattle.wire_pattern.specs.Shown.{line_by}
+use Rattle.wire_pattern.specs.Views.{line_by}
 use Rattle.wire_pattern_waits.specs.Lines.{verb_of}
 use Rattle.wire_pattern_waits.proofs.lines.add_lines.Given as goal
 

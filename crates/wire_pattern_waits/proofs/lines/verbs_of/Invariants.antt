@@ -1,5 +1,5 @@
 use Rattle.std.proofs.Common.{◌≡◌, ◌++◌, map, drop}
-use Rattle.wire_pattern.specs.Shown.{step_by}
+use Rattle.wire_pattern.specs.Views.{step_by}
 use Rattle.wire_pattern_waits.specs.Lines.{verbs_in}
 use Rattle.wire_pattern_waits.proofs.lines.verbs_of.Given as goal
 

@@ -1,6 +1,6 @@
 use Rattle.std.proofs.Common.{◌≡◌, ◌++◌, map, drop}
-use Rattle.wire_pattern.specs.Shown.{step_by}
-use Rattle.wire_instances.specs.Shown.{cast_by}
+use Rattle.wire_pattern.specs.Views.{step_by}
+use Rattle.wire_instances.specs.Views.{cast_by}
 use Rattle.wire_pattern_waits.specs.Places.{steps_places}
 use Rattle.wire_pattern_waits.proofs.places.add_steps.Given as goal
 

@@ -1,8 +1,8 @@
 use Rattle.std.proofs.Common.{◌∙◌, ◌++◌, ap, sym, refl, length, map}
 use Rattle.std.proofs.lemmas.Option.{slice_get_read}
 use Rattle.wire_pattern.specs.Planned.{steps_in}
-use Rattle.wire_pattern.specs.Shown.{step_by}
-use Rattle.wire_instances.specs.Shown.{cast_by}
+use Rattle.wire_pattern.specs.Views.{step_by}
+use Rattle.wire_instances.specs.Views.{cast_by}
 use Rattle.wire_pattern_waits.specs.Places.{steps_places}
 use Rattle.wire_pattern_waits.proofs.Pieces.{role_at, none_at}
 use Rattle.wire_pattern_waits.proofs.places.places_of.Goals as goal

@@ -1,6 +1,6 @@
 use Rattle.std.proofs.Common.{◌∙◌, ap}
 use Rattle.wire_pattern.specs.Instances.{roles_from}
-use Rattle.wire_instances.specs.Shown.{cast_by}
+use Rattle.wire_instances.specs.Views.{cast_by}
 use Rattle.wire_pattern_waits.proofs.Walks.{few_roles}
 use Rattle.wire_pattern_waits.proofs.stops.process_roles.Goals as goal
 

@@ -1,6 +1,6 @@
 use Rattle.std.proofs.Common.{◌≡◌, ◌++◌, drop}
 use Rattle.wire_types.specs.Texts.{lists_of}
-use Rattle.wire_instances.specs.Shown.{cast_by}
+use Rattle.wire_instances.specs.Views.{cast_by}
 use Rattle.wire_pattern_waits.specs.Stops.{stops_from}
 use Rattle.wire_pattern_waits.proofs.stops.stops_by.Given as goal
 

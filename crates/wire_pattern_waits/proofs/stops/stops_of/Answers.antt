@@ -1,6 +1,6 @@
 use Rattle.std.proofs.Common.{◌∙◌, ap}
 use Rattle.wire_types.specs.Texts.{lists_of}
-use Rattle.wire_instances.specs.Shown.{cast_by}
+use Rattle.wire_instances.specs.Views.{cast_by}
 use Rattle.wire_pattern_waits.proofs.Noted.{stops_told}
 use Rattle.wire_pattern_waits.proofs.stops.stops_of.Goals as goal
 

@@ -1,9 +1,9 @@
 use Rattle.std.proofs.Common.{◌||◌, ◌∙◌, ap, arith}
-use Rattle.wire_sweep.specs.Shown.{selection_by}
-use Rattle.wire_sweep.proofs.Judged.{item_sizes, item_total}
+use Rattle.wire_cutoff.specs.Views.{selection_by}
+use Rattle.wire_cutoff.proofs.Judged.{item_sizes, item_total}
 use Rattle.wire_pattern_waits.specs.LineSets.{has_line}
 use Rattle.wire_pattern_waits.specs.Stops.{is_noted}
-use Rattle.wire_pattern_waits.specs.Waits.{StopsIn, IsRead}
+use Rattle.wire_pattern_waits.specs.Waits.{StopsIn, ReadsAsPlan}
 use Rattle.wire_pattern_waits.proofs.Judged.{listed_at, told_more, each_more, each_all, none_before, one_before, all_before}
 use Rattle.wire_pattern_waits.proofs.waiting.all_stops.Goals as goal
 
@@ -35,7 +35,7 @@ loop-selection-preserved c =
           (told_more before (is_noted c.in_ok-stops.stops.items role line) _ (StopsIn c.args.pattern.now s role line)
           (c.in_ok-note_stops.ensures role line ∙ ap (λ xs. before || is_noted xs role line) c.as_slice.ensures.value)
           (c.in_ok-stops.ensures.ok role line));
-      read = each_more c.args.pattern.now (IsRead c.args.pattern.now) n s at c.loop-selection.invariant.read c.in_ok-stops.ensures.read;
+      read = each_more c.args.pattern.now (ReadsAsPlan c.args.pattern.now) n s at c.loop-selection.invariant.read c.in_ok-stops.ensures.read;
     }
 
 pub returns-clause-ok : goal.returns-clause-ok
@@ -50,5 +50,5 @@ returns-clause-ok c = λ role line.
 pub returns-clause-read : goal.returns-clause-read
 returns-clause-read c =
     let end = c.loop-selection-test.false in
-    each_all c.args.pattern.now (IsRead c.args.pattern.now) c.args.all.now c.loop-selection.selection-index c.requires.all (omega (arith, end))
+    each_all c.args.pattern.now (ReadsAsPlan c.args.pattern.now) c.args.all.now c.loop-selection.selection-index c.requires.all (omega (arith, end))
     c.loop-selection.invariant.read

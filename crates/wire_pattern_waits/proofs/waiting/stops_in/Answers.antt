@@ -1,9 +1,9 @@
 use Rattle.std.proofs.Common.{Ok, subst}
-use Rattle.wire_instances.specs.Shown.{cast_by}
+use Rattle.wire_instances.specs.Views.{cast_by}
 use Rattle.wire_pattern.specs.Instances.{instance_text}
-use Rattle.wire_script.specs.declared.Size.TheVariants.{OfVersion}
-use Rattle.wire_script.specs.Reads.{Reads}
-use Rattle.wire_sweep.specs.Shown.{selection_by}
+use Rattle.wire_reader.specs.declared.Size.TheVariants.{OfVersion}
+use Rattle.wire_reader.specs.Reads.{Reads}
+use Rattle.wire_cutoff.specs.Views.{selection_by}
 use Rattle.wire_pattern_waits.proofs.Told.{cast_is, stops_of_selection}
 use Rattle.wire_pattern_waits.proofs.waiting.stops_in.Goals as goal
 

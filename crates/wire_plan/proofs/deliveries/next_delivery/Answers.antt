@@ -1,5 +1,5 @@
 use Rattle.std.proofs.Common.{subst}
-use Rattle.wire_content.specs.Planned.{plan_of}
+use Rattle.wire_scripts.specs.Planned.{plan_of}
 use Rattle.wire_plan.specs.Bringing.{IsSentAfter}
 use Rattle.wire_plan.proofs.Delivering.{next_found, sent_there}
 use Rattle.wire_plan.proofs.deliveries.next_delivery.Goals as goal

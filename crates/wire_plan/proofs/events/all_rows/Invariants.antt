@@ -1,6 +1,6 @@
 use Rattle.std.proofs.Common.{◌≡◌, ◌++◌, map, drop}
 use Rattle.wire_runs.specs.Plan.{kinds_of}
-use Rattle.wire_content.specs.Planned.{planned_call}
+use Rattle.wire_scripts.specs.Planned.{planned_call}
 use Rattle.wire_plan.specs.Kinds.{kind_of, kinds_planned, calls_planned, calls_from, starts_planned, starts_from}
 use Rattle.wire_plan.proofs.events.all_rows.Given as goal
 

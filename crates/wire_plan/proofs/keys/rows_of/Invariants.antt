@@ -1,7 +1,7 @@
 use Rattle.std.specs.BTreeMap.{get}
 use Rattle.std.specs.Ordering.{nat_cmp}
 use Rattle.wire_runs.specs.Plan.{kind_at, event_count}
-use Rattle.wire_content.specs.Planned.{plan_of}
+use Rattle.wire_scripts.specs.Planned.{plan_of}
 use Rattle.wire_plan.specs.Keys.{AreRowsFrom}
 use Rattle.wire_plan.proofs.keys.rows_of.Given as goal
 

@@ -2,9 +2,9 @@ use Rattle.std.proofs.Common.{◌≡◌, ◌∙◌, ◌<◌, ◌≤◌, ℕ, nat
 use Rattle.std.proofs.lemmas.Bool.{cond-true, cond-false, lt-ltb, le-ltb}
 use Rattle.wire_types.specs.Replies.{bare}
 use Rattle.wire_types.specs.declared.Status.TheVariants.{NotFound}
-use Rattle.wire_content.specs.Scripts.{Scripts, text_at}
-use Rattle.wire_content.specs.Reserved.{reserved_reply}
-use Rattle.wire_content.specs.Planned.{reply_of_key}
+use Rattle.wire_scripts.specs.Scripts.{Scripts, text_at}
+use Rattle.wire_scripts.specs.Reserved.{reserved_reply}
+use Rattle.wire_scripts.specs.Planned.{reply_of_key}
 use Rattle.wire_procmap.specs.Map.{row_count}
 use Rattle.wire_procmap.proofs.Tables.{count_of_map}
 use Rattle.wire_plan.proofs.kind.reserved_reply.Goals as goal

@@ -1,6 +1,6 @@
 use Rattle.std.proofs.Common.{◌≡◌, ◌+◌, ◌∙◌, subst, map, suc, arith}
 use Rattle.wire_runs.specs.Plan.{event_count}
-use Rattle.wire_content.specs.Planned.{plan_of}
+use Rattle.wire_scripts.specs.Planned.{plan_of}
 use Rattle.wire_plan.specs.Meetings.{AreArrivalListsTo}
 use Rattle.wire_plan.proofs.Gathering.{process_done}
 use Rattle.wire_plan.proofs.meetings.add_process.Goals as goal

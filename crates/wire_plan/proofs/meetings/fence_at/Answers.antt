@@ -1,4 +1,4 @@
-use Rattle.wire_content.specs.Planned.{plan_of}
+use Rattle.wire_scripts.specs.Planned.{plan_of}
 use Rattle.wire_plan.proofs.FenceOf.{has_fence, of_fence_within}
 use Rattle.wire_plan.proofs.meetings.fence_at.Goals as goal
 

@@ -1,6 +1,6 @@
 use Rattle.std.proofs.Common.{arith, refl, length, map}
 use Rattle.wire_runs.specs.Plan.{kinds_of}
-use Rattle.wire_content.specs.Planned.{planned_call}
+use Rattle.wire_scripts.specs.Planned.{planned_call}
 use Rattle.wire_plan.specs.Kinds.{kind_of, calls_from, starts_from}
 use Rattle.wire_plan.proofs.Planning.{few_kinds, events_step, numbers_step, starts_step, done_at_end}
 use Rattle.wire_plan.proofs.row.events_of.Goals as goal

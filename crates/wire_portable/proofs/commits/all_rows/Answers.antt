@@ -1,7 +1,7 @@
 use Rattle.std.proofs.Common.{◌∙◌, ◌+◌, ◌≤◌, map, ap, sym, subst, arith}
 use Rattle.std.proofs.lemmas.List.{map_push}
 use Rattle.wire_runs.specs.Plan.{process_count}
-use Rattle.wire_content.specs.Planned.{plan_of}
+use Rattle.wire_scripts.specs.Planned.{plan_of}
 use Rattle.wire_portable.proofs.Gathered.{AreRowsTo, no_rows, row_added, all_rows}
 use Rattle.wire_portable.proofs.commits.all_rows.Goals as goal
 

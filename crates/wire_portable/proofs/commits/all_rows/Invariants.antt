@@ -1,5 +1,5 @@
 use Rattle.std.proofs.Common.{map}
-use Rattle.wire_content.specs.Planned.{plan_of}
+use Rattle.wire_scripts.specs.Planned.{plan_of}
 use Rattle.wire_portable.proofs.Gathered.{AreRowsTo}
 use Rattle.wire_portable.proofs.commits.all_rows.Given as goal
 

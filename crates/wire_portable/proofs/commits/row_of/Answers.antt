@@ -2,7 +2,7 @@ use Rattle.std.proofs.Common.{◌∙◌, ◌+◌, ◌≤◌, map, ap, sym, subst
 use Rattle.std.proofs.lemmas.Bool.{true≢false}
 use Rattle.std.proofs.lemmas.List.{map_push}
 use Rattle.wire_runs.specs.Plan.{event_of, event_count}
-use Rattle.wire_content.specs.Planned.{plan_of}
+use Rattle.wire_scripts.specs.Planned.{plan_of}
 use Rattle.wire_portable.proofs.Gathered.{AreCommitsTo, no_commits, commit_added, no_commit_added, all_commits}
 use Rattle.wire_portable.proofs.commits.row_of.Goals as goal
 use Rattle.wire_portable.proofs.commits.row_of.Goals.{then-is_live_commit+in_ok-push, else-is_live_commit}

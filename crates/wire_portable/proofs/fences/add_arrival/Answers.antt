@@ -2,7 +2,7 @@ use Rattle.std.proofs.Common.{sym, ◌∙◌}
 use Rattle.std.proofs.lemmas.Option.{same_Some}
 use Rattle.std.proofs.lemmas.Result.{on_ok_weaker}
 use Rattle.wire_runs.specs.Plan.{event_of, set_of}
-use Rattle.wire_content.specs.Scripts.{set_at}
+use Rattle.wire_scripts.specs.Scripts.{set_at}
 use Rattle.wire_portable.specs.Fences.{IsPlainArrival, IsPlainCall}
 use Rattle.wire_portable.proofs.Added.{adds_nothing, adds_other}
 use Rattle.wire_portable.proofs.PlainFences.{no_arrival, plain_arrival}

@@ -2,10 +2,10 @@ use Rattle.std.proofs.Common.{◌≡◌, false, map, subst}
 use Rattle.std.proofs.lemmas.Result.{on_ok_weaker}
 use Rattle.wire_runs.specs.Plan.{event_of, set_of}
 use Rattle.wire_runs.proofs.Basics.{event_within}
-use Rattle.wire_content.specs.Planned.{plan_of}
-use Rattle.wire_content.specs.Scripts.{set_at}
-use Rattle.wire_portable.specs.Fences.{IsSpeltAt, IsPlainCall, KeepsRules}
-use Rattle.wire_portable.specs.Adding.{Adds}
+use Rattle.wire_scripts.specs.Planned.{plan_of}
+use Rattle.wire_scripts.specs.Scripts.{set_at}
+use Rattle.wire_portable.specs.Fences.{IsSpeltAt, IsPlainCall, KeepsFenceRules}
+use Rattle.wire_portable.specs.Adding.{AddsUnportable}
 use Rattle.wire_portable.specs.Libraries.{has}
 use Rattle.wire_portable.proofs.Added.{adds_all, adds_other}
 use Rattle.wire_portable.proofs.PlainFences.{arrives, arrivals_within, own_arrival, plain_call}
@@ -46,7 +46,7 @@ returns-in-Some c =
     let call = c.args.call in
     let first = event_of c.in-Some.first in
     let places = map event_of c.all_arrivals-arrivals.result.now in
-    on_ok_weaker c.add_first.result (adds_other c.args.found.now c.add_first.new.found (λ library. KeepsRules library s rows table first call)
+    on_ok_weaker c.add_first.result (adds_other c.args.found.now c.add_first.new.found (λ library. KeepsFenceRules library s rows table first call)
     (λ library. IsPlainCall library s rows table (set_of (set_at s.sets call.set)) call.collect (event_of call.arrival))
     (λ library keeps.
     plain_call library s rows table call places first c.requires.is c.all_arrivals-arrivals.ensures c.scripts.ensures.sound
@@ -59,4 +59,4 @@ returns-in-None c =
     on_ok_weaker c.blame.result (λ h.
     adds_all c.args.found.now c.blame.new.self
     (λ library. IsPlainCall library s c.args.spelling.now c.args.sets.now (set_of (set_at s.sets call.set)) call.collect (event_of call.arrival))
-    (subst (λ k. Adds c.args.found.now c.blame.new.self (λ library. has k library ≡ false)) c.all.ensures h)) c.blame.ensures
+    (subst (λ k. AddsUnportable c.args.found.now c.blame.new.self (λ library. has k library ≡ false)) c.all.ensures h)) c.blame.ensures

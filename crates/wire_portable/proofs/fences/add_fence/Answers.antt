@@ -1,8 +1,8 @@
 use Rattle.std.proofs.Common.{◌<◌, sym, subst, ◌∙◌}
 use Rattle.std.proofs.lemmas.Bool.{true≢false}
 use Rattle.wire_runs.specs.Plan.{event_of, event_count}
-use Rattle.wire_content.specs.Planned.{plan_of}
-use Rattle.wire_portable.specs.Adding.{Adds}
+use Rattle.wire_scripts.specs.Planned.{plan_of}
+use Rattle.wire_portable.specs.Adding.{AddsUnportable}
 use Rattle.wire_portable.specs.Fences.{IsPlainArrival, TellsJobs}
 use Rattle.wire_portable.proofs.Added.{adds_nothing}
 use Rattle.std.proofs.lemmas.Result.{on_ok_weaker}
@@ -17,7 +17,7 @@ add_arrival-requires c = record {
 pub returns-then-live : goal.returns-then-live
 returns-then-live c =
     on_ok_weaker c.add_arrival.result
-    (subst (λ s. Adds c.args.found.now c.add_arrival.new.found (λ library. IsPlainArrival library s c.args.spelling.now c.args.sets.now (event_of c.args.arrival))) c.plan.ensures)
+    (subst (λ s. AddsUnportable c.args.found.now c.add_arrival.new.found (λ library. IsPlainArrival library s c.args.spelling.now c.args.sets.now (event_of c.args.arrival))) c.plan.ensures)
     c.add_arrival.ensures
 
 pub returns-else-live : goal.returns-else-live

@@ -1,7 +1,7 @@
 use Rattle.std.proofs.Common.{◌≡◌, ◌==◌, drop}
 use Rattle.std.specs.List.{list_all}
-use Rattle.wire_content.specs.Map.{job_at}
-use Rattle.wire_content.specs.Scripts.{numbers_of}
+use Rattle.wire_scripts.specs.Map.{job_at}
+use Rattle.wire_scripts.specs.Scripts.{numbers_of}
 use Rattle.wire_portable.proofs.fences.are_of_job.Given as goal
 
 abbrev pub invariant-loop-member : goal.invariant-loop-member

@@ -1,7 +1,7 @@
 use Rattle.std.proofs.Common.{◌≡◌, ◌-◌, ◌<◌, ◌≤◌, ℕ, Some, length, map}
 use Rattle.std.specs.Prelude.{slice_get}
 use Rattle.wire_runs.specs.Plan.{Event, event_of}
-use Rattle.wire_content.specs.Planned.{plan_of}
+use Rattle.wire_scripts.specs.Planned.{plan_of}
 use Rattle.wire_library_laws.specs.Portable.{EndsFirst}
 use Rattle.wire_portable.proofs.mates.ended_count.Given as goal
 

@@ -1,7 +1,7 @@
 use Rattle.std.proofs.Common.{◌≡◌, ◌≤◌, false, map, length, subst, arith}
 use Rattle.std.proofs.lemmas.List.{length-map}
 use Rattle.wire_runs.specs.Plan.{event_of}
-use Rattle.wire_content.specs.Planned.{plan_of}
+use Rattle.wire_scripts.specs.Planned.{plan_of}
 use Rattle.wire_portable.specs.Libraries.{family_of, has}
 use Rattle.wire_portable.proofs.Sets.{of_either}
 use Rattle.wire_portable.proofs.Sharing.{none_lacking, part_fine, turns_between, all_fine}

@@ -1,6 +1,6 @@
 use Rattle.std.proofs.Common.{◌≡◌, ◌-◌, false, length, map}
 use Rattle.wire_runs.specs.Plan.{event_of}
-use Rattle.wire_content.specs.Planned.{plan_of}
+use Rattle.wire_scripts.specs.Planned.{plan_of}
 use Rattle.wire_portable.specs.declared.libraries.Library.{Library}
 use Rattle.wire_portable.specs.Libraries.{family_of, has}
 use Rattle.wire_portable.proofs.Sharing.{AreFineBelow}

@@ -1,7 +1,7 @@
 use Rattle.std.proofs.Common.{◌≡◌, ◌≤◌, false, map, length, subst, sym, arith}
 use Rattle.std.proofs.lemmas.List.{length-map, take_rest}
 use Rattle.wire_runs.specs.Plan.{event_of}
-use Rattle.wire_content.specs.Planned.{plan_of}
+use Rattle.wire_scripts.specs.Planned.{plan_of}
 use Rattle.wire_fates.proofs.Places.{place_at}
 use Rattle.wire_portable.specs.Libraries.{family_of, has}
 use Rattle.wire_portable.specs.Judging.{AreFineMates}

@@ -1,4 +1,4 @@
-use Rattle.wire_content.specs.Planned.{plan_of}
+use Rattle.wire_scripts.specs.Planned.{plan_of}
 use Rattle.wire_portable.proofs.NamesFound.{pushed_never}
 use Rattle.wire_portable.proofs.names.add_if_stuck.Goals as goal
 

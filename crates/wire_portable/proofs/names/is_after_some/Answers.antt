@@ -1,4 +1,4 @@
-use Rattle.wire_content.specs.Planned.{plan_of}
+use Rattle.wire_scripts.specs.Planned.{plan_of}
 use Rattle.wire_runs.specs.Plan.{event_of}
 use Rattle.wire_portable.proofs.NamesFound.{never_some}
 use Rattle.wire_portable.proofs.names.is_after_some.Goals as goal

@@ -1,6 +1,6 @@
 use Rattle.std.proofs.Common.{◌∙◌, sym}
 use Rattle.std.proofs.lemmas.Bool.{true≢false}
-use Rattle.wire_content.specs.Planned.{plan_of}
+use Rattle.wire_scripts.specs.Planned.{plan_of}
 use Rattle.wire_runs.specs.Plan.{event_of}
 use Rattle.wire_portable.proofs.NamesFound.{never_missed}
 use Rattle.wire_portable.proofs.names.is_missed.Goals as goal

@@ -2,7 +2,7 @@ use Rattle.std.proofs.Common.{arith, length, map}
 use Rattle.std.proofs.lemmas.Bool.{leb-true}
 use Rattle.std.proofs.lemmas.List.{length-map}
 use Rattle.wire_runs.specs.Plan.{event_of}
-use Rattle.wire_content.specs.Planned.{plan_of}
+use Rattle.wire_scripts.specs.Planned.{plan_of}
 use Rattle.wire_portable.proofs.NamesFound.{only_one}
 use Rattle.wire_portable.proofs.names.is_once.Goals as goal
 

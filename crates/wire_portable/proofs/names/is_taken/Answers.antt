@@ -1,4 +1,4 @@
-use Rattle.wire_content.specs.Planned.{plan_of}
+use Rattle.wire_scripts.specs.Planned.{plan_of}
 use Rattle.wire_portable.proofs.NamesFound.{call_within}
 use Rattle.wire_portable.proofs.names.is_taken.Goals as goal
 

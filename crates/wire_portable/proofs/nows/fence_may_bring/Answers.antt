@@ -1,7 +1,7 @@
 use Rattle.std.proofs.Common.{◌∙◌, ap, sym}
 use Rattle.std.proofs.lemmas.Bool.{true≢false}
 use Rattle.wire_runs.specs.Plan.{event_of}
-use Rattle.wire_content.specs.Planned.{plan_of}
+use Rattle.wire_scripts.specs.Planned.{plan_of}
 use Rattle.wire_portable.proofs.Sets.{not_false}
 use Rattle.wire_portable.proofs.Carried.{no_fences, dead_end, later_end, within_own}
 use Rattle.wire_portable.proofs.nows.fence_may_bring.Goals as goal

@@ -1,6 +1,6 @@
 use Rattle.std.proofs.Common.{◌-◌, length, map}
 use Rattle.wire_runs.specs.Plan.{event_of}
-use Rattle.wire_content.specs.Planned.{plan_of}
+use Rattle.wire_scripts.specs.Planned.{plan_of}
 use Rattle.wire_portable.proofs.Carried.{ComeLaterTo}
 use Rattle.wire_portable.proofs.nows.gets_may_bring.Given as goal
 

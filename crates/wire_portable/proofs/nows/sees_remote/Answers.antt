@@ -1,6 +1,6 @@
 use Rattle.std.proofs.Common.{ap, subst, true}
 use Rattle.wire_runs.specs.Plan.{event_of}
-use Rattle.wire_content.specs.Planned.{plan_of}
+use Rattle.wire_scripts.specs.Planned.{plan_of}
 use Rattle.wire_portable.specs.Judging.{AreFor}
 use Rattle.wire_portable.proofs.Sets.{not_false}
 use Rattle.wire_portable.proofs.Carried.{unseen_never, unseen_near, unseen_before}

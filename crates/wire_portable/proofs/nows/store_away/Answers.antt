@@ -1,5 +1,5 @@
 use Rattle.std.proofs.Common.{◌∙◌, sym, subst, false}
-use Rattle.wire_content.specs.Planned.{plan_of}
+use Rattle.wire_scripts.specs.Planned.{plan_of}
 use Rattle.wire_portable.specs.Judging.{AreFor}
 use Rattle.wire_portable.proofs.AtMostOnce.{never_stored}
 use Rattle.wire_portable.proofs.Carried.{not_once, only_near, found_away}

@@ -1,6 +1,6 @@
 use Rattle.std.proofs.Common.{◌-◌, Option, Vec, Global, drop, length, map, subst, take}
 use Rattle.std.proofs.lemmas.Result.{IfOk-weaker}
-use Rattle.wire_portable.specs.Spelling.{AreNumbered}
+use Rattle.wire_portable.specs.Spelling.{AreSetsNumbered}
 use Rattle.wire_portable.specs.Spelling as spec
 use Rattle.wire_portable.specs.Spelled.{rows_by}
 use Rattle.wire_portable.specs.declared.spelling.Spelt.{Spelt}
@@ -12,10 +12,10 @@ pub returns-in-len1-up : goal.returns-in-len1-up
 returns-in-len1-up c =
     let rows = c.args.rows.now in
     IfOk-weaker c.number_rows.result
-    (λ (spelt : Vec (Vec (Option Spelt) Global) Global). AreNumbered (rows_by (take (length rows - 1) (drop 1 rows))) (map (λ row. row.items) spelt.items))
+    (λ (spelt : Vec (Vec (Option Spelt) Global) Global). AreSetsNumbered (rows_by (take (length rows - 1) (drop 1 rows))) (map (λ row. row.items) spelt.items))
     (λ (spelt : Vec (Vec (Option Spelt) Global) Global). (first : List (Option spec.SpelledSet)) (others : List (List (Option spec.SpelledSet))) → rows_by rows ≡ first ∷ others
-    → AreNumbered others (map (λ row. row.items) spelt.items))
-    (λ spelt h first others e. subst (λ sets. AreNumbered sets (map (λ row. row.items) spelt.items)) (rows_behind rows first others e) h)
+    → AreSetsNumbered others (map (λ row. row.items) spelt.items))
+    (λ spelt h first others e. subst (λ sets. AreSetsNumbered sets (map (λ row. row.items) spelt.items)) (rows_behind rows first others e) h)
     c.number_rows.ensures
 
 pub returns-in-empty : goal.returns-in-empty

@@ -1,6 +1,6 @@
 use Rattle.std.proofs.Common.{◌+◌, refl, sym, ap, ◌∙◌, subst, map, take, take_all}
 use Rattle.std.proofs.lemmas.List.{map_push}
-use Rattle.wire_portable.specs.Spelling.{AreNumbered}
+use Rattle.wire_portable.specs.Spelling.{AreSetsNumbered}
 use Rattle.wire_portable.specs.Spelled.{row_by, rows_by}
 use Rattle.wire_portable.specs.Numbering.{AreRowsTold, IsRowTold}
 use Rattle.wire_portable.proofs.Numbered.{numbered, rows_next}
@@ -19,5 +19,5 @@ loop-row-preserved c =
 
 pub returns : goal.returns
 returns c =
-    subst (λ rows. AreNumbered (rows_by rows) (map (λ v. v.items) c.loop-row.spelt.items)) (take_all c.loop-row.row-index c.args.rows.now c.loop-row-test.false)
+    subst (λ rows. AreSetsNumbered (rows_by rows) (map (λ v. v.items) c.loop-row.spelt.items)) (take_all c.loop-row.row-index c.args.rows.now c.loop-row-test.false)
     (numbered c.loop-row.numbers c.are_apart.ensures (rows_by (take c.loop-row.row-index c.args.rows.now)) (map (λ v. v.items) c.loop-row.spelt.items) c.loop-row.invariant)

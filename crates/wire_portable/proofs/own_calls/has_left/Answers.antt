@@ -1,6 +1,6 @@
 use Rattle.std.proofs.Common.{map}
 use Rattle.wire_runs.specs.Plan.{event_of}
-use Rattle.wire_content.specs.Planned.{plan_of}
+use Rattle.wire_scripts.specs.Planned.{plan_of}
 use Rattle.wire_portable.proofs.Had.{arrives_there, its_arrivals, left_itself_by}
 use Rattle.wire_portable.proofs.own_calls.has_left.Goals as goal
 

@@ -1,5 +1,5 @@
 use Rattle.wire_runs.proofs.Basics.{event_within}
-use Rattle.wire_content.specs.Planned.{plan_of}
+use Rattle.wire_scripts.specs.Planned.{plan_of}
 use Rattle.wire_fates.proofs.Places.{place_at}
 use Rattle.wire_portable.proofs.own_calls.is_got.Goals as goal
 

@@ -1,6 +1,6 @@
 use Rattle.std.proofs.Common.{map, subst, true}
 use Rattle.wire_runs.specs.Plan.{event_of}
-use Rattle.wire_content.specs.Planned.{plan_of}
+use Rattle.wire_scripts.specs.Planned.{plan_of}
 use Rattle.wire_library_laws.specs.Anywhere.{nothing, surely}
 use Rattle.wire_portable.specs.Nows.{FencesComeLater}
 use Rattle.wire_portable.proofs.Carried.{nothing_away, later_away}

@@ -1,4 +1,4 @@
-use Rattle.wire_content.specs.Planned.{plan_of}
+use Rattle.wire_scripts.specs.Planned.{plan_of}
 use Rattle.wire_portable.proofs.Had.{store_process}
 use Rattle.wire_portable.proofs.own_calls.unsure.Goals as goal
 

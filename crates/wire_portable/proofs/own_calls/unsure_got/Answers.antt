@@ -1,6 +1,6 @@
 use Rattle.std.proofs.Common.{map, true}
 use Rattle.wire_runs.specs.Plan.{event_of}
-use Rattle.wire_content.specs.Planned.{plan_of}
+use Rattle.wire_scripts.specs.Planned.{plan_of}
 use Rattle.wire_portable.specs.Libraries.{family_of}
 use Rattle.wire_portable.proofs.Sets.{not_all}
 use Rattle.wire_portable.proofs.Had.{gets_of, its_owner, store_within, has_same, surely_kept, got_itself}

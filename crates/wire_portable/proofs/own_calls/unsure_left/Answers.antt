@@ -1,7 +1,7 @@
 use Rattle.std.proofs.Common.{◌∙◌, sym, map, true}
 use Rattle.wire_runs.specs.Plan.{event_of}
-use Rattle.wire_content.specs.Map.{job_at}
-use Rattle.wire_content.specs.Planned.{plan_of}
+use Rattle.wire_scripts.specs.Map.{job_at}
+use Rattle.wire_scripts.specs.Planned.{plan_of}
 use Rattle.wire_portable.specs.Libraries.{family_of}
 use Rattle.wire_portable.proofs.Sets.{not_all}
 use Rattle.wire_portable.proofs.Had.{gets_of, its_owner, has_same, brings_others, surely_left, got_itself, left_itself}

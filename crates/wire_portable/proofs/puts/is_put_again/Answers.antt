@@ -1,7 +1,7 @@
 use Rattle.std.proofs.Common.{ap, subst}
 use Rattle.std.proofs.lemmas.Bool.{ltb-false}
 use Rattle.wire_runs.specs.Plan.{event_of}
-use Rattle.wire_content.specs.Planned.{plan_of}
+use Rattle.wire_scripts.specs.Planned.{plan_of}
 use Rattle.wire_plan.specs.Index.{IsFirstPut}
 use Rattle.wire_portable.proofs.PutsOnce.{first_put, no_put}
 use Rattle.wire_portable.proofs.puts.is_put_again.Goals as goal

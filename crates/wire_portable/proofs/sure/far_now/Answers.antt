@@ -1,7 +1,7 @@
 use Rattle.std.proofs.Common.{map, subst, false}
 use Rattle.wire_runs.specs.Plan.{event_of}
 use Rattle.wire_runs.proofs.Basics.{process_within}
-use Rattle.wire_content.specs.Planned.{plan_of}
+use Rattle.wire_scripts.specs.Planned.{plan_of}
 use Rattle.wire_library_laws.specs.Portable.{nothing, surely}
 use Rattle.wire_portable.specs.Nows.{FencesComeLater}
 use Rattle.wire_portable.proofs.Carried.{nothing_there, later_there}

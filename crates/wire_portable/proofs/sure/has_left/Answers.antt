@@ -1,7 +1,7 @@
 use Rattle.std.proofs.Common.{◌∙◌, ap, sym}
 use Rattle.wire_runs.specs.Plan.{event_of}
 use Rattle.wire_runs.proofs.Basics.{process_within, event_within}
-use Rattle.wire_content.specs.Planned.{plan_of}
+use Rattle.wire_scripts.specs.Planned.{plan_of}
 use Rattle.wire_fates.proofs.Places.{place_at}
 use Rattle.wire_portable.proofs.Had.{left_at}
 use Rattle.wire_portable.proofs.sure.has_left.Goals as goal

@@ -1,8 +1,8 @@
 use Rattle.std.proofs.Common.{subst, map}
 use Rattle.wire_runs.specs.Plan.{event_of, node_of}
 use Rattle.wire_runs.proofs.Basics.{process_within}
-use Rattle.wire_content.specs.Map.{job_at}
-use Rattle.wire_content.specs.Planned.{plan_of}
+use Rattle.wire_scripts.specs.Map.{job_at}
+use Rattle.wire_scripts.specs.Planned.{plan_of}
 use Rattle.wire_plan.specs.Index.{IsDelivering}
 use Rattle.wire_portable.proofs.Had.{arrives_there, its_arrivals, left_by}
 use Rattle.wire_portable.proofs.sure.is_left.Goals as goal

@@ -1,8 +1,8 @@
 use Rattle.std.proofs.Common.{◌∙◌, sym, map}
 use Rattle.wire_runs.specs.Plan.{event_of}
 use Rattle.wire_runs.proofs.Basics.{process_within}
-use Rattle.wire_content.specs.Map.{job_at}
-use Rattle.wire_content.specs.Planned.{plan_of}
+use Rattle.wire_scripts.specs.Map.{job_at}
+use Rattle.wire_scripts.specs.Planned.{plan_of}
 use Rattle.wire_portable.proofs.Had.{arrived_left, arrived_mate}
 use Rattle.wire_portable.proofs.sure.is_left_there.Goals as goal
 

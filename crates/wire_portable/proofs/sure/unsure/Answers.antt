@@ -2,8 +2,8 @@ use Rattle.std.proofs.Common.{map, subst, false}
 use Rattle.wire_runs.specs.Plan.{event_of}
 use Rattle.wire_runs.specs.Races.{ComesSurely}
 use Rattle.wire_runs.proofs.Basics.{process_within}
-use Rattle.wire_content.specs.Map.{job_at}
-use Rattle.wire_content.specs.Planned.{plan_of}
+use Rattle.wire_scripts.specs.Map.{job_at}
+use Rattle.wire_scripts.specs.Planned.{plan_of}
 use Rattle.wire_portable.specs.Libraries.{family_of}
 use Rattle.wire_portable.proofs.Sets.{not_all}
 use Rattle.wire_portable.proofs.Had.{gets_of, its_owner, has_same, brings_others, have_got, have_left}

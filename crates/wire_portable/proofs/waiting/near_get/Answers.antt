@@ -1,6 +1,6 @@
 use Rattle.std.proofs.Common.{rules}
 use Rattle.wire_runs.specs.Plan.{event_of}
-use Rattle.wire_content.specs.Planned.{plan_of}
+use Rattle.wire_scripts.specs.Planned.{plan_of}
 use Rattle.wire_portable.proofs.Waits.{all_lacking, all_lacked, ended_near, ended_others}
 use Rattle.wire_portable.proofs.waiting.near_get.Goals as goal
 

@@ -1,7 +1,7 @@
 use Rattle.std.proofs.Common.{◌≡◌, ◌∙◌, ap, subst, take, length, arith}
 use Rattle.std.proofs.Math.Seq.{take-length}
 use Rattle.std.proofs.lemmas.List.{get_or_read}
-use Rattle.wire_content.specs.Scripts.{Process}
+use Rattle.wire_scripts.specs.Scripts.{Process}
 use Rattle.wire_procmap.specs.Tallies.{job_of, IsTally}
 use Rattle.wire_procmap.proofs.Rows.{nobody}
 use Rattle.wire_procmap.proofs.Tallies.{few_counted, counted_on}

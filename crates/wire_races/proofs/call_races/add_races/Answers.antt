@@ -1,10 +1,10 @@
 use Rattle.std.proofs.Common.{◌≡◌, map, take, sym, subst, arith}
 use Rattle.std.proofs.lemmas.List.{map_more, take_all}
 use Rattle.wire_runs.specs.Plan.{event_of}
-use Rattle.wire_content.specs.Planned.{plan_of}
-use Rattle.wire_findings.specs.Collected.{IsAdded}
-use Rattle.wire_races.specs.Adding.{Adds}
-use Rattle.wire_races.specs.NameRaces.{IsRaceWith}
+use Rattle.wire_scripts.specs.Planned.{plan_of}
+use Rattle.wire_findings.specs.Collected.{IsFindingAdded}
+use Rattle.wire_races.specs.Adding.{AddsFindings}
+use Rattle.wire_races.specs.NameRaces.{IsNameRaceWith}
 use Rattle.wire_fates.proofs.Places.{place_at}
 use Rattle.wire_races.proofs.Growing.{adds_none}
 use Rattle.wire_races.proofs.NameRaces.{between_calls, racing_calls, one_more_race}
@@ -29,8 +29,8 @@ loop-y-preserved c =
     let those = c.args.those.now in
     let n = c.loop-y.y-index in
     let race = c.requires.races n _ (place_at those n _ c.loop-y-test.true) in
-    let told = subst (λ f. IsAdded plan c.loop-y.found c.add.new.self f) c.race_of.ensures (c.in_ok-add.ensures.added plan) in
-    subst (λ l. Adds plan c.args.found.now c.add.new.self (IsRaceWith plan name x l)) (sym (map_more event_of those n _ c.loop-y-test.true))
+    let told = subst (λ f. IsFindingAdded plan c.loop-y.found c.add.new.self f) c.race_of.ensures (c.in_ok-add.ensures.added plan) in
+    subst (λ l. AddsFindings plan c.args.found.now c.add.new.self (IsNameRaceWith plan name x l)) (sym (map_more event_of those n _ c.loop-y-test.true))
     (one_more_race plan name x (map event_of (take n those)) _ c.args.found.now c.loop-y.found c.add.new.self c.loop-y.invariant race told)
 
 pub returns : goal.returns
@@ -38,4 +38,4 @@ returns c =
     let plan = plan_of c.args.plan.now in
     let those = c.args.those.now in
     let all : take c.loop-y.y-index those ≡ those = take_all c.loop-y.y-index those (omega arith) in
-    subst (λ l. Adds plan c.args.found.now c.loop-y.found (IsRaceWith plan c.args.x.name (event_of c.args.x.event) (map event_of l))) all c.loop-y.invariant
+    subst (λ l. AddsFindings plan c.args.found.now c.loop-y.found (IsNameRaceWith plan c.args.x.name (event_of c.args.x.event) (map event_of l))) all c.loop-y.invariant

@@ -1,7 +1,7 @@
 use Rattle.std.proofs.Common.{◌∙◌, ◌+◌, ◌-◌, ◌/◌, ◌<◌, map, length, sym, arith}
 use Rattle.std.proofs.lemmas.Bool.{true≢false}
 use Rattle.wire_runs.specs.Plan.{event_of}
-use Rattle.wire_content.specs.Planned.{plan_of}
+use Rattle.wire_scripts.specs.Planned.{plan_of}
 use Rattle.wire_races.specs.NameRaces.{IsBelow}
 use Rattle.wire_fates.proofs.Places.{place_at}
 use Rattle.wire_fates.proofs.Cuts.{low_rises, high_falls, narrowed_cut}

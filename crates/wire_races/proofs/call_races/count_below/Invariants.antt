@@ -1,6 +1,6 @@
 use Rattle.std.proofs.Common.{◌-◌, ◌≤◌, ℕ, length, map}
 use Rattle.wire_runs.specs.Plan.{event_of}
-use Rattle.wire_content.specs.Planned.{plan_of}
+use Rattle.wire_scripts.specs.Planned.{plan_of}
 use Rattle.wire_races.specs.NameRaces.{AreRising, AreOf, IsBelow}
 use Rattle.wire_fates.proofs.Cuts.{IsNarrowed}
 use Rattle.wire_races.proofs.call_races.count_below.Given as goal

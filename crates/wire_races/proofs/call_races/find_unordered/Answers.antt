@@ -1,7 +1,7 @@
 use Rattle.std.proofs.Common.{◌∙◌, ◌++◌, ap, map, arith}
 use Rattle.std.proofs.lemmas.List.{length-map}
 use Rattle.wire_runs.specs.Plan.{event_of}
-use Rattle.wire_content.specs.Planned.{plan_of}
+use Rattle.wire_scripts.specs.Planned.{plan_of}
 use Rattle.wire_races.proofs.Lists.{both_parts}
 use Rattle.wire_races.proofs.NameRaces.{none_between, those_between}
 use Rattle.wire_races.proofs.call_races.find_unordered.Goals as goal

@@ -1,6 +1,6 @@
 use Rattle.std.proofs.Common.{◌∙◌, ap, sym}
 use Rattle.wire_runs.specs.Plan.{event_of}
-use Rattle.wire_content.specs.Planned.{plan_of}
+use Rattle.wire_scripts.specs.Planned.{plan_of}
 use Rattle.wire_runs.specs.Ends.{first_event}
 use Rattle.wire_runs.specs.Findings.{NameRace}
 use Rattle.wire_findings.proofs.Calls.{starts_back, starts_within, starts_named}

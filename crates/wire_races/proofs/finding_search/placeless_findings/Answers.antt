@@ -1,5 +1,5 @@
 use Rattle.std.proofs.Common.{sym, subst}
-use Rattle.wire_content.specs.Planned.{plan_of}
+use Rattle.wire_scripts.specs.Planned.{plan_of}
 use Rattle.wire_races.specs.FindingKinds.{ArePlaceless}
 use Rattle.wire_races.proofs.AllKinds.{placeless}
 use Rattle.wire_races.proofs.finding_search.placeless_findings.Goals as goal

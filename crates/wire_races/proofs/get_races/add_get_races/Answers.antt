@@ -2,9 +2,9 @@ use Rattle.std.proofs.Common.{◌≡◌, ◌+◌, ◌≤◌, suc, map, length, r
 use Rattle.std.proofs.lemmas.Bool.{true≢false}
 use Rattle.std.proofs.lemmas.List.{length-map}
 use Rattle.wire_runs.specs.Plan.{event_of, node_of}
-use Rattle.wire_content.specs.Planned.{plan_of}
+use Rattle.wire_scripts.specs.Planned.{plan_of}
 use Rattle.wire_plan.specs.Index.{AreGetDeliveries}
-use Rattle.wire_races.specs.Adding.{Adds}
+use Rattle.wire_races.specs.Adding.{AddsFindings}
 use Rattle.wire_races.specs.GetRaces.{AreRacesBelow}
 use Rattle.wire_fates.proofs.Places.{place_at}
 use Rattle.wire_races.proofs.Deliveries.{get_race}
@@ -31,7 +31,7 @@ gets-preserved-then-may_race c =
     let n = c.gets.place in
     let are = subst (λ m. AreGetDeliveries plan p c.args.asked.key m (map event_of gets)) c.requires.node ((rw c.plan-plan.ensures at c.gets_to-gets.ensures) c.requires.late.opened.once) in
     let next : suc n ≡ n + 1 = omega arith in
-    subst (λ k. Adds plan c.args.found.now c.add_race.new.found (AreRacesBelow plan get p c.args.asked.key node (map event_of gets) k)) next
+    subst (λ k. AddsFindings plan c.args.found.now c.add_race.new.found (AreRacesBelow plan get p c.args.asked.key node (map event_of gets) k)) next
     (race_more plan get p c.args.asked.key node (map event_of gets) are c.args.found.now c.gets.found c.add_race.new.found n _ (place_at gets n _ c.gets-test.true)
     (c.if-may_race.ensures.0 refl) c.gets.invariant (rw c.plan-plan.ensures at c.in_ok-add_race.ensures))
 

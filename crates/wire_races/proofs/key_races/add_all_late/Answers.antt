@@ -1,7 +1,7 @@
 use Rattle.std.proofs.Common.{ℕ, ◌≤◌, ◌<◌, ◌+◌, ◌∙◌, sym, subst, refl, arith}
 use Rattle.std.proofs.lemmas.Bool.{true≢false}
 use Rattle.wire_runs.specs.Plan.{event_of, node_of, event_count}
-use Rattle.wire_content.specs.Planned.{plan_of}
+use Rattle.wire_scripts.specs.Planned.{plan_of}
 use Rattle.wire_plan.specs.Index.{IsDelivering}
 use Rattle.wire_fates.specs.Deliveries.{MayBeLate}
 use Rattle.wire_races.proofs.Deliveries.{late_more, late_whole, past_all, no_later, late_done}

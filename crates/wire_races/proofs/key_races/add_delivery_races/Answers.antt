@@ -2,17 +2,17 @@ use Rattle.std.proofs.Common.{◌≡◌, ◌∙◌, sym, subst, ℕ, Bool, true,
 use Rattle.std.proofs.lemmas.Bool.{true≢false}
 use Rattle.std.proofs.lemmas.Result.{on_ok_weaker}
 use Rattle.wire_runs.specs.Plan.{Plan, Event, event_of, node_of, same_node}
-use Rattle.wire_content.specs.Planned.{plan_of}
+use Rattle.wire_scripts.specs.Planned.{plan_of}
 use Rattle.wire_runs.specs.Races.{ComesSurely}
 use Rattle.wire_runs.proofs.Basics.{process_within}
-use Rattle.wire_races.specs.KeyRaces.{IsOpen, IsUnsure}
+use Rattle.wire_races.specs.KeyRaces.{IsOpenRead, IsUnsure}
 use Rattle.wire_races.proofs.Deliveries.{sure_none, adds_late}
 use Rattle.wire_races.proofs.key_races.add_delivery_races.Goals as goal
 
 pub node_of-node-requires : goal.node_of-node-requires
 node_of-node-requires c = rw c.plan.ensures (process_within (plan_of c.args.marked.now) c.args.asked.get_now.proc.number c.args.asked.get_now.at _ c.requires.get.is)
 
-is_unsure : (plan : Plan) (get : Event) (owner key node : ℕ) (sure : Bool) → IsOpen plan get owner key → same_node plan owner get.proc ≡ false → node ≡ node_of plan get.proc →
+is_unsure : (plan : Plan) (get : Event) (owner key node : ℕ) (sure : Bool) → IsOpenRead plan get owner key → same_node plan owner get.proc ≡ false → node ≡ node_of plan get.proc →
     (ComesSurely plan owner key node get → sure ≡ true) → sure ≡ false → IsUnsure plan get owner key
 is_unsure plan get owner key node sure opened other is told unsure =
     record { opened = opened; other = other; not_sure = λ s. true≢false (sym (told (subst (λ n. ComesSurely plan owner key n get) (sym is) s)) ∙ unsure) }

@@ -1,4 +1,4 @@
-use Rattle.wire_content.specs.Planned.{plan_of}
+use Rattle.wire_scripts.specs.Planned.{plan_of}
 use Rattle.wire_runs.proofs.Basics.{process_within}
 use Rattle.wire_races.proofs.KeyRaces.{owner_within}
 use Rattle.wire_races.proofs.key_races.add_get_now.Goals as goal

@@ -1,5 +1,5 @@
 use Rattle.std.proofs.lemmas.Result.{on_ok_weaker}
-use Rattle.wire_content.specs.Planned.{plan_of}
+use Rattle.wire_scripts.specs.Planned.{plan_of}
 use Rattle.wire_races.specs.KeyRaces.{IsKeyRaceIn}
 use Rattle.wire_races.proofs.Together.{all_found, key_pieces_added}
 use Rattle.wire_races.proofs.key_races.add_key_races.Goals as goal

@@ -1,7 +1,7 @@
 use Rattle.std.proofs.Common.{sym, subst}
 use Rattle.std.proofs.lemmas.Result.{on_ok_weaker}
 use Rattle.wire_runs.specs.Plan.{event_of, node_of}
-use Rattle.wire_content.specs.Planned.{plan_of}
+use Rattle.wire_scripts.specs.Planned.{plan_of}
 use Rattle.wire_fates.specs.Deliveries.{IsLate}
 use Rattle.wire_races.proofs.Deliveries.{late_race, one_late, not_late}
 use Rattle.wire_races.proofs.key_races.add_late.Goals as goal

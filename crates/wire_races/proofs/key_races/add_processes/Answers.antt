@@ -1,5 +1,5 @@
 use Rattle.std.proofs.Common.{◌+◌, ◌≤◌, arith}
-use Rattle.wire_content.specs.Planned.{plan_of}
+use Rattle.wire_scripts.specs.Planned.{plan_of}
 use Rattle.wire_races.specs.Adding.{ToldBetween}
 use Rattle.wire_races.specs.KeyRaces.{IsKeyRaceBy}
 use Rattle.wire_races.proofs.Deliveries.{race_within}

@@ -1,4 +1,4 @@
-use Rattle.wire_content.specs.Planned.{plan_of}
+use Rattle.wire_scripts.specs.Planned.{plan_of}
 use Rattle.wire_races.specs.Adding.{ToldBetween}
 use Rattle.wire_races.specs.KeyRaces.{IsKeyRaceBy, IsKeyRaceIn}
 use Rattle.wire_races.proofs.Deliveries.{race_below}

@@ -2,7 +2,7 @@ use Rattle.std.proofs.Common.{◌≡◌, ◌-◌, ap, subst, ◌∙◌, arith, I
 use Rattle.std.proofs.lemmas.Result.{IfOk-weaker}
 use Rattle.std.specs.List.{AllZip, range_with_len}
 use Rattle.rayon.specs.Numbers.{nat_range}
-use Rattle.wire_content.specs.Planned.{plan_of}
+use Rattle.wire_scripts.specs.Planned.{plan_of}
 use Rattle.wire_races.specs.KeyRaces.{HasPieces, IsKeyRaceIn, AreKeyPieces}
 use Rattle.wire_races.specs.Pieces.{IsPiece, ArePieces}
 use Rattle.wire_races.proofs.Together.{are_pieces}

@@ -1,7 +1,7 @@
 use Rattle.std.proofs.Common.{map}
 use Rattle.std.proofs.lemmas.Result.{on_ok_weaker}
 use Rattle.wire_runs.specs.Plan.{event_of}
-use Rattle.wire_content.specs.Planned.{plan_of}
+use Rattle.wire_scripts.specs.Planned.{plan_of}
 use Rattle.wire_races.proofs.Growing.{adds_same}
 use Rattle.wire_races.proofs.NameRaces.{all_race, with_all, with_those}
 use Rattle.wire_races.proofs.name_races.add_between.Goals as goal

@@ -2,8 +2,8 @@ use Rattle.std.proofs.Common.{◌∙◌, map, sym}
 use Rattle.std.proofs.lemmas.Bool.{true≢false}
 use Rattle.std.proofs.lemmas.Result.{on_ok_weaker}
 use Rattle.wire_runs.specs.Plan.{event_of}
-use Rattle.wire_content.specs.Planned.{plan_of}
-use Rattle.wire_races.specs.NameRaces.{IsRaceFrom, IsRaceWith}
+use Rattle.wire_scripts.specs.Planned.{plan_of}
+use Rattle.wire_races.specs.NameRaces.{IsRaceFrom, IsNameRaceWith}
 use Rattle.wire_races.proofs.Growing.{adds_none, adds_same}
 use Rattle.wire_races.proofs.NameRaces.{from_with, with_from, from_live}
 use Rattle.wire_races.proofs.name_races.add_call.Goals as goal
@@ -14,7 +14,7 @@ returns-then-live c =
     let name = c.args.x.name in
     let x = event_of c.args.x.event in
     let rivals = map event_of c.args.rivals.now in
-    on_ok_weaker c.add_rivals.result (λ h. adds_same plan c.args.found.now c.add_rivals.new.found (IsRaceWith plan name x rivals) (IsRaceFrom plan name x)
+    on_ok_weaker c.add_rivals.result (λ h. adds_same plan c.args.found.now c.add_rivals.new.found (IsNameRaceWith plan name x rivals) (IsRaceFrom plan name x)
     (from_with plan name x rivals c.requires.higher) (with_from plan name x rivals c.requires.all) h) c.add_rivals.ensures
 
 pub returns-else-live : goal.returns-else-live

@@ -1,8 +1,8 @@
 use Rattle.std.proofs.Common.{◌≡◌, map, take, sym, subst, arith}
 use Rattle.std.proofs.lemmas.List.{map_more, take_all}
 use Rattle.wire_runs.specs.Plan.{event_of}
-use Rattle.wire_content.specs.Planned.{plan_of}
-use Rattle.wire_races.specs.Adding.{Adds}
+use Rattle.wire_scripts.specs.Planned.{plan_of}
+use Rattle.wire_races.specs.Adding.{AddsFindings}
 use Rattle.wire_races.specs.NameRaces.{IsPlainRaceOn}
 use Rattle.wire_fates.proofs.Places.{place_at}
 use Rattle.wire_races.proofs.Growing.{adds_none, adds_same}
@@ -17,7 +17,7 @@ loop-event-preserved c =
     let plan = plan_of c.args.marked.now in
     let calls = c.name_calls-calls.result.now in
     let n = c.loop-event.event-index in
-    subst (λ l. Adds plan c.args.found.now c.add_call.new.found (IsRaceAmong plan c.args.name l)) (sym (map_more event_of calls n _ c.loop-event-test.true))
+    subst (λ l. AddsFindings plan c.args.found.now c.add_call.new.found (IsRaceAmong plan c.args.name l)) (sym (map_more event_of calls n _ c.loop-event-test.true))
     (with_more plan c.args.name (map event_of (take n calls)) _ c.args.found.now c.loop-event.found c.add_call.new.found c.loop-event.invariant c.in_ok-add_call.ensures)
 
 pub returns : goal.returns
@@ -28,7 +28,7 @@ returns c =
     let are = (rw c.plan-plan.ensures at c.name_calls-calls.ensures) in
     adds_same plan c.args.found.now c.loop-event.found (IsRaceAmong plan c.args.name (map event_of calls)) (IsPlainRaceOn plan c.args.name)
     (among_on plan c.args.name (map event_of calls) are) (on_among plan c.args.name (map event_of calls) are)
-    (subst (λ l. Adds plan c.args.found.now c.loop-event.found (IsRaceAmong plan c.args.name (map event_of l))) all c.loop-event.invariant)
+    (subst (λ l. AddsFindings plan c.args.found.now c.loop-event.found (IsRaceAmong plan c.args.name (map event_of l))) all c.loop-event.invariant)
 
 pub rivals_of-requires-clause-x : goal.rivals_of-requires-clause-x
 rivals_of-requires-clause-x c = rw c.plan-plan.ensures ((rw c.plan-plan.ensures at c.name_calls-calls.ensures).only c.loop-event.event-index _

@@ -1,7 +1,7 @@
 use Rattle.std.proofs.Common.{◌∙◌, ap, sym, refl, map, subst, option_copied, arith}
 use Rattle.wire_runs.specs.Plan.{event_of}
 use Rattle.wire_runs.proofs.Lists.{nil_from_no_first}
-use Rattle.wire_content.specs.Planned.{plan_of}
+use Rattle.wire_scripts.specs.Planned.{plan_of}
 use Rattle.wire_races.specs.NameRaces.{AreOf, AreRivals}
 use Rattle.wire_races.proofs.Lists.{both_parts}
 use Rattle.wire_races.proofs.NameRaces.{IsLeft, first_rivals, other_rivals, less_left, none_left}

@@ -1,6 +1,6 @@
 use Rattle.std.proofs.Common.{map, length}
 use Rattle.wire_runs.specs.Plan.{event_of}
-use Rattle.wire_content.specs.Planned.{plan_of}
+use Rattle.wire_scripts.specs.Planned.{plan_of}
 use Rattle.wire_findings.specs.Collected.{AreFound}
 use Rattle.wire_races.specs.NameRaces.{AreRivals}
 use Rattle.wire_races.proofs.NameRaces.{IsLeft}

@@ -3,9 +3,9 @@ use Rattle.std.proofs.lemmas.Bool.{true≢false}
 use Rattle.std.proofs.lemmas.List.{map_more, take_all}
 use Rattle.wire_runs.specs.Plan.{event_of}
 use Rattle.wire_types.specs.declared.Proc.{Proc}
-use Rattle.wire_content.specs.Planned.{plan_of}
-use Rattle.wire_content.specs.Scripts.{numbers_of}
-use Rattle.wire_races.specs.Adding.{Adds}
+use Rattle.wire_scripts.specs.Planned.{plan_of}
+use Rattle.wire_scripts.specs.Scripts.{numbers_of}
+use Rattle.wire_races.specs.Adding.{AddsFindings}
 use Rattle.wire_races.specs.NameRaces.{IsSweptRace}
 use Rattle.wire_races.proofs.Growing.{adds_none}
 use Rattle.wire_races.proofs.Lists.{number_at}
@@ -44,7 +44,7 @@ loop-proc-preserved c =
     let x = event_of c.args.x.event in
     let procs = c.args.procs.now in
     let n = c.loop-proc.proc-index in
-    subst (λ l. Adds plan c.args.found.now c.add_between.new.found (IsSweptRace plan name x l)) (sym (map_more (λ (p : Proc). p.number) procs n _ c.loop-proc-test.true))
+    subst (λ l. AddsFindings plan c.args.found.now c.add_between.new.found (IsSweptRace plan name x l)) (sym (map_more (λ (p : Proc). p.number) procs n _ c.loop-proc-test.true))
     (swept_more plan name x _ (map event_of c.find_facing.result.now) (rw c.plan-plan.ensures at c.find_facing.ensures) (numbers_of (take n procs)) c.args.found.now c.loop-proc.found
     c.add_between.new.found
     c.loop-proc.invariant c.in_ok-add_between.ensures)
@@ -54,4 +54,4 @@ returns c =
     let plan = plan_of c.args.marked.now in
     let procs = c.args.procs.now in
     let all : take c.loop-proc.proc-index procs ≡ procs = take_all c.loop-proc.proc-index procs (omega arith) in
-    subst (λ l. Adds plan c.args.found.now c.loop-proc.found (IsSweptRace plan c.args.x.name (event_of c.args.x.event) (numbers_of l))) all c.loop-proc.invariant
+    subst (λ l. AddsFindings plan c.args.found.now c.loop-proc.found (IsSweptRace plan c.args.x.name (event_of c.args.x.event) (numbers_of l))) all c.loop-proc.invariant

@@ -1,4 +1,4 @@
-use Rattle.wire_content.specs.Planned.{plan_of}
+use Rattle.wire_scripts.specs.Planned.{plan_of}
 use Rattle.wire_races.specs.NameRaces.{IsRaceOn}
 use Rattle.wire_races.proofs.Swept.{both_sorts}
 use Rattle.wire_races.proofs.Together.{piece_of}

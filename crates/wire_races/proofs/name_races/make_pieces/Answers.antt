@@ -1,7 +1,7 @@
 use Rattle.std.proofs.Common.{length, ◌≡◌, ◌-◌, ap, subst, ◌∙◌, arith, IfOk}
 use Rattle.std.specs.List.{AllZip, range_with_len}
 use Rattle.rayon.specs.Numbers.{nat_range}
-use Rattle.wire_content.specs.Planned.{plan_of}
+use Rattle.wire_scripts.specs.Planned.{plan_of}
 use Rattle.wire_races.specs.NameRaces.{IsRaceOn}
 use Rattle.wire_races.specs.Pieces.{IsPiece}
 use Rattle.wire_races.proofs.Together.{are_pieces}

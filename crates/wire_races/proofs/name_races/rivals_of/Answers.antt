@@ -1,7 +1,7 @@
 use Rattle.std.proofs.Common.{◌∙◌, map, sym}
 use Rattle.std.proofs.lemmas.Bool.{true≢false}
 use Rattle.wire_runs.specs.Plan.{event_of}
-use Rattle.wire_content.specs.Planned.{plan_of}
+use Rattle.wire_scripts.specs.Planned.{plan_of}
 use Rattle.wire_findings.proofs.Calls.{starts_within, starts_named}
 use Rattle.wire_races.proofs.Rivals.{all_calls, all_writers, changing, higher_calls, all_changing, reading, higher_writers, all_reading}
 use Rattle.wire_races.proofs.NameRaces.{plain_calls}

@@ -1,6 +1,6 @@
 use Rattle.std.proofs.Common.{map}
 use Rattle.wire_runs.specs.Plan.{event_of}
-use Rattle.wire_content.specs.Planned.{plan_of}
+use Rattle.wire_scripts.specs.Planned.{plan_of}
 use Rattle.wire_runs.specs.EventLists.{AreAll}
 use Rattle.wire_races.proofs.Rivals.{IsWriterBelow}
 use Rattle.wire_races.proofs.name_races.writers_of.Given as goal

@@ -2,7 +2,7 @@ use Rattle.std.proofs.Common.{◌∙◌, inl, inr, ⊎_elim, refl, subst, sym, �
 use Rattle.std.proofs.lemmas.Bool.{true≢false}
 use Rattle.std.proofs.lemmas.Result.{IfOk-weaker}
 use Rattle.wire_runs.specs.Plan.{Event, event_count}
-use Rattle.wire_content.specs.Planned.{plan_of}
+use Rattle.wire_scripts.specs.Planned.{plan_of}
 use Rattle.wire_races.proofs.Pairs.{first_there}
 use Rattle.wire_races.proofs.racing.are_racing.Goals as goal
 

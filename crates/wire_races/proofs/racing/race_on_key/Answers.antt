@@ -1,6 +1,6 @@
 use Rattle.std.proofs.Common.{subst, sym, ◌<◌}
 use Rattle.wire_runs.specs.Plan.{Event, event_count}
-use Rattle.wire_content.specs.Planned.{plan_of}
+use Rattle.wire_scripts.specs.Planned.{plan_of}
 use Rattle.wire_races.proofs.Pairs.{first_there, on_key}
 use Rattle.wire_races.proofs.racing.race_on_key.Goals as goal
 

@@ -1,5 +1,5 @@
 use Rattle.wire_runs.specs.Plan.{event_of}
-use Rattle.wire_content.specs.Planned.{plan_of}
+use Rattle.wire_scripts.specs.Planned.{plan_of}
 use Rattle.wire_races.proofs.Pairs.{one_contested}
 use Rattle.wire_races.proofs.racing.race_on_name.Goals as goal
 

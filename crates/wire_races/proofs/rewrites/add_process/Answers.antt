@@ -1,5 +1,5 @@
 use Rattle.std.proofs.Common.{◌+◌, arith}
-use Rattle.wire_content.specs.Planned.{plan_of}
+use Rattle.wire_scripts.specs.Planned.{plan_of}
 use Rattle.wire_races.specs.Rewriting.{IsRewriteBy}
 use Rattle.wire_races.proofs.Growing.{one_event}
 use Rattle.wire_races.proofs.rewrites.add_process.Goals as goal

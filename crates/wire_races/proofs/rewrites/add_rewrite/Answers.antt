@@ -1,6 +1,6 @@
 use Rattle.std.proofs.lemmas.Result.{on_ok_weaker}
 use Rattle.wire_runs.specs.Plan.{event_of}
-use Rattle.wire_content.specs.Planned.{plan_of}
+use Rattle.wire_scripts.specs.Planned.{plan_of}
 use Rattle.wire_races.proofs.Later.{shown_rewrite, adds_rewrite, adds_no_rewrite}
 use Rattle.wire_races.proofs.rewrites.add_rewrite.Goals as goal
 

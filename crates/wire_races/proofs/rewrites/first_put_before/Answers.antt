@@ -1,6 +1,6 @@
 use Rattle.std.proofs.Common.{◌∙◌, ap, subst, Some, arith}
 use Rattle.wire_runs.specs.Plan.{event_of}
-use Rattle.wire_content.specs.Planned.{plan_of}
+use Rattle.wire_scripts.specs.Planned.{plan_of}
 use Rattle.wire_plan.specs.Index.{IsFirstPut}
 use Rattle.wire_plan.specs.Kinds.{kind_of}
 use Rattle.wire_races.proofs.Later.{is_first, never_first}

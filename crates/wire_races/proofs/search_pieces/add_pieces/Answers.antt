@@ -3,7 +3,7 @@ use Rattle.std.specs.Vec.Iter.{into_iter_items}
 use Rattle.std.proofs.lemmas.List.{nil_from_length}
 use Rattle.wire_runs.proofs.Lists.{slice_get-append_right}
 use Rattle.wire_races.specs.Pieces.{IsInSome, AreAllFound}
-use Rattle.wire_races.specs.Adding.{Adds}
+use Rattle.wire_races.specs.Adding.{AddsFindings}
 use Rattle.wire_races.proofs.Adding.{appended}
 use Rattle.wire_races.proofs.Together.{some_more, none_more}
 use Rattle.wire_races.proofs.search_pieces.add_pieces.Goals as goal
@@ -40,4 +40,4 @@ returns c = λ plan found all.
     let empty : into_iter_items at.piece-iterator ≡ [] = nil_from_length _ (sym at.invariant.1 ∙ none.0) in
     let given = c.into_iter-piece-iterator.ensures.into_iter_gives.0 in
     let every = sym (append-nil at.yielded) ∙ rw empty at at.invariant.0 ∙ given in
-    subst (λ l. Adds plan c.args.found.now at.found (IsInSome plan l)) every (at.invariant.2 plan found (subst (λ l. AreAllFound plan l) (sym given) all))
+    subst (λ l. AddsFindings plan c.args.found.now at.found (IsInSome plan l)) every (at.invariant.2 plan found (subst (λ l. AreAllFound plan l) (sym given) all))

@@ -2,8 +2,8 @@ use Rattle.std.proofs.Common.{◌≡◌, map, take, sym, subst, arith}
 use Rattle.std.proofs.lemmas.List.{take_more, take_all}
 use Rattle.std.proofs.lemmas.List.Elements.{Contains-get_or}
 use Rattle.wire_runs.specs.Plan.{event_of}
-use Rattle.wire_content.specs.Planned.{plan_of}
-use Rattle.wire_races.specs.Adding.{Adds}
+use Rattle.wire_scripts.specs.Planned.{plan_of}
+use Rattle.wire_races.specs.Adding.{AddsFindings}
 use Rattle.wire_races.specs.SweepRaces.{IsRaceOnOne}
 use Rattle.wire_races.proofs.Growing.{adds_none}
 use Rattle.wire_races.proofs.SweepRaces.{none_on_none, one_name_more}
@@ -22,7 +22,7 @@ loop-share-preserved c =
     let those = map event_of c.args.those.now in
     let shares = c.args.shares.now in
     let n = c.loop-share.share-index in
-    subst (λ l. Adds plan c.args.found.now c.add_races.new.found (IsRaceOnOne plan x those l)) (sym (take_more shares n _ c.loop-share-test.true))
+    subst (λ l. AddsFindings plan c.args.found.now c.add_races.new.found (IsRaceOnOne plan x those l)) (sym (take_more shares n _ c.loop-share-test.true))
     (one_name_more plan x those (take n shares) _ c.args.found.now c.loop-share.found c.add_races.new.found c.loop-share.invariant c.in_ok-add_races.ensures)
 
 pub returns : goal.returns
@@ -30,4 +30,4 @@ returns c =
     let plan = plan_of c.args.plan.now in
     let shares = c.args.shares.now in
     let all : take c.loop-share.share-index shares ≡ shares = take_all c.loop-share.share-index shares (omega arith) in
-    subst (λ l. Adds plan c.args.found.now c.loop-share.found (IsRaceOnOne plan (event_of c.args.x) (map event_of c.args.those.now) l)) all c.loop-share.invariant
+    subst (λ l. AddsFindings plan c.args.found.now c.loop-share.found (IsRaceOnOne plan (event_of c.args.x) (map event_of c.args.those.now) l)) all c.loop-share.invariant

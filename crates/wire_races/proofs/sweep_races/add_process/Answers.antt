@@ -1,7 +1,7 @@
 use Rattle.std.proofs.Common.{◌∙◌, map, sym, subst, eqb-true}
 use Rattle.std.proofs.lemmas.Result.{on_ok_weaker}
 use Rattle.wire_runs.specs.Plan.{event_of}
-use Rattle.wire_content.specs.Planned.{plan_of}
+use Rattle.wire_scripts.specs.Planned.{plan_of}
 use Rattle.wire_plan.proofs.Tables.{none_swept}
 use Rattle.wire_races.specs.SweepRaces.{AreShared}
 use Rattle.wire_races.proofs.Growing.{adds_none}

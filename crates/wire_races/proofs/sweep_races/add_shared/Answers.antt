@@ -1,7 +1,7 @@
 use Rattle.std.proofs.Common.{◌∙◌, [], ◌++◌, ap, sym, refl, subst, option_copied, append-nil, append_assoc, arith}
 use Rattle.wire_runs.proofs.Lists.{nil_from_no_first}
-use Rattle.wire_content.specs.Planned.{plan_of}
-use Rattle.wire_races.specs.Adding.{Adds}
+use Rattle.wire_scripts.specs.Planned.{plan_of}
+use Rattle.wire_races.specs.Adding.{AddsFindings}
 use Rattle.wire_races.specs.SweepRaces.{AreShared, AreSharesOf, IsSharedRace}
 use Rattle.wire_races.proofs.Growing.{adds_none}
 use Rattle.wire_races.proofs.SweepRaces.{none_of_none, stretch_more, some_shared, first_shared}
@@ -46,4 +46,4 @@ returns c =
     let done = c.stretches.invariant.0 in
     let empty = nil_from_no_first c.stretches.rest.now (sym c.first.ensures.value ∙ ap option_copied c.in_default.is) in
     let all = c.stretches.invariant.1 ∙ ap (λ l. done ++ l) empty ∙ append-nil done in
-    subst (λ l. Adds plan c.args.found.now c.stretches.found (IsSharedRace plan p l)) (sym all) c.stretches.invariant.2
+    subst (λ l. AddsFindings plan c.args.found.now c.stretches.found (IsSharedRace plan p l)) (sym all) c.stretches.invariant.2

@@ -1,7 +1,7 @@
 use Rattle.std.proofs.Common.{◌≡◌, ◌+◌, refl, take, sym, subst, arith}
 use Rattle.std.proofs.lemmas.List.{map_more, take_all}
 use Rattle.wire_types.specs.declared.Proc.{Proc}
-use Rattle.wire_content.specs.Scripts.{numbers_of}
+use Rattle.wire_scripts.specs.Scripts.{numbers_of}
 use Rattle.wire_races.specs.SweepRaces.{AddsShares}
 use Rattle.wire_races.proofs.SweepRaces.{no_shares, one_share, same_shares}
 use Rattle.wire_races.proofs.sweep_races.add_shares.Goals as goal

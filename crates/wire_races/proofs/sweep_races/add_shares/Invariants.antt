@@ -1,5 +1,5 @@
 use Rattle.std.proofs.Common.{take}
-use Rattle.wire_content.specs.Scripts.{numbers_of}
+use Rattle.wire_scripts.specs.Scripts.{numbers_of}
 use Rattle.wire_races.specs.SweepRaces.{AddsShares}
 use Rattle.wire_races.proofs.sweep_races.add_shares.Given as goal
 

@@ -1,8 +1,8 @@
 use Rattle.std.proofs.Common.{◌≡◌, map, take, sym, subst, arith}
 use Rattle.std.proofs.lemmas.List.{map_more, take_all}
 use Rattle.wire_runs.specs.Plan.{event_of}
-use Rattle.wire_content.specs.Planned.{plan_of}
-use Rattle.wire_races.specs.Adding.{Adds}
+use Rattle.wire_scripts.specs.Planned.{plan_of}
+use Rattle.wire_races.specs.Adding.{AddsFindings}
 use Rattle.wire_races.specs.SweepRaces.{AreShared}
 use Rattle.wire_fates.proofs.Places.{place_at}
 use Rattle.wire_races.proofs.Growing.{adds_none}
@@ -27,7 +27,7 @@ loop-x-preserved c =
     let shares = c.args.shares.now in
     let sweeps = c.sweeps-sweeps.result.now in
     let n = c.loop-x.x-index in
-    subst (λ l. Adds plan c.args.found.now c.add_sweep.new.found (IsRaceOfOne plan l shares)) (sym (map_more event_of sweeps n _ c.loop-x-test.true))
+    subst (λ l. AddsFindings plan c.args.found.now c.add_sweep.new.found (IsRaceOfOne plan l shares)) (sym (map_more event_of sweeps n _ c.loop-x-test.true))
     (one_sweep_more plan shares (map event_of (take n sweeps)) _ c.args.found.now c.loop-x.found c.add_sweep.new.found c.loop-x.invariant c.in_ok-add_sweep.ensures)
 
 pub returns : goal.returns
@@ -37,4 +37,4 @@ returns c =
     let sweeps = c.sweeps-sweeps.result.now in
     let all : take c.loop-x.x-index sweeps ≡ sweeps = take_all c.loop-x.x-index sweeps (omega arith) in
     all_sweeps plan c.args.lower.number (map event_of sweeps) shares (rw c.plan.ensures at c.sweeps-sweeps.ensures) c.args.found.now c.loop-x.found
-    (subst (λ l. Adds plan c.args.found.now c.loop-x.found (IsRaceOfOne plan (map event_of l) shares)) all c.loop-x.invariant)
+    (subst (λ l. AddsFindings plan c.args.found.now c.loop-x.found (IsRaceOfOne plan (map event_of l) shares)) all c.loop-x.invariant)

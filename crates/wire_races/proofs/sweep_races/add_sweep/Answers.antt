@@ -2,7 +2,7 @@ use Rattle.std.proofs.Common.{◌∙◌, map, sym, eqb-true}
 use Rattle.std.proofs.lemmas.Bool.{true≢false}
 use Rattle.std.proofs.lemmas.Result.{on_ok_weaker}
 use Rattle.wire_runs.specs.Plan.{event_of}
-use Rattle.wire_content.specs.Planned.{plan_of}
+use Rattle.wire_scripts.specs.Planned.{plan_of}
 use Rattle.wire_races.proofs.Growing.{adds_none, adds_same}
 use Rattle.wire_races.proofs.SweepRaces.{sweep_live, swept_stretch, all_race_on, with_sweeps, on_one, none_on, nothing_in}
 use Rattle.wire_races.proofs.sweep_races.add_sweep.Goals as goal

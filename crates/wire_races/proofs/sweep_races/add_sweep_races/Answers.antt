@@ -1,6 +1,6 @@
 use Rattle.std.proofs.Common.{◌≡◌, ◌∙◌, ◌+◌, arith}
 use Rattle.wire_runs.specs.Plan.{process_count}
-use Rattle.wire_content.specs.Planned.{plan_of}
+use Rattle.wire_scripts.specs.Planned.{plan_of}
 use Rattle.wire_races.proofs.Growing.{adds_none}
 use Rattle.wire_races.proofs.SweepRaces.{none_below, one_process_more, every_process}
 use Rattle.wire_races.proofs.sweep_races.add_sweep_races.Goals as goal

@@ -5,7 +5,7 @@ use Rattle.std.proofs.lemmas.Option.{same_Some}
 use Rattle.std.specs.Prelude.{slice_get}
 use Rattle.wire_runs.specs.Plan.{Event, event_of, event_count}
 use Rattle.wire_runs.specs.Names.{publishes}
-use Rattle.wire_content.specs.Planned.{plan_of}
+use Rattle.wire_scripts.specs.Planned.{plan_of}
 use Rattle.wire_plan.proofs.Published.{publisher}
 use Rattle.wire_fates.proofs.Places.{place_at}
 use Rattle.wire_races.proofs.Swept.{none_publishes}

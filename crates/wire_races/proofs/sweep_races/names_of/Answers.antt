@@ -4,7 +4,7 @@ use Rattle.std.proofs.lemmas.List.Kept.{Contains-dedup_nat, Contains-from_dedup}
 use Rattle.std.proofs.lemmas.List.Sorted.{Contains-permutation, IsPermutation-sym}
 use Rattle.std.proofs.lemmas.Map.Keys.{IsStrictlyIncreasing-dedup}
 use Rattle.wire_runs.specs.Plan.{event_count}
-use Rattle.wire_content.specs.Planned.{plan_of}
+use Rattle.wire_scripts.specs.Planned.{plan_of}
 use Rattle.wire_races.proofs.SweepRaces.{ArePublishedBelow, IsPublished, none_published, one_published, no_published}
 use Rattle.wire_races.proofs.sweep_races.names_of.Goals as goal
 use Rattle.wire_races.proofs.sweep_races.names_of.Goals.{in-Some+in_ok-push, in_default}

@@ -1,4 +1,4 @@
-use Rattle.wire_content.specs.Planned.{plan_of}
+use Rattle.wire_scripts.specs.Planned.{plan_of}
 use Rattle.wire_races.proofs.SweepRaces.{ArePublishedBelow}
 use Rattle.wire_races.proofs.sweep_races.names_of.Given as goal
 

@@ -4,8 +4,8 @@ use Rattle.std.proofs.lemmas.List.Sorted.{IsNonDecreasingBy-from_sort_by_key}
 use Rattle.wire_races.specs.declared.sweep_races.Share.{Share}
 use Rattle.wire_races.proofs.SweepRaces.{moved_shares}
 use Rattle.std.proofs.lemmas.List.{take_more, take_all}
-use Rattle.wire_content.specs.Planned.{plan_of}
-use Rattle.wire_content.specs.Scripts.{numbers_of}
+use Rattle.wire_scripts.specs.Planned.{plan_of}
+use Rattle.wire_scripts.specs.Scripts.{numbers_of}
 use Rattle.wire_races.specs.SweepRaces.{AreShares}
 use Rattle.wire_races.proofs.SweepRaces.{none_shared, name_shared}
 use Rattle.wire_races.proofs.sweep_races.shares_of.Goals as goal

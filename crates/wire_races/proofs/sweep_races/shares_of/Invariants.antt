@@ -1,5 +1,5 @@
 use Rattle.std.proofs.Common.{take}
-use Rattle.wire_content.specs.Planned.{plan_of}
+use Rattle.wire_scripts.specs.Planned.{plan_of}
 use Rattle.wire_races.specs.SweepRaces.{AreShares}
 use Rattle.wire_races.proofs.sweep_races.shares_of.Given as goal
 

@@ -2,8 +2,8 @@ use Rattle.std.proofs.Common.{◌∙◌, ◌+◌, ap, map, sym, subst, arith}
 use Rattle.std.proofs.lemmas.List.{length-map, map-append}
 use Rattle.wire_runs.specs.Plan.{event_of}
 use Rattle.wire_types.specs.declared.Proc.{Proc}
-use Rattle.wire_content.specs.Planned.{plan_of}
-use Rattle.wire_content.specs.Scripts.{numbers_of}
+use Rattle.wire_scripts.specs.Planned.{plan_of}
+use Rattle.wire_scripts.specs.Scripts.{numbers_of}
 use Rattle.wire_fates.proofs.Places.{place_at}
 use Rattle.wire_races.proofs.Swept.{AreSweepersTo, IsKnown, sweepers_same, sweepers_more, sweepers_all}
 use Rattle.wire_races.proofs.sweep_races.sweepers_of.Goals as goal

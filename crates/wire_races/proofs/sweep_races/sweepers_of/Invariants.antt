@@ -1,7 +1,7 @@
 use Rattle.std.proofs.Common.{map}
 use Rattle.wire_runs.specs.Plan.{event_of}
-use Rattle.wire_content.specs.Planned.{plan_of}
-use Rattle.wire_content.specs.Scripts.{numbers_of}
+use Rattle.wire_scripts.specs.Planned.{plan_of}
+use Rattle.wire_scripts.specs.Scripts.{numbers_of}
 use Rattle.wire_races.proofs.Swept.{AreSweepersTo}
 use Rattle.wire_races.proofs.sweep_races.sweepers_of.Given as goal
 

@@ -2,7 +2,7 @@ use Rattle.std.proofs.Common.{◌∙◌, sym, subst, map, List, true, false}
 use Rattle.std.proofs.lemmas.Result.{IfOk-weaker}
 use Rattle.wire_runs.specs.Plan.{event_of}
 use Rattle.wire_types.specs.declared.Event.{Event}
-use Rattle.wire_content.specs.Planned.{plan_of}
+use Rattle.wire_scripts.specs.Planned.{plan_of}
 use Rattle.wire_report.specs.Chain.{chain_form}
 use Rattle.wire_report.specs.There.{AreThere}
 use Rattle.wire_report.proofs.Chains.{shown_there, tells_before, tells_after, tells_unordered, none_of}

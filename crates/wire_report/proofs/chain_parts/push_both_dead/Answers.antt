@@ -1,5 +1,5 @@
 use Rattle.std.proofs.lemmas.Result.{on_ok_weaker}
-use Rattle.wire_content.specs.Planned.{plan_of}
+use Rattle.wire_scripts.specs.Planned.{plan_of}
 use Rattle.wire_report.specs.Chain.{OfOne}
 use Rattle.wire_report.proofs.Chains.{two_dead}
 use Rattle.wire_report.proofs.chain_parts.push_both_dead.Goals as goal

@@ -1,7 +1,7 @@
 use Rattle.std.proofs.Common.{[], ◌∷◌, sym, refl, subst}
 use Rattle.std.proofs.lemmas.List.{append-nil}
 use Rattle.wire_runs.specs.Order.{Live}
-use Rattle.wire_content.specs.Planned.{plan_of}
+use Rattle.wire_scripts.specs.Planned.{plan_of}
 use Rattle.wire_report.specs.Chain.{Dead, Alive}
 use Rattle.wire_report.proofs.chain_parts.push_dead.Goals as goal
 

@@ -1,6 +1,6 @@
 use Rattle.std.proofs.Common.{◌≡◌, ◌∙◌, ◌++◌, ap, sym, append_assoc, codes}
 use Rattle.wire_runs.specs.Plan.{kind, event_of}
-use Rattle.wire_content.specs.Planned.{plan_of}
+use Rattle.wire_scripts.specs.Planned.{plan_of}
 use Rattle.wire_words.specs.Words.{call_text}
 use Rattle.wire_report.specs.Chain.{half_text, half_line}
 use Rattle.wire_report.proofs.Appended.{then_more, last_slice}

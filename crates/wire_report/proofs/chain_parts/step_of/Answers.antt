@@ -1,6 +1,6 @@
 use Rattle.std.proofs.Common.{◌≡◌, ◌∙◌, ap, sym}
 use Rattle.wire_runs.specs.Plan.{kind, event_of}
-use Rattle.wire_content.specs.Planned.{plan_of}
+use Rattle.wire_scripts.specs.Planned.{plan_of}
 use Rattle.wire_report.specs.Chain.{half_of}
 use Rattle.wire_report.proofs.chain_parts.step_of.Goals as goal
 

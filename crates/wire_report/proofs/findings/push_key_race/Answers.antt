@@ -1,5 +1,5 @@
 use Rattle.std.proofs.Common.{◌∙◌, ◌++◌, ap, append_assoc, sym, codes, arith}
-use Rattle.wire_content.specs.Scripts.{text_at}
+use Rattle.wire_scripts.specs.Scripts.{text_at}
 use Rattle.wire_words.specs.Words.{call_text, name_of}
 use Rattle.wire_report.proofs.Appended.{then_more, last_more, no_room_at_first, no_room_early, no_room_early_slice, no_room_at_last}
 use Rattle.wire_report.proofs.Parts.{three, key_rest_parts}

@@ -1,5 +1,5 @@
 use Rattle.std.proofs.Common.{◌∙◌, ◌+◌, ◌++◌, ap, append_assoc, sym, codes, decimal, arith}
-use Rattle.wire_content.specs.Scripts.{call_at}
+use Rattle.wire_scripts.specs.Scripts.{call_at}
 use Rattle.wire_report.specs.Findings.{put_key_text}
 use Rattle.wire_report.proofs.Appended.{then_more, last_more, no_room_for_slice, no_room_early, no_room_at_last}
 use Rattle.wire_report.proofs.Parts.{three}

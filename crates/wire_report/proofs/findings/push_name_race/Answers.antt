@@ -1,5 +1,5 @@
 use Rattle.std.proofs.Common.{◌∙◌, ◌++◌, ap, codes, arith, refl}
-use Rattle.wire_content.specs.Scripts.{text_at}
+use Rattle.wire_scripts.specs.Scripts.{text_at}
 use Rattle.wire_words.specs.Words.{call_text}
 use Rattle.wire_report.proofs.Appended.{then_more, last_slice, no_room_at_first, no_room_early_slice, no_room_for_last_slice}
 use Rattle.wire_report.proofs.Parts.{name_rest_parts}

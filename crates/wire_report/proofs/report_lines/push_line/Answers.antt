@@ -1,7 +1,7 @@
 use Rattle.std.proofs.Common.{◌∙◌, ◌++◌, codes, decimal}
-use Rattle.wire_content.specs.Canonical.{process_text}
+use Rattle.wire_scripts.specs.Canonical.{process_text}
 use Rattle.wire_words.specs.Words.{end_text}
-use Rattle.wire_report.specs.Shown.{count_text, end_line}
+use Rattle.wire_report.specs.Views.{count_text, end_line}
 use Rattle.wire_report.proofs.Appended.{then_more, last_more}
 use Rattle.wire_report.proofs.Parts.{call_line_parts}
 use Rattle.wire_report.proofs.report_lines.push_line.Goals as goal

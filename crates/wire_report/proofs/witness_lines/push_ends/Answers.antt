@@ -1,4 +1,4 @@
-use Rattle.wire_report.specs.Shown.{end_line}
+use Rattle.wire_report.specs.Views.{end_line}
 use Rattle.std.proofs.Common.{◌++◌}
 use Rattle.wire_report.proofs.Appended.{last_more}
 use Rattle.wire_report.proofs.witness_lines.push_ends.Goals as goal

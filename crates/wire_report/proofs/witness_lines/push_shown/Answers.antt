@@ -1,5 +1,5 @@
 use Rattle.std.proofs.Common.{◌∙◌, ◌++◌, codes}
-use Rattle.wire_report.specs.Shown.{shown_by}
+use Rattle.wire_report.specs.Views.{shown_by}
 use Rattle.wire_report.proofs.Appended.{then_more, last_slice}
 use Rattle.wire_report.proofs.witness_lines.push_shown.Goals as goal
 

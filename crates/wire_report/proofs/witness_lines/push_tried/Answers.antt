@@ -1,6 +1,6 @@
 use Rattle.std.proofs.Common.{append_assoc, codes}
 use Rattle.wire_report.specs.Findings.{finding_words}
-use Rattle.wire_report.specs.Shown.{verdict_text}
+use Rattle.wire_report.specs.Views.{verdict_text}
 use Rattle.wire_report.proofs.Appended.{then_more, last_slice}
 use Rattle.wire_report.proofs.witness_lines.push_tried.Goals as goal
 

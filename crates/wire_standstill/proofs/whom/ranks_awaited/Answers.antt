@@ -1,7 +1,7 @@
 use Rattle.std.proofs.Common.{◌≡◌, ◌∙◌, ◌≤◌, [], sym, ap, subst, arith}
 use Rattle.wire_runs.specs.Plan.{Event, event_count}
 use Rattle.wire_runs.proofs.Basics.{event_past}
-use Rattle.wire_content.specs.Planned.{plan_of}
+use Rattle.wire_scripts.specs.Planned.{plan_of}
 use Rattle.wire_core.specs.Course.{plan_in, state_of}
 use Rattle.wire_standstill.specs.Standstill.{AreWaitedBy}
 use Rattle.wire_standstill.proofs.Awaited.{none_awaited}

@@ -3,7 +3,7 @@ use Rattle.std.specs.Prelude.{option_map}
 use Rattle.std.specs.Option.{option_to_list}
 use Rattle.wire_runs.specs.Plan.{event_of, kind}
 use Rattle.wire_runs.specs.State.{next_event}
-use Rattle.wire_content.specs.Planned.{plan_of}
+use Rattle.wire_scripts.specs.Planned.{plan_of}
 use Rattle.wire_plan.specs.Kinds.{kind_of}
 use Rattle.wire_plan.specs.Index.{AreSources, previous_of}
 use Rattle.wire_core.specs.Course.{state_of}

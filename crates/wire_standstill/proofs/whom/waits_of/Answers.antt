@@ -1,7 +1,7 @@
 use Rattle.std.proofs.Common.{◌≡◌, ◌∙◌, ◌≤◌, ◌+◌, ◌∷◌, [], length, sym, ap, subst, arith, length-append}
 use Rattle.wire_types.specs.declared.Proc.{Proc}
 use Rattle.wire_runs.specs.Plan.{process_count}
-use Rattle.wire_content.specs.Planned.{plan_of}
+use Rattle.wire_scripts.specs.Planned.{plan_of}
 use Rattle.wire_core.specs.Course.{plan_in, state_of}
 use Rattle.wire_standstill.specs.Standstill.{AreWaitedBy}
 use Rattle.wire_standstill.proofs.Awaited.{table_more, table_whole}

@@ -1,7 +1,7 @@
 use Rattle.std.proofs.Common.{◌≡◌, ◌<◌, ◌==◌, ℕ, length}
 use Rattle.std.specs.Prelude.{if◌then◌else◌}
 use Rattle.wire_runs.specs.Plan.{event_count}
-use Rattle.wire_content.specs.Planned.{plan_of}
+use Rattle.wire_scripts.specs.Planned.{plan_of}
 use Rattle.wire_core.specs.Within.{limit_at}
 use Rattle.wire_witness.proofs.runs.limits_before.Given as goal
 

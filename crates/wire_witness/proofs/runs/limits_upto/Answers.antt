@@ -1,8 +1,8 @@
 use Rattle.std.proofs.Common.{ap, subst, length, arith}
 use Rattle.wire_types.specs.declared.Proc.{Proc}
 use Rattle.wire_runs.specs.Plan.{event_of, process_count}
-use Rattle.wire_content.specs.Planned.{plan_of}
-use Rattle.wire_marks.specs.Clocks.{IsClockOf}
+use Rattle.wire_scripts.specs.Planned.{plan_of}
+use Rattle.wire_happens_before.specs.Clocks.{IsClockOf}
 use Rattle.wire_witness.proofs.Made.{counted_more, one_limit_more, live_or_not}
 use Rattle.wire_witness.proofs.runs.limits_upto.Goals as goal
 

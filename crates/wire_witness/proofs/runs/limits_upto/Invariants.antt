@@ -1,7 +1,7 @@
 use Rattle.std.proofs.Common.{◌≡◌, ◌<◌, ℕ, length}
 use Rattle.wire_runs.specs.Plan.{event_of}
-use Rattle.wire_content.specs.Planned.{plan_of}
-use Rattle.wire_marks.specs.Clocks.{IsClockOf}
+use Rattle.wire_scripts.specs.Planned.{plan_of}
+use Rattle.wire_happens_before.specs.Clocks.{IsClockOf}
 use Rattle.wire_core.specs.Within.{limit_at}
 use Rattle.wire_witness.proofs.runs.limits_upto.Given as goal
 

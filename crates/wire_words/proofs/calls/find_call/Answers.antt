@@ -1,7 +1,7 @@
 use Rattle.std.proofs.Common.{◌≡◌, ◌∙◌, ◌<◌, ◌≤◌, ℕ, ap, sym, refl, List, length, get_or, Bor, Option, Some, None, IfSome, MatchOption, option_copied, slice_get}
 use Rattle.std.proofs.lemmas.Option.{slice_get_read, slice_get_past}
 use Rattle.wire_types.specs.declared.Call.{Call}
-use Rattle.wire_content.specs.Scripts.{calls_in}
+use Rattle.wire_scripts.specs.Scripts.{calls_in}
 use Rattle.wire_words.proofs.calls.find_call.Goals as goal
 
 -- what `get` gives of a list of calls

@@ -1,7 +1,7 @@
 use Rattle.std.proofs.Common.{◌≡◌, ◌<◌, ◌+◌, ◌++◌, ◌∙◌, ap, sym, refl, subst, length, append-nil, arith, Option, Some, slice_get, OnOk, OnErr}
 use Rattle.std.proofs.lemmas.Option.{slice_get_read, slice_get_past}
 use Rattle.std.specs.Vec.{vec_capacity}
-use Rattle.wire_content.specs.Scripts.{Process}
+use Rattle.wire_scripts.specs.Scripts.{Process}
 use Rattle.wire_words.specs.Words.{text_of_process}
 use Rattle.wire_words.proofs.calls.push_proc.Goals as goal
 

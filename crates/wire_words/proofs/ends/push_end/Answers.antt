@@ -2,7 +2,7 @@ use Rattle.std.proofs.Common.{◌≡◌, ◌∙◌, ap, sym, refl, ℕ, List, �
 use Rattle.std.proofs.lemmas.Result.{on_ok_weaker}
 use Rattle.wire_types.specs.declared.Value.{Value}
 use Rattle.wire_types.specs.declared.Value.TheVariants as value
-use Rattle.wire_content.specs.Scripts.{Scripts}
+use Rattle.wire_scripts.specs.Scripts.{Scripts}
 use Rattle.wire_words.specs.Words.{value_text, value_part}
 use Rattle.wire_words.proofs.ends.push_end.Goals as goal
 

@@ -1,6 +1,6 @@
 use Rattle.std.proofs.Common.{◌≡◌, ◌≤◌, ◌+◌, suc, subst, arith}
 use Rattle.wire_runs.specs.Plan.{process_count}
-use Rattle.wire_content.specs.Planned.{plan_of}
+use Rattle.wire_scripts.specs.Planned.{plan_of}
 use Rattle.wire_anywhere.specs.Gets.{AreGetsTo}
 use Rattle.wire_anywhere.proofs.KeptGets.{plan_added}
 use Rattle.wire_anywhere.proofs.gets.GetTable.add_all.Goals as goal

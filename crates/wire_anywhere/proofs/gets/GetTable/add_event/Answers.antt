@@ -1,6 +1,6 @@
 use Rattle.std.proofs.Common.{◌∙◌, ap, sym, Some}
 use Rattle.std.proofs.lemmas.Option.{same_Some}
-use Rattle.wire_content.specs.Planned.{plan_of}
+use Rattle.wire_scripts.specs.Planned.{plan_of}
 use Rattle.wire_plan.specs.Kinds.{kind_of}
 use Rattle.wire_anywhere.proofs.KeptGets.{get_added, nothing_added}
 use Rattle.wire_plan.proofs.KeptGets.{no_get}

@@ -3,7 +3,7 @@ use Rattle.std.specs.Prelude.{option_map}
 use Rattle.std.proofs.lemmas.Option.{slice_get-map}
 use Rattle.wire_runs.specs.Plan.{event_of, node_of}
 use Rattle.wire_runs.proofs.Basics.{process_within}
-use Rattle.wire_content.specs.Planned.{plan_of}
+use Rattle.wire_scripts.specs.Planned.{plan_of}
 use Rattle.wire_plan.specs.Index.{AreGetDeliveries}
 use Rattle.wire_anywhere.proofs.KeptGets.{none_at_all, none_carrying, all_carrying, none_first, no_events, some_events}
 use Rattle.wire_anywhere.proofs.gets.GetTable.carrying.Goals as goal

@@ -1,10 +1,10 @@
 use Rattle.std.proofs.Common.{◌↔◌, subst, rules}
 use Rattle.std.specs.Ordering.{is_lt}
 use Rattle.std.proofs.lemmas.Fn.{dedup_same, always_returns_same}
-use Rattle.wire_runs.specs.FindingsAnywhere.{Placed, IsPlacedSorted}
+use Rattle.wire_runs.specs.FindingsAnywhere.{PlacementFinding, IsPlacedSorted}
 use Rattle.wire_findings.specs.Findings.{lower_name}
 use Rattle.wire_anywhere.specs.Anywhere.{all_placed}
-use Rattle.wire_anywhere.specs.Adding.{Tells, AreSomewhere}
+use Rattle.wire_anywhere.specs.Adding.{TellsPlacementFinding, AreSomewhere}
 use Rattle.wire_anywhere.specs.Order.{placed_cmp}
 use Rattle.wire_anywhere.proofs.Order.{same_placed, placed_rank, list_tells, list_sorted}
 use Rattle.wire_anywhere.proofs.placed.PlacedList.in_order.Goals as goal
@@ -15,7 +15,7 @@ returns-clause-those c = λ plan of.
     let met = c.self.inside.entries.items in
     let list = c.dedup_by.new.self.items in
     let once = dedup_same _ (same_placed names) _ (λ x y b f' x' y' k. search rules) _ _ c.dedup_by.ensures.filtered in
-    subst (λ l. AreSomewhere plan l → (f : Placed) → Tells plan list f ↔ Tells plan l f) c.self.view_is
+    subst (λ l. AreSomewhere plan l → (f : PlacementFinding) → TellsPlacementFinding plan list f ↔ TellsPlacementFinding plan l f) c.self.view_is
     (list_tells plan names of met c.sort_unstable_by.new.self.items list c.sort_unstable_by.ensures.permutation once)
 
 pub returns-clause-sorted : goal.returns-clause-sorted

@@ -1,4 +1,4 @@
-use Rattle.wire_content.specs.Planned.{plan_of}
+use Rattle.wire_scripts.specs.Planned.{plan_of}
 use Rattle.wire_board.specs.Seats.{hold_of}
 use Rattle.wire_board.proofs.Cuts.{shown_implied}
 use Rattle.wire_board.proofs.board.Board.advance.Goals as goal

@@ -1,6 +1,6 @@
 use Rattle.std.proofs.Common.{◌-◌, length}
 use Rattle.wire_runs.specs.Plan.{event_count}
-use Rattle.wire_content.specs.Planned.{plan_of}
+use Rattle.wire_scripts.specs.Planned.{plan_of}
 use Rattle.wire_board.specs.Lanes.{SameLane}
 use Rattle.wire_board.proofs.Trails.{IsLonger}
 use Rattle.wire_board.proofs.lane.Lane.advance_far.Given as goal

@@ -2,7 +2,7 @@ use Rattle.std.proofs.Common.{◌∙◌, ap, sym, refl, subst}
 use Rattle.std.proofs.lemmas.Bool.{true≢false}
 use Rattle.std.specs.Prelude.{option_map}
 use Rattle.wire_runs.specs.Plan.{event_of}
-use Rattle.wire_content.specs.Planned.{plan_of}
+use Rattle.wire_scripts.specs.Planned.{plan_of}
 use Rattle.wire_plan.specs.Index.{source_list}
 use Rattle.wire_board.specs.Cuts.{skip_shown, ShowsSources}
 use Rattle.wire_board.specs.Seats.{next_of}

@@ -1,5 +1,5 @@
 use Rattle.std.proofs.Common.{length}
-use Rattle.wire_content.specs.Planned.{plan_of}
+use Rattle.wire_scripts.specs.Planned.{plan_of}
 use Rattle.wire_plan.specs.Index.{source_list}
 use Rattle.wire_board.specs.Lanes.{HasRead, AreLeft}
 use Rattle.wire_board.proofs.lane.Lane.finds_all.Given as goal

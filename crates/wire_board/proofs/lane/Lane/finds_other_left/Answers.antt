@@ -1,7 +1,7 @@
 use Rattle.std.proofs.Common.{◌∙◌, sym, subst}
 use Rattle.wire_runs.specs.Plan.{Event, event_of}
-use Rattle.wire_content.specs.Scripts.{Scripts}
-use Rattle.wire_content.specs.Planned.{plan_of}
+use Rattle.wire_scripts.specs.Scripts.{Scripts}
+use Rattle.wire_scripts.specs.Planned.{plan_of}
 use Rattle.wire_board.specs.Lanes.{WaitsForMore}
 use Rattle.wire_board.proofs.Looking.{plan_told, plan_still, next_still}
 use Rattle.wire_board.proofs.Leaving.{all_implied}

@@ -1,6 +1,6 @@
 use Rattle.std.proofs.Common.{◌∙◌, ap, sym, subst}
 use Rattle.std.specs.Prelude.{◌≢◌}
-use Rattle.wire_content.specs.Planned.{plan_of}
+use Rattle.wire_scripts.specs.Planned.{plan_of}
 use Rattle.wire_fates.specs.declared.Fate.TheVariants.{Waits}
 use Rattle.wire_fates.specs.Fates.{IsFateOf}
 use Rattle.wire_board.specs.Seats.{BoardIs, next_of}

@@ -1,6 +1,6 @@
 use Rattle.std.proofs.Common.{◌<◌, ◌∙◌, IfSome, sym, subst}
 use Rattle.wire_runs.specs.Plan.{event_of, event_count}
-use Rattle.wire_content.specs.Planned.{plan_of}
+use Rattle.wire_scripts.specs.Planned.{plan_of}
 use Rattle.wire_plan.specs.Index.{AreSources, source_list}
 use Rattle.wire_board.specs.Lanes.{LaneIs, AreLeft}
 use Rattle.wire_board.proofs.Looking.{plan_told, lane_plan, left_first}

@@ -1,5 +1,5 @@
 use Rattle.std.proofs.Common.{◌≡◌, ap, subst, vec_len}
-use Rattle.wire_content.specs.Planned.{plan_of}
+use Rattle.wire_scripts.specs.Planned.{plan_of}
 use Rattle.wire_board.specs.Lanes.{LanesAre, AreUnlocked}
 use Rattle.wire_board.proofs.Told.{told_trails, told_of_lanes}
 use Rattle.wire_board.proofs.lanes.Lanes.trails.Goals as goal

@@ -2,7 +2,7 @@ use Rattle.std.proofs.Common.{◌≡◌, ◌∙◌, ◌<◌, ◌==◌, ◌^◌, 
 use Rattle.std.proofs.lemmas.Result.{IfOk-weaker}
 use Rattle.std.specs.Prelude.{IfOk, true, if◌then◌else◌}
 use Rattle.wire_clocks.specs.declared.notes.Note.{Note}
-use Rattle.wire_clocks.specs.Notes.{raised_at, clock_number, clock_stands, IsNoted}
+use Rattle.wire_clocks.specs.Notes.{raised_at, clock_number, clock_stands, IsNotedClock}
 use Rattle.wire_clocks.specs.ClockTrees.{says, IsRoot, Holds}
 use Rattle.wire_clocks.specs.Trees.{clocks_of}
 use Rattle.wire_clocks.proofs.Noting.{noted_stands, noted_number}
@@ -34,7 +34,7 @@ returns-clause-root c =
     let are = trees_kept c.self.inside.rows.items new height c.self.invariant c.in_ok-below.ensures.keeps in
     let low = subst (λ clocks. Holds clocks c.args.process) (sym c.self.view_is) c.requires.process in
     let stands = subst (λ notes. clock_stands new notes height 15 c.in_ok-below.below ≡ true) c.deref.ensures.value c.in_ok-below.ensures.stands in
-    IfOk-weaker c.add_note.result (IsNoted ns ns' note) (λ r. IsRoot (clocks_of new ns' height) r)
+    IfOk-weaker c.add_note.result (IsNotedClock ns ns' note) (λ r. IsRoot (clocks_of new ns' height) r)
     (λ r noted. root_of_clock new ns' height r are (noted_stands new ns ns' height r note are.zero c.add_note.ensures.keeps noted low stands)) c.add_note.ensures.noted
 
 pub returns-clause-says : goal.returns-clause-says
@@ -55,7 +55,7 @@ returns-clause-says c =
     let each : (q : ℕ) → q < 16 ^ height → clock_number new ns height 15 below q ≡ clock_number old ns height 16 root q = λ q inside.
     subst (λ notes. clock_number new notes height 15 below q ≡ clock_number old notes height 16 root q) c.deref.ensures.value (c.in_ok-below.ensures.says q inside) in
     subst (λ clocks. IfOk c.add_note.result (λ r. (q : ℕ) → says (clocks_of new ns' height) r q ≡ (if q == process then max (says clocks root q) number else says clocks root q))) c.self.view_is
-    (IfOk-weaker c.add_note.result (IsNoted ns ns' note) (λ r. (q : ℕ) → says (clocks_of new ns' height) r q
+    (IfOk-weaker c.add_note.result (IsNotedClock ns ns' note) (λ r. (q : ℕ) → says (clocks_of new ns' height) r q
     ≡ (if q == process then max (says (clocks_of old ns height) root q) number else says (clocks_of old ns height) root q))
     (λ r noted. noted_says old new ns ns' height root r process number c.self.invariant are low
     (λ q inside. noted_number new ns ns' height r q note are.zero c.add_note.ensures.keeps noted stands ∙ ap (raised_at process number q) (each q inside))) c.add_note.ensures.noted)

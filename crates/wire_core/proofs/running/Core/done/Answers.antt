@@ -1,7 +1,7 @@
 use Rattle.std.proofs.Common.{map, ◌≤◌, sym, refl, arith, length}
 use Rattle.std.proofs.lemmas.Option.{slice_get_read}
 use Rattle.wire_runs.specs.Plan.{process_count}
-use Rattle.wire_content.specs.Planned.{plan_of}
+use Rattle.wire_scripts.specs.Planned.{plan_of}
 use Rattle.wire_core.proofs.Ranks.{done_past}
 use Rattle.wire_core.proofs.running.Core.done.Goals as goal
 

@@ -1,4 +1,4 @@
-use Rattle.wire_content.specs.Planned.{plan_of}
+use Rattle.wire_scripts.specs.Planned.{plan_of}
 use Rattle.wire_core.specs.Course.{state_of}
 use Rattle.wire_core.proofs.Ranks.{ended_tells}
 use Rattle.wire_core.proofs.running.Core.ended.Goals as goal

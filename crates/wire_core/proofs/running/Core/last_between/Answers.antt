@@ -1,6 +1,6 @@
 use Rattle.std.proofs.Common.{◌≡◌, ◌∙◌, ◌-◌, ap, sym, suc, map, cond, arith}
 use Rattle.wire_runs.specs.Puts.{stored}
-use Rattle.wire_content.specs.Planned.{plan_of}
+use Rattle.wire_scripts.specs.Planned.{plan_of}
 use Rattle.wire_runs.specs.Sight.{delivered}
 use Rattle.wire_runs.specs.Step.{run}
 use Rattle.wire_core.proofs.Bring.{delivered_more}

@@ -1,4 +1,4 @@
-use Rattle.wire_content.specs.Planned.{plan_of}
+use Rattle.wire_scripts.specs.Planned.{plan_of}
 use Rattle.wire_core.proofs.running.Core.look_back.Goals as goal
 
 pub invariant_of-self : goal.invariant_of-self

@@ -1,5 +1,5 @@
 use Rattle.std.proofs.Common.{◌∙◌, ap, map, ◌+◌, arith}
-use Rattle.wire_content.specs.Planned.{plan_of}
+use Rattle.wire_scripts.specs.Planned.{plan_of}
 use Rattle.wire_core.specs.Course.{plan_in}
 use Rattle.wire_core.proofs.Bring.{done_within}
 use Rattle.wire_core.proofs.running.Core.look_on.Goals as goal

@@ -1,5 +1,5 @@
 use Rattle.std.proofs.Common.{◌≡◌, ◌∙◌, ap, sym, subst, map, Some}
-use Rattle.wire_content.specs.Planned.{plan_of}
+use Rattle.wire_scripts.specs.Planned.{plan_of}
 use Rattle.wire_plan.specs.Kinds.{kind_of}
 use Rattle.wire_runs.proofs.Basics.{process_within}
 use Rattle.wire_plan.specs.declared.Kind.TheVariants as code

@@ -1,5 +1,5 @@
 use Rattle.std.proofs.Common.{◌≡◌, ◌≤◌, None}
-use Rattle.wire_content.specs.Planned.{plan_of}
+use Rattle.wire_scripts.specs.Planned.{plan_of}
 use Rattle.wire_runs.specs.PlainRun.{lowest}
 use Rattle.wire_core.specs.Course.{state_of}
 use Rattle.wire_core.proofs.running.Core.lowest_ready.Given as goal

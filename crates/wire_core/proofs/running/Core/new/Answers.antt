@@ -1,10 +1,10 @@
 use Rattle.std.proofs.Common.{rules, ◌≡◌, ◌≤◌, ◌∙◌, ap, sym, subst, None, length, vec_capacity}
 use Rattle.std.specs.Prelude.{replicate}
 use Rattle.wire_runs.specs.State.{start}
-use Rattle.wire_core.specs.Waiting.{AreNoted}
+use Rattle.wire_core.specs.Waiting.{AreNotesTrue}
 use Rattle.wire_core.proofs.Shared.{new_names}
 use Rattle.wire_core.proofs.Waiting.{noted_first}
-use Rattle.wire_content.specs.Planned.{plan_of}
+use Rattle.wire_scripts.specs.Planned.{plan_of}
 use Rattle.wire_core.proofs.Gains.{keeping_first}
 use Rattle.wire_core.proofs.running.Core.new.Goals as goal
 
@@ -23,7 +23,7 @@ invariant_of-result c =
             arrived = c.in_ok-arrivals.ensures.nobody scripts c.fences-fences.ensures;
             named = new_names scripts c.in_ok-names.names (c.in_ok-names.ensures.ok ∙ ap (λ n. replicate n None) count);
           };
-      noted = rw none (subst (AreNoted scripts table start) (sym c.in_ok-waits.ensures.ok) (noted_first scripts table start c.process_count.result c.process_count.ensures));
+      noted = rw none (subst (AreNotesTrue scripts table start) (sym c.in_ok-waits.ensures.ok) (noted_first scripts table start c.process_count.result c.process_count.ensures));
       looked = c.in_ok-looks.ensures.ok _;
       keeping_is = rw none (keeping_first (plan_of scripts) c.in_ok-keeping.keeping c.in_ok-keeping.ensures.none c.in_ok-keeping.ensures.room);
     }

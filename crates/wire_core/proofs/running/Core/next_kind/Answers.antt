@@ -1,7 +1,7 @@
 use Rattle.std.proofs.Common.{◌≤◌, ap, sym, arith}
 use Rattle.wire_runs.specs.Plan.{event_count}
 use Rattle.wire_runs.proofs.Basics.{event_past}
-use Rattle.wire_content.specs.Planned.{plan_of}
+use Rattle.wire_scripts.specs.Planned.{plan_of}
 use Rattle.wire_core.specs.Course.{state_of}
 use Rattle.wire_core.proofs.running.Core.next_kind.Goals as goal
 

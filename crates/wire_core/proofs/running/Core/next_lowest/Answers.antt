@@ -1,6 +1,6 @@
 use Rattle.std.proofs.Common.{◌≡◌, map, Some, suc, ap, sym, refl, arith, true}
 use Rattle.wire_runs.specs.Plan.{process_count}
-use Rattle.wire_content.specs.Planned.{plan_of}
+use Rattle.wire_scripts.specs.Planned.{plan_of}
 use Rattle.wire_runs.specs.Step.{is_enabled, run}
 use Rattle.wire_core.proofs.Waiting.{first_within, none_before}
 use Rattle.wire_runs.specs.PlainRun.{lowest}

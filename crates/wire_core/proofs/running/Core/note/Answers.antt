@@ -1,5 +1,5 @@
 use Rattle.std.proofs.Common.{◌≡◌, ◌∙◌, ap, sym, subst, map, None}
-use Rattle.wire_content.specs.Planned.{plan_of}
+use Rattle.wire_scripts.specs.Planned.{plan_of}
 use Rattle.wire_runs.specs.State.{next_event, next_kind}
 use Rattle.wire_runs.specs.Step.{run, may_do}
 use Rattle.wire_core.specs.Waiting.{Awaits}

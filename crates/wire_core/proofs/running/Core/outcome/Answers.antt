@@ -1,7 +1,7 @@
 use Rattle.std.proofs.Common.{◌≡◌, ◌∙◌, ◌+◌, ap, sym, suc, arith, ◌∷◌, [], ◌++◌, cond}
 use Rattle.std.proofs.lemmas.List.{map_push}
 use Rattle.wire_types.specs.Texts.{lists_of}
-use Rattle.wire_content.specs.Planned.{plan_of}
+use Rattle.wire_scripts.specs.Planned.{plan_of}
 use Rattle.wire_runs.specs.Ends.{is_waiting, row, rows_below, waiting_below}
 use Rattle.wire_core.specs.Course.{state_of}
 use Rattle.wire_core.proofs.running.Core.outcome.Goals.{then-is_waiting, else-is_waiting}

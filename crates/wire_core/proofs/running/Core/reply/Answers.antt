@@ -6,7 +6,7 @@ use Rattle.wire_runs.specs.Step.{reply as answer}
 use Rattle.wire_runs.specs.Ends.{given}
 use Rattle.wire_core.specs.Seeing.{reply_to}
 use Rattle.wire_core.proofs.Ranks.{seen_given}
-use Rattle.wire_content.specs.Planned.{plan_of}
+use Rattle.wire_scripts.specs.Planned.{plan_of}
 use Rattle.wire_runs.proofs.Basics.{process_within}
 use Rattle.wire_core.specs.Course.{state_of}
 use Rattle.wire_core.proofs.running.Core.reply.Goals as goal

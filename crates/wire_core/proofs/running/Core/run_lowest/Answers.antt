@@ -1,6 +1,6 @@
 use Rattle.std.proofs.Common.{◌≡◌, ◌-◌, ap, sym, refl, arith, suc, ◌∷◌, [], ◌++◌, length}
 use Rattle.wire_runs.specs.Plan.{process_count}
-use Rattle.wire_content.specs.Planned.{plan_of}
+use Rattle.wire_scripts.specs.Planned.{plan_of}
 use Rattle.wire_runs.specs.State.{start}
 use Rattle.wire_runs.specs.PlainRun.{plain_from}
 use Rattle.wire_runs.specs.Plan.{event_total}

@@ -1,6 +1,6 @@
 use Rattle.std.proofs.Common.{◌≤◌, map, sym, arith}
 use Rattle.wire_runs.specs.Plan.{process_count}
-use Rattle.wire_content.specs.Planned.{plan_of}
+use Rattle.wire_scripts.specs.Planned.{plan_of}
 use Rattle.wire_runs.specs.Step.{run}
 use Rattle.wire_core.specs.Keeping.{count_in}
 use Rattle.wire_core.proofs.Ranks.{now_past}

@@ -2,7 +2,7 @@ use Rattle.std.proofs.Common.{map, ◌∙◌, ap, ◌≤◌, sym, refl, arith, l
 use Rattle.std.proofs.lemmas.Option.{slice_get_read}
 use Rattle.wire_runs.specs.Plan.{process_count}
 use Rattle.wire_runs.specs.Puts.{own}
-use Rattle.wire_content.specs.Planned.{plan_of}
+use Rattle.wire_scripts.specs.Planned.{plan_of}
 use Rattle.wire_runs.specs.Sight.{held}
 use Rattle.wire_runs.specs.Step.{run}
 use Rattle.wire_core.specs.Seeing.{seen_as}

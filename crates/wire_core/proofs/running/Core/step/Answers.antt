@@ -1,5 +1,5 @@
 use Rattle.wire_runs.proofs.PlainRun.{enabled_within}
-use Rattle.wire_content.specs.Planned.{plan_of}
+use Rattle.wire_scripts.specs.Planned.{plan_of}
 use Rattle.wire_core.specs.Course.{state_of}
 use Rattle.wire_core.proofs.running.Core.step.Goals as goal
 

@@ -2,7 +2,7 @@ use Rattle.std.proofs.Common.{◌≡◌, ℕ, List, ◌∙◌, ◌<◌, ap, sym,
 use Rattle.std.specs.Prelude.{option_map, slice_set}
 use Rattle.std.proofs.lemmas.List.{length-map, map-append}
 use Rattle.std.proofs.lemmas.Option.{slice_get_read}
-use Rattle.wire_content.specs.Planned.{plan_of}
+use Rattle.wire_scripts.specs.Planned.{plan_of}
 use Rattle.wire_store.specs.Kept.{kept_with}
 use Rattle.wire_plan.specs.Kinds.{kind_of}
 use Rattle.wire_runs.specs.State.{next_event}
@@ -18,7 +18,7 @@ use Rattle.wire_core.specs.Met.{ArrivesAt, after_arrival}
 use Rattle.wire_core.specs.Ranks.{calls_at, IsShared}
 use Rattle.wire_core.proofs.Shared.{shared_step, missing_if, has_name}
 use Rattle.wire_core.specs.Seeing.{replies_in}
-use Rattle.wire_core.specs.Waiting.{after as known_after, coming, AreNoted}
+use Rattle.wire_core.specs.Waiting.{after as known_after, coming, AreNotesTrue}
 use Rattle.wire_core.specs.declared.waits.Awaited.TheVariants.{Unknown}
 use Rattle.wire_core.proofs.Waiting.{noted_step}
 use Rattle.wire_core.proofs.Steps.{IsAdvanced, put_anyway, name_anyway, step_room, step_space, step_history, rank_step, course_step}
@@ -160,7 +160,7 @@ invariant_of-self c =
         c.note.ensures,
         c.wake.ensures,
         comes,
-      ) (subst (λ st. AreNoted c.self.inside.plan.now c.self.inside.fences.now st
+      ) (subst (λ st. AreNotesTrue c.self.inside.plan.now c.self.inside.fences.now st
           (slice_set (map (known_after (coming c.args.proc c.find_fence-fence.result (after_arrival (option_map (λ f. f.number) c.find_fence-fence.result) c.self.inside.arrivals)
           (kind_of sets c.in-Some.kind))) c.self.inside.waits) c.args.proc.number Unknown)) (sym (run_push plan start w c.args.proc.number)) waits);
       looked = c.self.invariant.looked;

@@ -1,6 +1,6 @@
 use Rattle.std.proofs.Common.{◌≡◌, ◌<◌, subst}
 use Rattle.std.specs.Prelude.{◌≢◌, ◌↔◌}
-use Rattle.wire_content.specs.Planned.{plan_of}
+use Rattle.wire_scripts.specs.Planned.{plan_of}
 use Rattle.wire_runs.specs.Plan.{event_of, event_count}
 use Rattle.wire_runs.specs.Fate.{HasFate, Waits}
 use Rattle.wire_fates.specs.declared.fate.Fate.TheVariants as code

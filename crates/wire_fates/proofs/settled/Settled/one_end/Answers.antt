@@ -1,5 +1,5 @@
 use Rattle.std.proofs.Common.{subst}
-use Rattle.wire_content.specs.Planned.{plan_of}
+use Rattle.wire_scripts.specs.Planned.{plan_of}
 use Rattle.wire_runs.specs.Races.{IsSettled}
 use Rattle.wire_runs.proofs.OneEnd.{settled_one_end}
 use Rattle.wire_runs.proofs.PlainRun.{plain_runs}

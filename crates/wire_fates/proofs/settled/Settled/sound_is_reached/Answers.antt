@@ -1,5 +1,5 @@
 use Rattle.std.proofs.Common.{◌≡◌, ℕ, subst}
-use Rattle.wire_content.specs.Planned.{plan_of}
+use Rattle.wire_scripts.specs.Planned.{plan_of}
 use Rattle.wire_runs.specs.State.{State}
 use Rattle.wire_runs.specs.Step.{IsReachable}
 use Rattle.wire_runs.specs.Fate.{IsSoundCut}

@@ -4,7 +4,7 @@ use Rattle.std.proofs.lemmas.Grind.{get_or_default_zero}
 use Rattle.std.proofs.lemmas.List.{length-map}
 use Rattle.wire_types.specs.declared.Call.{Call}
 use Rattle.wire_types.specs.declared.Call.TheVariants.{Fence}
-use Rattle.wire_content.specs.Scripts.{numbers_of, set_at}
+use Rattle.wire_scripts.specs.Scripts.{numbers_of, set_at}
 use Rattle.wire_fence.specs.declared.register.FenceDraft.{FenceDraft}
 use Rattle.wire_fence.specs.Register.{IsCalled, IsAfter}
 use Rattle.wire_fence.proofs.Kept.{kept_is, number_low}

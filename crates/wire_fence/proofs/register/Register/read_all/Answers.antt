@@ -1,7 +1,7 @@
 use Rattle.std.proofs.Common.{◌≡◌, ◌∙◌, ◌+◌, ◌<◌, List, Option, ℕ, length, map, Some, slice_get, subst, sym, ap, arith}
 use Rattle.std.proofs.lemmas.Option.{slice_get-get_or}
 use Rattle.std.proofs.lemmas.List.{map_push}
-use Rattle.wire_content.specs.Scripts.{numbers_of, calls_in}
+use Rattle.wire_scripts.specs.Scripts.{numbers_of, calls_in}
 use Rattle.wire_fence.specs.Register.{AreRead, AreAllNumbers, read_to, number_kept}
 use Rattle.wire_fence.proofs.States.{AllRead, all_first, all_more_of, room_left}
 use Rattle.wire_fence.proofs.register.Register.read_all.Goals as goal

@@ -1,5 +1,5 @@
 use Rattle.std.proofs.Common.{◌≡◌, length, map, replicate}
-use Rattle.wire_content.specs.Scripts.{numbers_of}
+use Rattle.wire_scripts.specs.Scripts.{numbers_of}
 use Rattle.wire_fence.specs.Register.{IsKeyed, number_kept}
 use Rattle.wire_fence.proofs.States.{AllRead}
 use Rattle.wire_fence.proofs.register.Register.read_all.Given as goal

@@ -5,7 +5,7 @@ use Rattle.wire_runs.specs.Plan.{update}
 use Rattle.wire_types.specs.declared.Call.{Call}
 use Rattle.wire_types.specs.declared.Call.TheVariants.{Put}
 use Rattle.wire_types.specs.declared.Scope.TheVariants.{Local}
-use Rattle.wire_content.specs.Scripts.{numbers_of}
+use Rattle.wire_scripts.specs.Scripts.{numbers_of}
 use Rattle.wire_fence.specs.Register.{AreRead, number_kept}
 use Rattle.wire_fence.proofs.Forgotten.{all_forgotten}
 use Rattle.wire_fence.proofs.States.{StateOf, state_first, state_more, count_fits, numbers_past}

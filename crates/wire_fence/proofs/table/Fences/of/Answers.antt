@@ -2,8 +2,8 @@ use Rattle.std.proofs.Common.{◌≡◌, ◌∙◌, ℕ, ◌<◌, List, length, 
 use Rattle.std.proofs.lemmas.List.{length-map}
 use Rattle.std.proofs.lemmas.List.FromFn.{length-map-range_with_len}
 use Rattle.wire_runs.specs.Fences.{has_node}
-use Rattle.wire_content.specs.Scripts.{Process, IsCounted, numbers_of, set_at, call_at}
-use Rattle.wire_content.specs.Planned.{plan_of}
+use Rattle.wire_scripts.specs.Scripts.{Process, IsCounted, numbers_of, set_at, call_at}
+use Rattle.wire_scripts.specs.Planned.{plan_of}
 use Rattle.wire_procmap.specs.Map.{Map, row_count}
 use Rattle.wire_procmap.specs.Rows.{row_of}
 use Rattle.wire_fence.specs.FenceTable.{AreFencesOf}

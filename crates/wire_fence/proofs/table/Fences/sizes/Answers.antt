@@ -1,5 +1,5 @@
 use Rattle.std.proofs.Common.{◌≡◌, ◌∙◌, ℕ, List, length, map, sym, ap}
-use Rattle.wire_content.specs.Scripts.{numbers_of, set_at}
+use Rattle.wire_scripts.specs.Scripts.{numbers_of, set_at}
 use Rattle.wire_fence.specs.declared.register.FenceDraft.{FenceDraft}
 use Rattle.wire_fence.specs.FenceTable.{FenceInfo, FenceTable}
 use Rattle.wire_fence.specs.Register.{info_of}

@@ -1,7 +1,7 @@
 use Rattle.std.proofs.Common.{◌∙◌, ◌++◌, ◌+◌, ◌-◌, ap, sym, filter}
 use Rattle.std.specs.List.{range_with_len}
 use Rattle.wire_pattern.specs.Instances.{cast_of}
-use Rattle.wire_pattern.specs.Shown.{turns_by}
+use Rattle.wire_pattern.specs.Views.{turns_by}
 use Rattle.wire_instances.specs.Tables.{takes}
 use Rattle.wire_instances.proofs.Takes.{turn_taken, turn_left}
 use Rattle.wire_instances.proofs.frame.Frame.add_turns.Goals as goal

@@ -1,8 +1,8 @@
 use Rattle.std.proofs.Common.{◌∙◌, ap, sym, length, arith}
 use Rattle.std.proofs.lemmas.List.{length-map}
-use Rattle.wire_pattern.specs.Shown.{job_by}
+use Rattle.wire_pattern.specs.Views.{job_by}
 use Rattle.wire_pattern.specs.Instances.{roles_from}
-use Rattle.wire_instances.specs.Shown.{cast_by}
+use Rattle.wire_instances.specs.Views.{cast_by}
 use Rattle.wire_instances.proofs.Found.{jobs_there, few_processes, tables}
 use Rattle.wire_instances.proofs.frame.Frame.new.Goals as goal
 

@@ -2,7 +2,7 @@ use Rattle.std.proofs.Common.{◌≤◌, ◌∙◌, ap, sym, arith}
 use Rattle.std.specs.Prelude.{nat_lt}
 use Rattle.std.specs.List.{list_all}
 use Rattle.wire_pattern.specs.Instances.{cast_of, process_count}
-use Rattle.wire_pattern.specs.Shown.{turns_by}
+use Rattle.wire_pattern.specs.Views.{turns_by}
 use Rattle.wire_instances.specs.Tables.{takes}
 use Rattle.wire_instances.proofs.Takes.{written_round, written_once, goes_parts, round_there, once_there}
 use Rattle.wire_instances.proofs.frame.Frame.turns.Goals as goal

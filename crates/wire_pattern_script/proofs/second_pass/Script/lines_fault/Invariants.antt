@@ -1,6 +1,6 @@
 use Rattle.std.proofs.Common.{◌≡◌, map, drop}
 use Rattle.wire_pattern_script.specs.Faults.{first_fault, turn_fault}
-use Rattle.wire_pattern.specs.Shown.{role_by, line_by, turns_by}
+use Rattle.wire_pattern.specs.Views.{role_by, line_by, turns_by}
 use Rattle.wire_pattern_script.proofs.second_pass.Script.lines_fault.Given as goal
 
 abbrev pub invariant-loop-line : goal.invariant-loop-line

@@ -2,8 +2,8 @@ use Rattle.std.proofs.Common.{◌≡◌, ◌∙◌, ap, sym, Some}
 use Rattle.std.proofs.lemmas.Bool.{true≢false}
 use Rattle.std.proofs.lemmas.Option.{same_Some}
 use Rattle.wire_runs.specs.Plan.{Arrive, set_of, kind_at}
-use Rattle.wire_content.specs.Scripts.{set_at}
-use Rattle.wire_content.specs.Planned.{plan_of}
+use Rattle.wire_scripts.specs.Scripts.{set_at}
+use Rattle.wire_scripts.specs.Planned.{plan_of}
 use Rattle.wire_plan.specs.Index.{BringsData}
 use Rattle.wire_plan.specs.Kinds.{kind_of}
 use Rattle.wire_plan.proofs.Delivering.{where_bringing, bringing_where}

@@ -1,6 +1,6 @@
 use Rattle.std.proofs.Common.{◌≡◌, ◌≤◌, ◌+◌, suc, subst, arith}
 use Rattle.wire_runs.specs.Plan.{event_count}
-use Rattle.wire_content.specs.Planned.{plan_of}
+use Rattle.wire_scripts.specs.Planned.{plan_of}
 use Rattle.wire_plan.specs.Bringing.{AreBringingTo}
 use Rattle.wire_plan.proofs.FirstBringing.{process_looked_at}
 use Rattle.wire_plan.proofs.bringing.BringingArrivals.add_process.Goals as goal

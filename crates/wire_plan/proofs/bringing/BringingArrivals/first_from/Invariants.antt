@@ -1,6 +1,6 @@
 use Rattle.std.proofs.Common.{◌≤◌, map}
 use Rattle.wire_runs.specs.Plan.{event_of}
-use Rattle.wire_content.specs.Planned.{plan_of}
+use Rattle.wire_scripts.specs.Planned.{plan_of}
 use Rattle.wire_plan.specs.Bringing.{NoneInFront}
 use Rattle.wire_plan.proofs.bringing.BringingArrivals.first_from.Given as goal
 

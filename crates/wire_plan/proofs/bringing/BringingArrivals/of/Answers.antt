@@ -1,6 +1,6 @@
 use Rattle.std.proofs.Common.{◌≤◌, arith}
 use Rattle.wire_runs.specs.Plan.{process_count}
-use Rattle.wire_content.specs.Planned.{plan_of}
+use Rattle.wire_scripts.specs.Planned.{plan_of}
 use Rattle.wire_plan.proofs.FirstBringing.{plan_looked_at}
 use Rattle.wire_plan.proofs.bringing.BringingArrivals.of.Goals as goal
 

@@ -1,4 +1,4 @@
-use Rattle.wire_content.specs.Planned.{plan_of}
+use Rattle.wire_scripts.specs.Planned.{plan_of}
 use Rattle.wire_plan.specs.Bringing.{AreBringingTo}
 use Rattle.wire_plan.proofs.bringing.BringingArrivals.of.Given as goal
 

@@ -1,7 +1,7 @@
 use Rattle.std.proofs.Common.{◌≡◌, ◌∙◌, ap, sym, length, arith}
 use Rattle.std.proofs.lemmas.List.{length-map}
 use Rattle.wire_runs.specs.Plan.{event_count}
-use Rattle.wire_content.specs.Planned.{plan_of}
+use Rattle.wire_scripts.specs.Planned.{plan_of}
 use Rattle.wire_plan.specs.Kinds.{kind_of}
 use Rattle.wire_plan.proofs.Planning.{count_fits}
 use Rattle.wire_plan.proofs.events.Events.event_count.Goals as goal

@@ -1,7 +1,7 @@
 use Rattle.std.proofs.Common.{◌≡◌, ◌<◌, ◌^◌, ◌∙◌, sym, map, arith}
 use Rattle.std.specs.Prelude.{sum_by, vec_len}
 use Rattle.std.proofs.lemmas.List.{length-map}
-use Rattle.wire_content.specs.Planned.{plan_of}
+use Rattle.wire_scripts.specs.Planned.{plan_of}
 use Rattle.wire_plan.specs.Kinds.{kind_of}
 use Rattle.wire_runs.specs.Plan.{event_total}
 use Rattle.wire_plan.proofs.Planning.{sum_same, total_shown, total_fits}

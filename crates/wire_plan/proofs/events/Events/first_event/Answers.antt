@@ -1,6 +1,6 @@
 use Rattle.std.proofs.Common.{◌<◌, ◌∙◌, ap, sym, refl, length, arith}
 use Rattle.std.proofs.lemmas.Option.{slice_get_read, slice_get_within, same_Some}
-use Rattle.wire_content.specs.Planned.{plan_of}
+use Rattle.wire_scripts.specs.Planned.{plan_of}
 use Rattle.wire_runs.specs.Ends.{calls_of}
 use Rattle.wire_plan.proofs.Planning.{caller_within, start_shown}
 use Rattle.wire_plan.proofs.events.Events.first_event.Goals as goal

@@ -1,7 +1,7 @@
 use Rattle.std.proofs.Common.{◌<◌, ◌∙◌, sym, refl, length}
 use Rattle.std.proofs.lemmas.List.{length-map}
 use Rattle.std.proofs.lemmas.Option.{slice_get_read}
-use Rattle.wire_content.specs.Planned.{planned_process}
+use Rattle.wire_scripts.specs.Planned.{planned_process}
 use Rattle.wire_plan.proofs.Planning.{node_planned}
 use Rattle.wire_plan.proofs.events.Events.node_of.Goals as goal
 

@@ -1,4 +1,4 @@
-use Rattle.wire_content.specs.Planned.{plan_of}
+use Rattle.wire_scripts.specs.Planned.{plan_of}
 use Rattle.wire_plan.specs.Gets.{AreGetsTo}
 use Rattle.wire_plan.proofs.gets.GetTable.add_process.Given as goal
 

@@ -1,5 +1,5 @@
 use Rattle.std.proofs.Common.{◌∙◌, ap, sym, subst}
-use Rattle.wire_content.specs.Planned.{plan_of}
+use Rattle.wire_scripts.specs.Planned.{plan_of}
 use Rattle.wire_plan.specs.declared.gets.GetTable.{GetTable}
 use Rattle.wire_plan.specs.Gets.{AreGetLists}
 use Rattle.wire_plan.proofs.KeptGets.{none_added, none_kept, empty_under}

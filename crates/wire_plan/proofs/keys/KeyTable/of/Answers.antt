@@ -1,7 +1,7 @@
 use Rattle.std.proofs.Common.{rules, ◌≡◌, ◌<◌, ◌∙◌, ℕ, subst, arith}
 use Rattle.std.specs.Prelude.{slice_get}
 use Rattle.wire_runs.specs.Plan.{process_count}
-use Rattle.wire_content.specs.Planned.{plan_of}
+use Rattle.wire_scripts.specs.Planned.{plan_of}
 use Rattle.wire_plan.specs.Keys.{IsKeyRow, row_in}
 use Rattle.wire_plan.proofs.KeyRows.{table_done, table_push}
 use Rattle.wire_plan.proofs.keys.KeyTable.of.Goals as goal

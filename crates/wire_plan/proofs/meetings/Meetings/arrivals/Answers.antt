@@ -1,7 +1,7 @@
 use Rattle.std.proofs.Common.{refl, subst, length}
 use Rattle.std.proofs.lemmas.Option.{slice_get_read, slice_get_past}
 use Rattle.wire_plan.proofs.Gathering.{list_shown, list_past}
-use Rattle.wire_content.specs.Planned.{plan_of}
+use Rattle.wire_scripts.specs.Planned.{plan_of}
 use Rattle.wire_plan.specs.Index.{AreArrivals}
 use Rattle.wire_plan.proofs.meetings.Meetings.arrivals.Goals as goal
 

@@ -1,6 +1,6 @@
 use Rattle.std.proofs.Common.{◌≡◌, ◌+◌, ◌∙◌, subst, map, suc, arith}
 use Rattle.wire_runs.specs.Plan.{process_count}
-use Rattle.wire_content.specs.Planned.{plan_of}
+use Rattle.wire_scripts.specs.Planned.{plan_of}
 use Rattle.wire_plan.specs.Meetings.{AreArrivalListsTo}
 use Rattle.wire_plan.proofs.Gathering.{all_done}
 use Rattle.wire_plan.proofs.meetings.Meetings.of.Goals as goal

@@ -1,6 +1,6 @@
 use Rattle.std.proofs.Common.{◌≡◌, ◌≤◌, ◌+◌, suc, subst, arith}
 use Rattle.wire_runs.specs.Plan.{process_count}
-use Rattle.wire_content.specs.Planned.{plan_of}
+use Rattle.wire_scripts.specs.Planned.{plan_of}
 use Rattle.wire_plan.specs.Tables.{AreNamesTo}
 use Rattle.wire_plan.proofs.Tables.{names_plan}
 use Rattle.wire_plan.proofs.names.NameTable.of.Goals as goal

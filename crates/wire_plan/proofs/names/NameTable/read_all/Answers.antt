@@ -1,6 +1,6 @@
 use Rattle.std.proofs.Common.{◌≡◌, ◌≤◌, ◌+◌, suc, subst, arith}
 use Rattle.wire_runs.specs.Plan.{event_count}
-use Rattle.wire_content.specs.Planned.{plan_of}
+use Rattle.wire_scripts.specs.Planned.{plan_of}
 use Rattle.wire_plan.specs.Tables.{AreNamesTo}
 use Rattle.wire_plan.proofs.Tables.{names_process}
 use Rattle.wire_plan.proofs.names.NameTable.read_all.Goals as goal

@@ -1,4 +1,4 @@
-use Rattle.wire_content.specs.Planned.{plan_of}
+use Rattle.wire_scripts.specs.Planned.{plan_of}
 use Rattle.wire_plan.specs.Tables.{AreNamesTo}
 use Rattle.wire_plan.proofs.names.NameTable.read_all.Given as goal
 

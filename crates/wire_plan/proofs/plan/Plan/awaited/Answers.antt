@@ -1,10 +1,10 @@
 use Rattle.std.proofs.Common.{◌∙◌, ap, sym, subst, Some, eq-eqb}
 use Rattle.std.proofs.lemmas.Bool.{true≢false, eqb-true}
 use Rattle.wire_runs.specs.Plan.{event_of}
-use Rattle.wire_content.specs.Planned.{plan_of}
+use Rattle.wire_scripts.specs.Planned.{plan_of}
 use Rattle.wire_plan.specs.Kinds.{kind_of}
 use Rattle.wire_plan.specs.Keys.{AreKeysOf}
-use Rattle.wire_plan.specs.Tables.{AreNamesOf}
+use Rattle.wire_plan.specs.Tables.{AreNameCallsOf}
 use Rattle.wire_plan.specs.declared.plan.PlanTables.{PlanTables}
 use Rattle.wire_plan.proofs.Awaited.{own_key, key_of_other, once_name, awaits_other}
 use Rattle.wire_plan.proofs.plan.Plan.awaited.Goals as goal
@@ -27,8 +27,8 @@ pub returns-in-LookupWait : goal.returns-in-LookupWait
 returns-in-LookupWait c =
     once_name (plan_of c.args.self.now) (event_of c.args.event) c.in-LookupWait.name c.once_published.result
     (c.kind.ensures ∙ ap (λ k. Some (kind_of c.args.self.now.sets k)) c.in-LookupWait.is)
-    (c.once_published.ensures (plan_of c.args.self.now) (subst (λ (t : PlanTables). AreNamesOf (plan_of c.args.self.now) t.index.names) (sym c.deref-in-LookupWait.ensures)
-    (subst (λ s. AreNamesOf (plan_of s) c.self.inside.tables.value.index.names) c.self.view_is c.self.invariant.1.names)))
+    (c.once_published.ensures (plan_of c.args.self.now) (subst (λ (t : PlanTables). AreNameCallsOf (plan_of c.args.self.now) t.index.names) (sym c.deref-in-LookupWait.ensures)
+    (subst (λ s. AreNameCallsOf (plan_of s) c.self.inside.tables.value.index.names) c.self.view_is c.self.invariant.1.names)))
 
 pub returns-in_default : goal.returns-in_default
 returns-in_default c = awaits_other (plan_of c.args.self.now) (event_of c.args.event) c.args.self.now.sets c.kind.result c.kind.ensures c.in_default.not-Get c.in_default.not-LookupWait

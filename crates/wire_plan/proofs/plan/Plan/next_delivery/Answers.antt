@@ -1,7 +1,7 @@
 use Rattle.std.proofs.Common.{◌∙◌, ap, subst, option_map}
 use Rattle.wire_runs.specs.Races.{IsPutOnce}
 use Rattle.wire_types.specs.declared.Event.{Event}
-use Rattle.wire_content.specs.Planned.{plan_of}
+use Rattle.wire_scripts.specs.Planned.{plan_of}
 use Rattle.wire_plan.specs.declared.plan.PlanTables.{PlanTables}
 use Rattle.wire_plan.specs.Index.{IsNextDelivery}
 use Rattle.wire_plan.proofs.plan.Plan.next_delivery.Goals as goal

@@ -1,7 +1,7 @@
 use Rattle.wire_plan.proofs.Wired.{sources_are}
 use Rattle.wire_plan.proofs.plan.Plan.sources.Goals as goal
 use Rattle.wire_runs.specs.Plan.{event_of}
-use Rattle.wire_content.specs.Planned.{plan_of}
+use Rattle.wire_scripts.specs.Planned.{plan_of}
 
 pub returns-clause-sources : goal.returns-clause-sources
 returns-clause-sources c =

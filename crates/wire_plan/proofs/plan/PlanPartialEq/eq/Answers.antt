@@ -1,7 +1,7 @@
 use Rattle.std.proofs.Common.{◌∙◌, ◌≡◌, sym, subst}
 use Rattle.std.specs.Bool.{Decides}
-use Rattle.wire_content.specs.Same.{same_scripts}
-use Rattle.wire_content.proofs.Same.{scripts_decide}
+use Rattle.wire_scripts.specs.Same.{same_scripts}
+use Rattle.wire_scripts.proofs.Same.{scripts_decide}
 use Rattle.wire_plan.proofs.plan.PlanPartialEq.eq.Goals as goal
 
 pub returns-clause-same : goal.returns-clause-same

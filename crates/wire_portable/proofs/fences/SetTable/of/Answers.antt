@@ -1,5 +1,5 @@
 use Rattle.std.proofs.Common.{true, ap, ◌∙◌, get_or}
-use Rattle.wire_content.specs.Scripts.{Scripts, set_at}
+use Rattle.wire_scripts.specs.Scripts.{Scripts, set_at}
 use Rattle.wire_portable.specs.Words.{is_one_job}
 use Rattle.wire_portable.proofs.fences.SetTable.of.Goals as goal
 

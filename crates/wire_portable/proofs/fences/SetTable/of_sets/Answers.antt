@@ -1,5 +1,5 @@
 use Rattle.std.proofs.Common.{◌≤◌, ◌+◌, refl, ap, sym, subst, ◌∙◌, arith, length}
-use Rattle.wire_content.specs.Scripts.{set_at}
+use Rattle.wire_scripts.specs.Scripts.{set_at}
 use Rattle.wire_portable.specs.Words.{is_one_job}
 use Rattle.wire_portable.proofs.PlainFences.{TellsTo, tells_more, tells_all}
 use Rattle.wire_portable.proofs.fences.SetTable.of_sets.Goals as goal

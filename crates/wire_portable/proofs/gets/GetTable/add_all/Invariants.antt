@@ -1,5 +1,5 @@
 use Rattle.std.proofs.Common.{◌≡◌}
-use Rattle.wire_content.specs.Planned.{plan_of}
+use Rattle.wire_scripts.specs.Planned.{plan_of}
 use Rattle.wire_portable.specs.Gets.{AreGetsTo}
 use Rattle.wire_portable.proofs.gets.GetTable.add_all.Given as goal
 

@@ -1,6 +1,6 @@
 use Rattle.std.proofs.Common.{◌≡◌, ◌∙◌, ◌≤◌, ◌+◌, suc, subst, arith}
 use Rattle.wire_runs.specs.Plan.{event_count}
-use Rattle.wire_content.specs.Planned.{plan_of}
+use Rattle.wire_scripts.specs.Planned.{plan_of}
 use Rattle.wire_portable.specs.Gets.{AreGetsTo}
 use Rattle.wire_portable.proofs.OpenGets.{process_added}
 use Rattle.wire_portable.proofs.gets.GetTable.add_process.Goals as goal

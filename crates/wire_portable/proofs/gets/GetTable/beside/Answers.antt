@@ -1,5 +1,5 @@
 use Rattle.std.proofs.Common.{sym, subst}
-use Rattle.wire_content.specs.Planned.{plan_of}
+use Rattle.wire_scripts.specs.Planned.{plan_of}
 use Rattle.wire_portable.specs.Gets.{place_in, gets_under, AreOpenGets}
 use Rattle.wire_portable.proofs.gets.GetTable.beside.Goals as goal
 

@@ -1,4 +1,4 @@
-use Rattle.wire_content.specs.Planned.{plan_of}
+use Rattle.wire_scripts.specs.Planned.{plan_of}
 use Rattle.wire_portable.specs.declared.gets.GetTable.{GetTable}
 use Rattle.wire_portable.proofs.OpenGets.{none_added, empty_under}
 use Rattle.wire_portable.proofs.gets.GetTable.of.Goals as goal

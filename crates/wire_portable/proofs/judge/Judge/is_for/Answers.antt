@@ -1,7 +1,7 @@
 use Rattle.std.proofs.Common.{true, subst, ap, ◌∙◌}
 use Rattle.wire_runs.specs.Plan.{admits}
 use Rattle.wire_runs.specs.Puts.{scope_of}
-use Rattle.wire_content.specs.Planned.{plan_of}
+use Rattle.wire_scripts.specs.Planned.{plan_of}
 use Rattle.wire_plan.specs.Index.{IsFirstPut}
 use Rattle.wire_portable.proofs.Keys.{never_put, put_for}
 use Rattle.wire_portable.proofs.judge.Judge.is_for.Goals as goal

@@ -1,4 +1,4 @@
-use Rattle.wire_content.specs.Planned.{plan_of}
+use Rattle.wire_scripts.specs.Planned.{plan_of}
 use Rattle.wire_portable.proofs.Sets.{not_false}
 use Rattle.wire_portable.proofs.Keys.{none_for, some_for}
 use Rattle.wire_portable.proofs.judge.Judge.is_outside.Goals as goal

@@ -1,6 +1,6 @@
 use Rattle.std.proofs.Common.{ap}
 use Rattle.wire_runs.specs.Plan.{event_of}
-use Rattle.wire_content.specs.Planned.{plan_of}
+use Rattle.wire_scripts.specs.Planned.{plan_of}
 use Rattle.wire_library_laws.specs.Portable.{Lacks, Lacked}
 use Rattle.wire_portable.proofs.Keys.{last_same, store_lacked, lacked_upto, lacks_lacked, lacked_lacks}
 use Rattle.wire_portable.proofs.judge.Judge.last_lacked.Goals as goal

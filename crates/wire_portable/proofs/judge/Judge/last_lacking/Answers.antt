@@ -1,6 +1,6 @@
 use Rattle.std.proofs.Common.{ap, subst}
 use Rattle.wire_runs.specs.Plan.{event_of}
-use Rattle.wire_content.specs.Planned.{plan_of}
+use Rattle.wire_scripts.specs.Planned.{plan_of}
 use Rattle.wire_library_laws.specs.Portable.{Lacks}
 use Rattle.wire_portable.specs.Commits.{IsCommitBelow, IsLastOf}
 use Rattle.wire_portable.proofs.Keys.{last_same, below_lacks, lacks_below, all_lack, lacks_all}

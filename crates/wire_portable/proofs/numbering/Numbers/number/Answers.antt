@@ -1,5 +1,5 @@
 use Rattle.std.proofs.Common.{subst, map}
-use Rattle.wire_portable.specs.Numbering.{Keeps}
+use Rattle.wire_portable.specs.Numbering.{KeepsSets}
 use Rattle.wire_portable.proofs.NumberTable.{apart, keeps_inserted, stored_at, view}
 use Rattle.wire_portable.proofs.numbering.Numbers.number.Goals as goal
 
@@ -12,4 +12,4 @@ returns-clause-there c =
     stored_at _ c.in_ok-added.added.0 stored.0 c.args.items stored.1 stored.2
 
 pub returns-clause-kept : goal.returns-clause-kept
-returns-clause-kept c = subst (λ old. Keeps old (map view c.insert_full.new.self.keys)) c.self.view_is (keeps_inserted c.self.inside.table.keys c.insert_full.new.self.keys c.args.items c.in_ok-added.ensures.keys)
+returns-clause-kept c = subst (λ old. KeepsSets old (map view c.insert_full.new.self.keys)) c.self.view_is (keeps_inserted c.self.inside.table.keys c.insert_full.new.self.keys c.args.items c.in_ok-added.ensures.keys)

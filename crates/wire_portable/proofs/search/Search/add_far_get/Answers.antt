@@ -2,7 +2,7 @@ use Rattle.std.proofs.Common.{◌≡◌, ◌∙◌, ◌<◌, false, map, ap, sym
 use Rattle.std.proofs.lemmas.Result.{on_ok_weaker}
 use Rattle.wire_runs.specs.Plan.{event_of, event_count, process_count}
 use Rattle.wire_runs.proofs.Basics.{event_within, process_within}
-use Rattle.wire_content.specs.Planned.{plan_of}
+use Rattle.wire_scripts.specs.Planned.{plan_of}
 use Rattle.wire_library_laws.specs.Portable.{IsAsked, IsFor, IsPortableFar}
 use Rattle.wire_portable.specs.Gets.{place_in, AreGetLists, AreOpenGets}
 use Rattle.wire_portable.specs.Libraries.{family_of, has}

@@ -1,7 +1,7 @@
 use Rattle.std.proofs.Common.{◌<◌, ◌∙◌, ap, sym, subst}
 use Rattle.wire_runs.specs.Plan.{event_of, event_count}
 use Rattle.wire_runs.proofs.Basics.{process_within, event_within}
-use Rattle.wire_content.specs.Planned.{plan_of}
+use Rattle.wire_scripts.specs.Planned.{plan_of}
 use Rattle.wire_portable.specs.Searched.{Searched}
 use Rattle.wire_portable.proofs.NowsAdded.{not_far, may_far, blamed_far}
 use Rattle.wire_portable.proofs.search.Search.add_far_now.Goals as goal

@@ -2,7 +2,7 @@ use Rattle.std.proofs.Common.{◌≡◌, ◌∙◌, ◌<◌, true, false, ap, sy
 use Rattle.std.proofs.lemmas.Result.{on_ok_weaker}
 use Rattle.wire_runs.specs.Plan.{event_of, event_count}
 use Rattle.wire_runs.proofs.Basics.{event_within, process_within}
-use Rattle.wire_content.specs.Planned.{plan_of}
+use Rattle.wire_scripts.specs.Planned.{plan_of}
 use Rattle.wire_library_laws.specs.Portable.{IsFor}
 use Rattle.wire_portable.specs.Libraries.{family_of, has}
 use Rattle.wire_portable.specs.Judging.{NoRewrites, IsEndedNear}

@@ -1,5 +1,5 @@
 use Rattle.wire_runs.specs.Plan.{event_of}
-use Rattle.wire_content.specs.Planned.{plan_of}
+use Rattle.wire_scripts.specs.Planned.{plan_of}
 use Rattle.wire_portable.proofs.NowsAdded.{live_now, now_added}
 use Rattle.wire_portable.proofs.search.Search.add_now.Goals as goal
 

@@ -2,7 +2,7 @@ use Rattle.std.proofs.Common.{◌<◌, sym, ap, subst, ◌∙◌}
 use Rattle.std.proofs.lemmas.Result.{on_ok_weaker}
 use Rattle.wire_runs.specs.Plan.{event_of, event_count}
 use Rattle.wire_runs.proofs.Basics.{event_within}
-use Rattle.wire_content.specs.Planned.{plan_of}
+use Rattle.wire_scripts.specs.Planned.{plan_of}
 use Rattle.wire_portable.specs.Judging.{IsNoRewrite}
 use Rattle.wire_portable.specs.Searched.{Searched}
 use Rattle.wire_portable.proofs.search.Search.add_put.Goals as goal

@@ -1,7 +1,7 @@
 use Rattle.std.proofs.Common.{◌≡◌, ◌<◌, ◌∙◌, ap, sym, subst, map, true, false}
 use Rattle.wire_runs.specs.Plan.{event_of, process_count, same_node}
 use Rattle.wire_runs.proofs.Basics.{process_within}
-use Rattle.wire_content.specs.Planned.{plan_of}
+use Rattle.wire_scripts.specs.Planned.{plan_of}
 use Rattle.wire_portable.specs.Gets.{AreGetLists}
 use Rattle.wire_portable.specs.Nows.{IsLiveNow}
 use Rattle.wire_portable.specs.Searched.{Searched}

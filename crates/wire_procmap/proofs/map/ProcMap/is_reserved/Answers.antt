@@ -1,5 +1,5 @@
 use Rattle.std.proofs.Common.{◌∙◌, ap}
-use Rattle.wire_content.specs.Scripts.{text_at}
+use Rattle.wire_scripts.specs.Scripts.{text_at}
 use Rattle.wire_procmap.specs.Keys.{is_reserved_kind}
 use Rattle.wire_procmap.proofs.Keys.{reserved_of_kind}
 use Rattle.wire_procmap.proofs.map.ProcMap.is_reserved.Goals as goal

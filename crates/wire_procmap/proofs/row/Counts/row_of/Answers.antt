@@ -1,5 +1,5 @@
 use Rattle.std.proofs.Common.{◌∙◌, ap, sym, arith}
-use Rattle.wire_content.specs.Scripts.{Process}
+use Rattle.wire_scripts.specs.Scripts.{Process}
 use Rattle.std.proofs.lemmas.List.{get_or_read}
 use Rattle.wire_procmap.specs.Tallies.{job_of, node_of, both_of}
 use Rattle.wire_procmap.proofs.Rows.{nobody, job_there, node_there, row_is}

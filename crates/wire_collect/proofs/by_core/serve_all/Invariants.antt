@@ -1,5 +1,0 @@
-use Rattle.std.proofs.Common.{◌≡◌}
-use Rattle.wire_collect.proofs.by_core.serve_all.Given as goal
-
-abbrev pub invariant-served : goal.invariant-served
-invariant-served g l = l.core.scripts ≡ l.initial.core.scripts

@@ -1,4 +1,0 @@
-use Rattle.wire_collect.proofs.collect.run_any.Goals as goal
-
-pub tell_run-ran-requires : goal.tell_run-ran-requires
-tell_run-ran-requires g c = c.in_ok-core-3.ensures.ended

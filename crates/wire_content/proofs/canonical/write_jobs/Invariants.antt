@@ -1,6 +1,0 @@
-use Rattle.std.proofs.Common.{◌≡◌, ◌++◌, drop, flat_map}
-use Rattle.wire_content.specs.Canonical.{line_text, jobs_said}
-use Rattle.wire_content.proofs.canonical.write_jobs.Given as goal
-
-abbrev pub invariant-loop-job : goal.invariant-loop-job
-invariant-loop-job l = l.out.items ++ flat_map line_text (jobs_said l.scripts l.job (drop l.job l.scripts.jobs)) ≡ l.fn.out.items ++ flat_map line_text (jobs_said l.scripts 0 l.scripts.jobs)

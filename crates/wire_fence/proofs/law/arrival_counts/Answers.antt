@@ -1,5 +1,0 @@
-use Rattle.wire_fence.proofs.Missing.{arrival_counts}
-use Rattle.wire_fence.proofs.law.arrival_counts.Goals as goal
-
-pub returns : goal.returns
-returns c = arrival_counts

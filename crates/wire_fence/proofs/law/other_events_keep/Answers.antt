@@ -1,5 +1,0 @@
-use Rattle.wire_fence.proofs.Missing.{other_events_keep}
-use Rattle.wire_fence.proofs.law.other_events_keep.Goals as goal
-
-pub returns : goal.returns
-returns c = other_events_keep

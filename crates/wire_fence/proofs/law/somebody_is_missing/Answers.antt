@@ -1,5 +1,0 @@
-use Rattle.wire_fence.proofs.Missing.{somebody_is_missing}
-use Rattle.wire_fence.proofs.law.somebody_is_missing.Goals as goal
-
-pub returns : goal.returns
-returns c = somebody_is_missing

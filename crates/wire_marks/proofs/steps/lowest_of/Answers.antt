@@ -1,4 +1,0 @@
-use Rattle.wire_marks.proofs.steps.lowest_of.Goals as goal
-
-pub returns-in-Some : goal.returns-in-Some
-returns-in-Some c plan places m h = rw c.in-Some.is (c.lowest_with.ensures plan places m h)

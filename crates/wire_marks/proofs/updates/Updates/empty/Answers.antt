@@ -1,5 +1,0 @@
-use Rattle.wire_marks.proofs.Holding.{none_held}
-use Rattle.wire_marks.proofs.updates.Updates.empty.Goals as goal
-
-pub invariant_of-result : goal.invariant_of-result
-invariant_of-result c = none_held c.empty.result c.empty-2.result c.empty.ensures

@@ -1,9 +1,0 @@
-//! A law of the chain that is shown. It is the contract of a function that does nothing.
-
-ghost use Rattle.wire_marks.specs.Chain.{OneShown};
-
-/// Between two events, the first of them before the second, one chain is shown.
-#[tactic(auto, using(crate::proofs::OneChain::one_shown))]
-pub fn one_shown()
-    ensures { OneShown }
-{}

@@ -1,5 +1,0 @@
-use Rattle.wire_procmap.proofs.Places.{one_process}
-use Rattle.wire_procmap.proofs.law.one_process.Goals as goal
-
-pub returns : goal.returns
-returns c = one_process

@@ -1,6 +1,0 @@
-use Rattle.std.proofs.Common.{refl}
-use Rattle.wire_script.proofs.Parsing.{is_said}
-use Rattle.wire_script.proofs.pieces.parse_line.Goals as goal
-
-pub returns : goal.returns
-returns c = (refl, is_said _ _ c.in_ok-said.ensures.found c.in_ok-said.ensures.none)

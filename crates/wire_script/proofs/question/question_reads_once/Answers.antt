@@ -1,5 +1,0 @@
-use Rattle.wire_script.proofs.QuestionRead.{one_question}
-use Rattle.wire_script.proofs.question.question_reads_once.Goals as goal
-
-pub returns : goal.returns
-returns c = one_question

@@ -1,5 +1,0 @@
-use Rattle.wire_script.proofs.ReadBack.{one_canonical}
-use Rattle.wire_script.proofs.reader.one_canonical.Goals as goal
-
-pub returns : goal.returns
-returns c = one_canonical

@@ -1,5 +1,0 @@
-use Rattle.wire_store.proofs.Told.{store_tells}
-use Rattle.wire_store.proofs.law.tells_puts.Goals as goal
-
-pub returns : goal.returns
-returns c = store_tells

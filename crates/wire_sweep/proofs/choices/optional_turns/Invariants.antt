@@ -1,9 +1,0 @@
-use Rattle.std.proofs.Common.{◌≡◌, ◌++◌, map, drop}
-use Rattle.wire_instances.specs.Shown.{turn_by}
-use Rattle.wire_sweep_laws.specs.Choices as spec
-use Rattle.wire_sweep.proofs.choices.optional_turns.Given as goal
-
-abbrev pub invariant-loop-number : goal.invariant-loop-number
-invariant-loop-number l =
-    map turn_by l.turns.items ++ spec.callers_turns l.pattern l.roles l.number (drop l.number l.roles)
-    ≡ spec.callers_turns l.pattern l.roles 0 l.roles

@@ -1,6 +1,0 @@
-use Rattle.wire_instances.specs.Shown.{cast_by}
-use Rattle.wire_sweep.proofs.Pairs.{ArePairsSettled}
-use Rattle.wire_sweep.proofs.counterexample.find_counterexample.Given as goal
-
-abbrev pub invariant-loop-a : goal.invariant-loop-a
-invariant-loop-a g l = ArePairsSettled l.pattern (cast_by l.cast) l.total l.a

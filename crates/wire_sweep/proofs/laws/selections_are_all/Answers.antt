@@ -1,5 +1,0 @@
-use Rattle.wire_sweep.proofs.Ordered.{selections_are_all}
-use Rattle.wire_sweep.proofs.laws.selections_are_all.Goals as goal
-
-pub returns : goal.returns
-returns c = selections_are_all

@@ -1,5 +1,0 @@
-use Rattle.wire_sweep.proofs.Texts.{texts_settled}
-use Rattle.wire_sweep.proofs.laws.texts_settled.Goals as goal
-
-pub returns : goal.returns
-returns c = texts_settled

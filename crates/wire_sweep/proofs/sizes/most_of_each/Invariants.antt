@@ -1,7 +1,0 @@
-use Rattle.std.proofs.Common.{◌≡◌, ◌++◌, map, drop}
-use Rattle.wire_pattern.specs.Shown.{role_by}
-use Rattle.wire_sweep.specs.Selections.{most_sizes}
-use Rattle.wire_sweep.proofs.sizes.most_of_each.Given as goal
-
-abbrev pub invariant-loop-role : goal.invariant-loop-role
-invariant-loop-role l = l.sizes.items ++ most_sizes (map role_by (drop l.role-index l.roles)) ≡ most_sizes (map role_by l.roles)

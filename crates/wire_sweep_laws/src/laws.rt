@@ -1,8 +1,0 @@
-//! The law of a sweep. It is the contract of a function that does nothing.
-
-ghost use Rattle.wire_sweep_laws.specs.Promised.{FewSuffice};
-
-/// Where nothing is found in the instances with few processes of each role, nothing is found in any.
-pub fn few_suffice()
-    ensures { FewSuffice }
-{}
