@@ -16,7 +16,7 @@ use wire_board::{Board, Seat};
 use wire_core::plain_outcome;
 use wire_parallel_run::outcome_of;
 use wire_races::{Fate, Settled};
-use wire_sched::{Crew, Lanes, OpenGate, Round, take_turns, work};
+use wire_sched::{Crew, Lanes, OpenGate, StealRound, take_turns, work};
 use wire_types::{Fault, Outcome, Proc};
 
 /// How often a thread looks before it gives up.
@@ -231,7 +231,7 @@ fn a_lane_is_served_once_it_is_ready(rt: HostRuntime) -> Result<(), Fail> {
 /// What a worker does: a round, or a round and then turns.
 #[derive(Clone, Copy)]
 enum Way {
-    Round,
+    StealRound,
     Turns,
 }
 
@@ -264,10 +264,10 @@ fn work_round<R: Wait>(
     processes: u32,
     way: Way,
 ) -> Result<usize, Fault> {
-    let (round, passes) = Round::deal(alloc, 0, processes, 1)?;
+    let (round, passes) = StealRound::deal(alloc, 0, processes, 1)?;
     let mut passes = passes;
     let events = match way {
-        Way::Round => work(rt, lanes, &round, &mut passes[0], &OpenGate),
+        Way::StealRound => work(rt, lanes, &round, &mut passes[0], &OpenGate),
         Way::Turns => {
             let crew = Crew {
                 served: lanes,
@@ -340,7 +340,7 @@ fn work_file<R: Threads + Wait + Sync>(
 /// One worker serves all that it can over the board, and counts the events.
 #[test]
 fn one_worker_serves_a_round_over_the_board(rt: HostRuntime) -> Result<(), Fail> {
-    let left = work_file(&rt, rt.alloc(), WAITING, Way::Round)?;
+    let left = work_file(&rt, rt.alloc(), WAITING, Way::StealRound)?;
     assert!(rt; left.events == 3 && are_as_long(&left.trails, &[2, 1]));
     assert!(rt; left.words.as_slice() == [2u64, 1].as_slice());
     Ok(())
@@ -350,7 +350,7 @@ fn one_worker_serves_a_round_over_the_board(rt: HostRuntime) -> Result<(), Fail>
 #[test]
 fn one_worker_serves_256_ranks_over_the_board(rt: HostRuntime) -> Result<(), Fail> {
     let file = commits(rt.alloc())?;
-    let left = work_file(&rt, rt.alloc(), file.as_bytes(), Way::Round)?;
+    let left = work_file(&rt, rt.alloc(), file.as_bytes(), Way::StealRound)?;
     assert!(rt; left.events == 256 && left.words.len() == 256);
     Ok(())
 }
@@ -358,7 +358,7 @@ fn one_worker_serves_256_ranks_over_the_board(rt: HostRuntime) -> Result<(), Fai
 /// A round leaves what waits for a process that comes later, and turns serve it.
 #[test]
 fn turns_serve_what_a_round_leaves(rt: HostRuntime) -> Result<(), Fail> {
-    let left = work_file(&rt, rt.alloc(), LATE, Way::Round)?;
+    let left = work_file(&rt, rt.alloc(), LATE, Way::StealRound)?;
     assert!(rt; left.events == 4 && are_as_long(&left.trails, &[0, 0, 2, 1, 1]));
     let left = work_file(&rt, rt.alloc(), LATE, Way::Turns)?;
     assert!(rt; left.events == 8 && are_as_long(&left.trails, &[1, 3, 2, 1, 1]));

@@ -10,7 +10,7 @@ use std::test::Fail;
 use wire_core::Core;
 use wire_locked::LockedCore;
 use wire_plan::Plan;
-use wire_sched::{Pass, Piece, Round, Take};
+use wire_sched::{Pass, Piece, StealRound, Take};
 use wire_types::{Fault, Proc};
 
 /// The piece of a process in the fifth round.
@@ -30,7 +30,7 @@ fn are_of(rt: &impl Abort, pieces: &[Piece], ranks: &[u32]) {
 }
 
 /// A worker's pass takes a piece of its own deque.
-fn take(round: &Round, passes: &mut Vec<Pass>, worker: usize) -> Option<Piece>
+fn take(round: &StealRound, passes: &mut Vec<Pass>, worker: usize) -> Option<Piece>
     requires passes { ArePassesOf round.now passes.old.items }
     requires worker { worker < workers_of round.now }
     ensures { ArePassesOf round.now passes.new.items }
@@ -39,7 +39,7 @@ fn take(round: &Round, passes: &mut Vec<Pass>, worker: usize) -> Option<Piece>
 }
 
 /// A worker's pass tries to steal from the deque of another.
-fn try_steal(round: &Round, passes: &mut Vec<Pass>, worker: usize, victim: usize) -> Take
+fn try_steal(round: &StealRound, passes: &mut Vec<Pass>, worker: usize, victim: usize) -> Take
     requires passes { ArePassesOf round.now passes.old.items }
     requires worker { worker < workers_of round.now }
     requires victim { (victim < workers_of round.now) × (victim ≢ worker) }
@@ -49,7 +49,7 @@ fn try_steal(round: &Round, passes: &mut Vec<Pass>, worker: usize, victim: usize
 }
 
 /// A worker's pass steals from the deque of another, in 1,000 attempts at most.
-fn steal(round: &Round, passes: &mut Vec<Pass>, worker: usize, victim: usize) -> Option<Piece>
+fn steal(round: &StealRound, passes: &mut Vec<Pass>, worker: usize, victim: usize) -> Option<Piece>
     requires passes { ArePassesOf round.now passes.old.items }
     requires worker { worker < workers_of round.now }
     requires victim { (victim < workers_of round.now) × (victim ≢ worker) }
@@ -68,9 +68,9 @@ fn steal(round: &Round, passes: &mut Vec<Pass>, worker: usize, victim: usize) ->
 /// Where no worker took a piece, all are left, deque by deque.
 #[test]
 fn all_are_left(rt: HostRuntime) -> Result<(), Fail> {
-    let (round, passes) = Round::deal(rt.alloc(), 5, 3, 7)?;
+    let (round, passes) = StealRound::deal(rt.alloc(), 5, 3, 7)?;
     are_of(&rt, round.finish(passes).as_slice(), &[0, 1, 2]);
-    let (round, passes) = Round::deal(rt.alloc(), 5, 10, 3)?;
+    let (round, passes) = StealRound::deal(rt.alloc(), 5, 10, 3)?;
     are_of(
         &rt,
         round.finish(passes).as_slice(),
@@ -82,7 +82,7 @@ fn all_are_left(rt: HostRuntime) -> Result<(), Fail> {
 /// A worker takes from the front of its own deque, and another steals from there.
 #[test]
 fn some_are_taken(rt: HostRuntime) -> Result<(), Fail> {
-    let (round, mut passes) = Round::deal(rt.alloc(), 5, 10, 3)?;
+    let (round, mut passes) = StealRound::deal(rt.alloc(), 5, 10, 3)?;
     assert_eq!(rt; take(&round, &mut passes, 0), Some(piece(0)));
     assert_eq!(rt; take(&round, &mut passes, 0), Some(piece(3)));
     assert_eq!(rt; steal(&round, &mut passes, 1, 0), Some(piece(6)));

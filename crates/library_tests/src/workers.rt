@@ -19,7 +19,7 @@ use wire_parallel_run::{run_any, run_workers};
 use wire_plan::Plan;
 use wire_races::{Settled, findings};
 use wire_reader::read;
-use wire_sched::{Gate, OpenGate, Round, work_locked};
+use wire_sched::{Gate, OpenGate, StealRound, work_locked};
 use wire_types::{CallEnd, Fault, MemorySink, MemorySource, Outcome, Proc, Status};
 use wire_up::{Ended, Mode, rehearse};
 
@@ -283,7 +283,7 @@ fn serve_round<R: Wait>(
     locked: &LockedCore<'_>,
     processes: u32,
 ) -> Result<usize, Fault> {
-    let (round, passes) = Round::deal(alloc, 0, processes, 1)?;
+    let (round, passes) = StealRound::deal(alloc, 0, processes, 1)?;
     let mut passes = passes;
     let steps = work_locked(rt, locked, &round, &mut passes[0], &OpenGate);
     drop(passes);

@@ -19,7 +19,7 @@ use wire_plan::Plan;
 use wire_races::{Settled, findings};
 use wire_reader::read;
 use wire_report::{findings_text, report_text, unsettled_text};
-use wire_sched::{OpenGate, Round};
+use wire_sched::{OpenGate, StealRound};
 use wire_types::Fault;
 
 /// What the deal of a round has: its number, and how many workers.
@@ -51,8 +51,8 @@ pub enum OverPlan {
     Findings,
     /// `Core::new`.
     Core,
-    /// `Round::deal`.
-    Round,
+    /// `StealRound::deal`.
+    StealRound,
     /// `run_any` by one worker.
     Workers,
 }
@@ -131,7 +131,7 @@ fn of_part(
         OverPlan::Marks => of_marks(rt.alloc(), &plan, stage),
         OverPlan::Findings => of_findings(rt, &plan, stage),
         OverPlan::Core => of_core(rt.alloc(), &plan, stage),
-        OverPlan::Round => of_round(rt.alloc(), &plan, stage),
+        OverPlan::StealRound => of_round(rt.alloc(), &plan, stage),
         OverPlan::Workers => of_workers(rt, &plan, stage),
     };
     drop(plan);
@@ -182,10 +182,10 @@ fn core_text(alloc: Global, core: &Core<'_>, plan: &Plan) -> Result<Vec<u8>, Fau
     text
 }
 
-/// What `Round::deal` gives, as its passes, and the pieces that are left where none of these takes any.
+/// What `StealRound::deal` gives, as its passes, and the pieces that are left where none of these takes any.
 fn of_round(alloc: Global, plan: &Plan, stage: &mut Stage) -> Result<Vec<u8>, Fault> {
     *stage = Stage::Within;
-    let (round, passes) = Round::deal(alloc, ROUND, plan.process_count(), WORKERS)?;
+    let (round, passes) = StealRound::deal(alloc, ROUND, plan.process_count(), WORKERS)?;
     *stage = Stage::After;
     let text = workers_text(alloc, passes.as_slice());
     let left = round.finish(passes);

@@ -9,7 +9,7 @@ use std::sync::Wait;
 use std::thread::Threads;
 use wire_core::Core;
 use wire_locked::{LockedCore, advance_far};
-use wire_sched::{Gate, Round};
+use wire_sched::{Gate, StealRound};
 use wire_types::Fault;
 
 /// Serves the lowest process that is ready. Answers how many steps that were.
@@ -64,7 +64,7 @@ pub(crate) fn run_core<'a, R: Threads + Wait + Sync, G: Gate + Sync>(
         if core.ended() {
             break;
         }
-        match Round::deal(alloc, number, plan.process_count(), wanted) {
+        match StealRound::deal(alloc, number, plan.process_count(), wanted) {
             Ok((round, passes)) => {
                 let dealt = Dealt {
                     alloc,

@@ -15,7 +15,7 @@ use std::sync::Wait;
 use std::thread::Threads;
 use wire_board::{Board, Seat};
 use wire_fates::{Fate, Settled};
-use wire_sched::{Gate, Lanes, Round};
+use wire_sched::{Gate, Lanes, StealRound};
 use wire_types::{Fault, Outcome, Proc};
 
 /// What a run over a board is given: the settled plan, how many workers, and the gate.
@@ -70,7 +70,7 @@ fn run_lanes<R: Threads + Wait + Sync, G: Gate + Sync>(
     let mut wanted = settings.workers;
     let mut done = 0usize;
     'rounds: for number in 0..total as u64 {
-        let (round, passes) = Round::deal(alloc, number, plan.process_count(), wanted)?;
+        let (round, passes) = StealRound::deal(alloc, number, plan.process_count(), wanted)?;
         let dealt = Dealt {
             alloc,
             round,

@@ -8,7 +8,7 @@ use crate::threads::run_round;
 use std::alloc::Global;
 use std::sync::Wait;
 use std::thread::Threads;
-use wire_sched::{Crew, Gate, Pass, Piece, Round, Serves};
+use wire_sched::{Crew, Gate, Pass, Piece, StealRound, Serves};
 
 /// Serves the pieces that no worker took. Answers how many events that were.
 fn serve_left<R: Wait, S: Serves, G: Gate>(
@@ -32,7 +32,7 @@ fn serve_left<R: Wait, S: Serves, G: Gate>(
 #[derive(Drop)]
 pub(crate) struct Dealt {
     pub(crate) alloc: Global,
-    pub(crate) round: Round,
+    pub(crate) round: StealRound,
     pub(crate) passes: Vec<Pass>,
     pub(crate) collector: usize,
 }

@@ -11,12 +11,12 @@ use std::sync::Wait;
 use std::sync::atomic::{AtomicBool, Ordering};
 use std::thread;
 use std::thread::{Promise, PromisedHandle, Scope, Threads};
-use wire_sched::{Pass, Round};
+use wire_sched::{Pass, StealRound};
 
 /// What a worker's thread gives back: its pass of the round, and how many steps it took.
 #[derive(Drop)]
 struct Returned {
-    round: Snapshot<Round>,
+    round: Snapshot<StealRound>,
     worker: usize,
 }
 
