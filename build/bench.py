@@ -16,7 +16,6 @@ import os
 import sys
 import tempfile
 from collections.abc import Callable, Sequence
-from typing import Optional
 
 from build.bench_plans import KINDS, Kind, calls_in
 from build.parts import build_parts
@@ -178,7 +177,7 @@ def arguments() -> argparse.Namespace:
     return args
 
 
-def other_program() -> Optional[str]:
+def other_program() -> str | None:
     """The unproved program, where it can be built. Says that it is taken, or why it isn't."""
     path, why = build_plain()
     left_out = f"the unproved program is left out: {why}"

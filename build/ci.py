@@ -8,7 +8,6 @@ proved again then.
 import os
 import re
 from collections.abc import Callable
-from typing import Optional
 
 from build import kit, logs
 from build.counts import Counts, counts_in
@@ -27,7 +26,7 @@ class Course:
     def __init__(self, line: Progress, total: int) -> None:
         """The line of progress, and how many crates there are."""
         self.line, self.total, self.proved = line, total, 0
-        self.counts: Optional[Counts] = None
+        self.counts: Counts | None = None
 
     def take(self, said: str) -> None:
         """Takes the next line."""

@@ -10,7 +10,6 @@ import threading
 from collections.abc import Iterable, Mapping, Sequence
 from dataclasses import dataclass
 from types import TracebackType
-from typing import Optional
 
 TICKS = os.sysconf("SC_CLK_TCK")
 KINDS = ("proof", "edits", "tests", "program")
@@ -43,7 +42,7 @@ class Spent:
     kind: str
 
 
-def process_of(number: str) -> Optional[Process]:
+def process_of(number: str) -> Process | None:
     """What the system knows of a process; nothing where it has ended."""
     try:
         with open(f"/proc/{number}/stat", encoding="utf-8", errors="replace") as it:
@@ -76,7 +75,7 @@ def is_copy(found: Mapping[str, Process], process: Process) -> bool:
 
 def is_below(found: Mapping[str, Process], process: Process) -> bool:
     """Whether a process was started by this one, or by one that was."""
-    above: Optional[Process] = process
+    above: Process | None = process
     while above and above.parent != str(os.getpid()):
         above = found.get(above.parent)
     return above is not None
@@ -88,7 +87,7 @@ class Costs:
 
     def __init__(self) -> None:
         self.spent: dict[Spent, float] = {}
-        self.phase: Optional[str] = None
+        self.phase: str | None = None
         self.began, self.is_over = used(), threading.Event()
         self.watcher = threading.Thread(target=self.watch, daemon=True)
 
@@ -98,9 +97,9 @@ class Costs:
 
     def __exit__(
         self,
-        kind: Optional[type[BaseException]],
-        why: Optional[BaseException],
-        trace: Optional[TracebackType],
+        kind: type[BaseException] | None,
+        why: BaseException | None,
+        trace: TracebackType | None,
     ) -> None:
         self.is_over.set()
         self.watcher.join()

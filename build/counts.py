@@ -2,7 +2,6 @@
 import re
 from collections.abc import Iterable
 from dataclasses import dataclass
-from typing import Optional
 
 LINE = re.compile(r"(\d+) passed, (\d+) failed")
 
@@ -21,7 +20,7 @@ class Counts:
         return f"{self.passed} passed, {self.failed} failed"
 
 
-def counts_in(line: str) -> Optional[Counts]:
+def counts_in(line: str) -> Counts | None:
     """The counts that a line tells, and nothing else."""
     found = LINE.fullmatch(line)
     return Counts(int(found[1]), int(found[2])) if found else None

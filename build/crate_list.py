@@ -1,6 +1,5 @@
 """Reads crates.txt: the names of the crates, and what each uses."""
 import os
-from typing import Optional
 
 from build.places import TOP
 
@@ -12,7 +11,7 @@ def uses_at(top: str) -> dict[str, list[str]]:
     return {left.split()[0]: right.split() for left, _, right in lines if left.strip()}
 
 
-def names_below(name: Optional[str], top: str = TOP) -> list[str]:
+def names_below(name: str | None, top: str = TOP) -> list[str]:
     """The crate of this name and all below it, each after those that it uses; without a name
     all crates of the repository."""
     uses, found = uses_at(top), dict[str, None]()

@@ -4,7 +4,7 @@ import os
 import shutil
 import threading
 from collections.abc import Iterator, Sequence
-from typing import Optional, TypeVar
+from typing import TypeVar
 
 from build import crate_list, kit
 
@@ -17,7 +17,7 @@ MADE = shutil.ignore_patterns("out", "*.so", "__pycache__")
 class Seen(threading.local):
     """What was seen of the files of each crate, by its folder, while one question is answered."""
 
-    looks: Optional[dict[str, Looks]] = None
+    looks: dict[str, Looks] | None = None
 
 
 SEEN = Seen()
@@ -47,7 +47,7 @@ class Crate(kit.KitCrate):
     program, and reads its files each time."""
 
     def __init__(self, folder: str, root: str, known: dict[str, "Crate"]) -> None:
-        self.known_below: Optional[list["Crate"]] = None
+        self.known_below: list["Crate"] | None = None
         self.known_stamp: tuple[list[Looks], str] = [], ""
         super().__init__(folder, root, known)
 

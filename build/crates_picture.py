@@ -12,7 +12,7 @@ from collections.abc import Iterable, Mapping, Sequence
 from dataclasses import dataclass, field
 from xml.sax.saxutils import escape
 
-TOP = os.path.dirname(os.path.dirname(os.path.abspath(__file__)))
+TOP = os.path.dirname(os.path.dirname(__file__))
 TABLE = os.path.join(TOP, "crates.txt")
 PICTURE = os.path.join(TOP, "docs", "crates.svg")
 

@@ -2,7 +2,7 @@
 import os
 import sys
 from collections.abc import Callable
-from typing import NoReturn, Optional
+from typing import NoReturn
 
 from build.logs import tail_of
 from build.places import shown
@@ -14,7 +14,7 @@ def fail(what: str, log: str) -> NoReturn:
     sys.exit(f"{what}. The whole output is in {shown(log)}")
 
 
-def leave(status: Optional[object]) -> NoReturn:
+def leave(status: object | None) -> NoReturn:
     """Ends at once, and with it a proof that is under way: the guard of `rt` ends all that was
     started here."""
     if isinstance(status, str):
@@ -24,7 +24,7 @@ def leave(status: Optional[object]) -> NoReturn:
     os._exit(status if isinstance(status, int) else 1 if status else 0)
 
 
-def run_and_leave(main: Callable[[], Optional[int]]) -> NoReturn:
+def run_and_leave(main: Callable[[], int | None]) -> NoReturn:
     """Runs a command, and ends with its status."""
     try:
         leave(main())

@@ -17,7 +17,6 @@ import tempfile
 import textwrap
 from collections.abc import Iterable, Iterator, Sequence
 from dataclasses import dataclass, replace
-from typing import Optional
 
 from build import costs, crate_list
 from build.bench_plans import KINDS, NO_CALLS
@@ -58,7 +57,7 @@ class Measured:
     same: Taken
     replay: Taken
     # `check` of the unproved program, where there is one.
-    unproved: Optional[Taken] = None
+    unproved: Taken | None = None
 
 
 class Figures:

@@ -21,7 +21,7 @@ import shutil
 import sys
 from collections.abc import Sequence
 from types import ModuleType
-from typing import TYPE_CHECKING, Optional
+from typing import TYPE_CHECKING
 
 
 def load_command() -> ModuleType:
@@ -128,10 +128,10 @@ def free() -> float:
     return found
 
 
-def read_edit(path: str, folder: str) -> tuple[Optional[dict[str, str]], Optional[str]]:
+def read_edit(path: str, folder: str) -> tuple[dict[str, str] | None, str | None]:
     """The texts of the files that an edit changes, by their paths in the crate, or why it can't be
     applied."""
-    found: tuple[Optional[dict[str, str]], Optional[str]] = RT.read_edit(path, folder)
+    found: tuple[dict[str, str] | None, str | None] = RT.read_edit(path, folder)
     return found
 
 

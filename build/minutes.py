@@ -1,7 +1,7 @@
 """How many minutes things took when they were measured (minutes.txt)."""
 import os
 
-FILE = os.path.join(os.path.dirname(os.path.abspath(__file__)), "minutes.txt")
+FILE = os.path.join(os.path.dirname(__file__), "minutes.txt")
 
 
 def minutes_of() -> dict[str, float]:

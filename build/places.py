@@ -1,7 +1,7 @@
 """Where things are in the repository."""
 import os
 
-TOP = os.path.dirname(os.path.dirname(os.path.abspath(__file__)))
+TOP = os.path.dirname(os.path.dirname(__file__))
 CRATES = os.path.join(TOP, "crates")
 # Logs, and what is measured. Git ignores this folder.
 LOGS = os.path.join(TOP, "out")

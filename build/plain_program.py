@@ -10,7 +10,6 @@ import shutil
 import subprocess
 import sys
 import tempfile
-from typing import Optional
 
 from build.places import LOGS, TOP, shown
 
@@ -26,7 +25,7 @@ def is_built() -> bool:
     return all(os.stat(it).st_mtime_ns < made for it in glob.glob(os.path.join(SOURCE, "*.rs")))
 
 
-def build_plain() -> tuple[Optional[str], str]:
+def build_plain() -> tuple[str | None, str]:
     """Builds the program where that has to be. Answers its path; or None, and in some words why it
     can't be built."""
     rustc = shutil.which("rustc")

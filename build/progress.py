@@ -4,7 +4,6 @@ import sys
 import threading
 import time
 from types import TracebackType
-from typing import Optional
 
 
 class Progress:
@@ -18,7 +17,7 @@ class Progress:
         """What begins, and how many minutes it is expected to take."""
         self.what, self.expected, self.state = what, expected, ""
         self.began = time.monotonic()
-        self.told: Optional[tuple[str, int]] = None
+        self.told: tuple[str, int] | None = None
         self.is_terminal, self.is_shown = sys.stdout.isatty(), False
         self.is_over, self.lock = threading.Event(), threading.Lock()
         self.ticker = threading.Thread(target=self.tick, daemon=True)
@@ -31,9 +30,9 @@ class Progress:
 
     def __exit__(
         self,
-        kind: Optional[type[BaseException]],
-        why: Optional[BaseException],
-        trace: Optional[TracebackType],
+        kind: type[BaseException] | None,
+        why: BaseException | None,
+        trace: TracebackType | None,
     ) -> None:
         self.is_over.set()
         self.ticker.join()

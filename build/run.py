@@ -17,7 +17,6 @@ import tempfile
 import threading
 import time
 from collections.abc import Iterator
-from typing import Optional
 
 from build.crates import copy_to, crates_for, locked
 from build.ending import fail, run_and_leave
@@ -42,7 +41,7 @@ class Proof(threading.Thread):
         super().__init__(daemon=True)
         self.crates = crates_for("program", TOP)
         self.line, self.log = Progress("proving", expected(self.crates)), log
-        self.failed: Optional[str] = "the proof was broken off"
+        self.failed: str | None = "the proof was broken off"
         self.start()
 
     def run(self) -> None:
@@ -53,7 +52,7 @@ class Proof(threading.Thread):
                 shutil.copy(BUILT, MADE)
         self.failed = f"not proved: {' '.join(failed)}" if failed else None
 
-    def end(self) -> Optional[str]:
+    def end(self) -> str | None:
         """Waits for the end. Says what failed, if anything did."""
         with self.line:
             self.join()

@@ -25,7 +25,7 @@ import tempfile
 import time
 from collections import Counter
 from collections.abc import Callable
-from typing import NamedTuple, Optional
+from typing import NamedTuple
 
 import answer_soaking
 import pattern_soaking
@@ -55,7 +55,7 @@ class Files(NamedTuple):
 
     ending: str
     random_file: Callable[[random.Random], tuple[bytes, int]]
-    difference_of: Callable[[Runner, bytes, int], tuple[Optional[Difference], str]]
+    difference_of: Callable[[Runner, bytes, int], tuple[Difference | None, str]]
 
 
 PLANS = Files(".plan", random_plans.random_file, soaking.difference_of)
@@ -187,7 +187,7 @@ def listed(counts: Counter[str]) -> str:
     return ", ".join(f"{count:,} {name}" for name, count in sorted(counts.items()))
 
 
-def only_files(args: argparse.Namespace) -> Optional[Files]:
+def only_files(args: argparse.Namespace) -> Files | None:
     """The files of a soak of one kind alone, if one is asked for."""
     if args.inferred:
         return INFERRED

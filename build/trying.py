@@ -13,7 +13,6 @@ import sys
 import tempfile
 from collections.abc import Sequence
 from dataclasses import dataclass
-from typing import Optional
 
 from build import kit, logs
 from build.ending import fail, run_and_leave
@@ -82,7 +81,7 @@ def write_cases(room: str, file: str) -> None:
             it.write(f"{command}\n")
 
 
-def tried(file: str, top: str, log: str) -> Optional[Tried]:
+def tried(file: str, top: str, log: str) -> Tried | None:
     """What came of the commands on the file; nothing where the build failed."""
     with tempfile.TemporaryDirectory(prefix="wire-up-") as room:
         write_cases(room, file)

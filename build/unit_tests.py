@@ -11,7 +11,7 @@ import traceback
 import unittest
 from collections.abc import Sequence
 from types import TracebackType
-from typing import Optional, Union
+from typing import Union
 
 from build.counts import Counts
 from build.places import TOP
@@ -41,7 +41,7 @@ class Result(unittest.TestResult):
         self,
         test: unittest.TestCase,
         subtest: unittest.TestCase,
-        err: Optional[Raised],
+        err: Raised | None,
     ) -> None:
         super().addSubTest(test, subtest, err)
         self.subtests += 1

@@ -5,7 +5,6 @@ import subprocess
 import sys
 from collections.abc import Sequence
 from dataclasses import dataclass
-from typing import Optional
 
 SECONDS = 60
 ROW = re.compile(r"(?m)^ {2,6}(\S.*?) {2,}(\S.*)$")
@@ -20,7 +19,7 @@ class Word:
     An option without a word of its own has no value."""
 
     names: list[str]
-    value: Optional[str]
+    value: str | None
     meaning: str
 
 

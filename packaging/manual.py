@@ -12,7 +12,7 @@ from collections.abc import Callable, Sequence
 import helps
 from helps import Word
 
-TOP = os.path.dirname(os.path.dirname(os.path.abspath(__file__)))
+TOP = os.path.dirname(os.path.dirname(__file__))
 RECORDER, REPORTER = os.path.join(TOP, "wire_up-record"), os.path.join(TOP, "wire_up-report")
 RUNNER = os.path.join(TOP, "wire_up-run")
 # A part of a paragraph of Markdown: code, strong words, slanted words, a link, or plain text.

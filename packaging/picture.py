@@ -11,9 +11,8 @@ import subprocess
 import sys
 import tempfile
 from collections.abc import Sequence
-from typing import Optional
 
-TOP = os.path.dirname(os.path.dirname(os.path.abspath(__file__)))
+TOP = os.path.dirname(os.path.dirname(__file__))
 PLAN = os.path.join(TOP, "examples", "early-get.plan")
 PLACE = os.path.join(TOP, "docs", "report.png")
 WIDTH, SECONDS = 960, 120
@@ -38,7 +37,7 @@ document.getElementById('said').textContent = height"></iframe>
 """
 
 
-def browser() -> Optional[str]:
+def browser() -> str | None:
     """The path of Chromium, or of a browser made from it; None where there is none."""
     for name in ("chromium", "chromium-browser", "google-chrome"):
         found = shutil.which(name)
@@ -66,7 +65,7 @@ def shown(room: str, *words: str) -> str:
     return run([browser() or "chromium", *how, *words]).stdout
 
 
-def height_of(room: str) -> Optional[str]:
+def height_of(room: str) -> str | None:
     """How high the report in a folder is that is shown, in pixels."""
     with open(os.path.join(room, "measure.html"), "w", encoding="ascii") as it:
         it.write(MEASURE.format(width=WIDTH))
@@ -75,7 +74,7 @@ def height_of(room: str) -> Optional[str]:
     return found[1] if found else None
 
 
-def make_picture(program: str, path: str) -> Optional[str]:
+def make_picture(program: str, path: str) -> str | None:
     """Makes the picture. Answers what was wrong, if anything."""
     with tempfile.TemporaryDirectory(prefix="wire-up-picture-", ignore_cleanup_errors=True) as room:
         page, made = os.path.join(room, "report.html"), os.path.join(room, "made.png")

@@ -3,4 +3,4 @@ import os
 import sys
 
 # So that a test that is named, such as `tests.test_readme`, finds what stands beside it.
-sys.path.insert(0, os.path.dirname(os.path.abspath(__file__)))
+sys.path.insert(0, os.path.dirname(__file__))

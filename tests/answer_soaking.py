@@ -15,7 +15,7 @@ import json
 import random
 import re
 from collections.abc import Iterator
-from typing import Any, NamedTuple, Optional
+from typing import Any, NamedTuple
 
 import grammar
 import pattern_reference
@@ -167,7 +167,7 @@ def look(runner: Runner, text: bytes, seed: int) -> str:
     return "without findings"
 
 
-def difference_of(runner: Runner, text: bytes, seed: int) -> tuple[Optional[Difference], str]:
+def difference_of(runner: Runner, text: bytes, seed: int) -> tuple[Difference | None, str]:
     """The difference that a pattern shows, or None, and what kind of file it is."""
     try:
         return None, look(runner, text, seed)

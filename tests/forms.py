@@ -56,7 +56,7 @@ def place_of(proc: str, number: str) -> dict[str, Any]:
 
 def answer_as_json(answer: bytes) -> bytes:
     """What `why` writes, as JSON."""
-    first, *lines = [line.split(" ") for line in answer.decode().splitlines()]
+    first, *lines = (line.split(" ") for line in answer.decode().splitlines())
     if first == ["unordered"]:
         return one_line({"before": None, "dead": [place_of(*words) for _, *words in lines]})
     steps = [
@@ -68,7 +68,7 @@ def answer_as_json(answer: bytes) -> bytes:
 
 def tried_as_json(text: bytes) -> bytes:
     """What `witness` writes of all races, as JSON."""
-    *lines, last = [line.split(" ") for line in text.decode().splitlines()]
+    *lines, last = (line.split(" ") for line in text.decode().splitlines())
     races = []
     for verdict, *words in lines:
         shown, words = (place_of(*words[:2]), words[2:]) if verdict == "shown" else (None, words)

@@ -2,7 +2,7 @@
 runs."""
 import random
 from collections.abc import Iterator, Sequence
-from typing import NamedTuple, Optional, Union
+from typing import NamedTuple, Union
 
 from tapes import Tape, make_world
 
@@ -26,8 +26,8 @@ class Ask(NamedTuple):
     """It receives a message, or probes for one; None is any source or tag."""
 
     is_probe: bool
-    source: Optional[int]
-    tag: Optional[int]
+    source: int | None
+    tag: int | None
 
 
 class Barrier(NamedTuple):
@@ -50,7 +50,7 @@ class Step(NamedTuple):
 
     rank: int
     action: Action
-    came: Optional[Message] = None
+    came: Message | None = None
 
 
 class State(NamedTuple):
@@ -137,7 +137,7 @@ class Free:
 
     def steps(self, state: State) -> Iterator[tuple[Step, State]]:
         """The steps that can be taken next, and the states after them."""
-        heads: list[Optional[Action]] = [
+        heads: list[Action | None] = [
             script[place] if place < len(script) else None
             for script, place in zip(self.scripts, state.places)
         ]

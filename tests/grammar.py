@@ -104,13 +104,13 @@ def is_name(word: bytes) -> bool:
     return bool(word) and not re.search(rb"[:,#*]", word)
 
 
-def parts_of_proc(word: bytes) -> Optional[Item]:
+def parts_of_proc(word: bytes) -> Item | None:
     """The name and the rank of a PROC, or None."""
     name, colon, rank = word.partition(b":")
     return (name, int(rank)) if colon and is_name(name) and RANK.fullmatch(rank) else None
 
 
-def items_of_set(word: bytes) -> Optional[list[Item]]:
+def items_of_set(word: bytes) -> list[Item] | None:
     """The items of a SET, each a name and a rank (None for all of its ranks); an empty list for
     `all`; None where it's no SET."""
     if word == b"all":
@@ -277,7 +277,7 @@ def read(text: bytes) -> Scripts:
     return scripts
 
 
-def process_named(scripts: Scripts, word: bytes) -> Optional[Process]:
+def process_named(scripts: Scripts, word: bytes) -> Process | None:
     """The process that a PROC names, or None."""
     named = parts_of_proc(word)
     return next((it for it in scripts.procs if (it.job, it.rank) == named), None)

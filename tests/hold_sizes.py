@@ -20,7 +20,7 @@ import subprocess
 import sys
 import tempfile
 from collections.abc import Iterator, Sequence
-from typing import Any, NamedTuple, Optional
+from typing import Any, NamedTuple
 
 import support
 from build.suite.source import SuiteProgram, find_programs
@@ -68,7 +68,7 @@ class Asked(NamedTuple):
     family: str
     nodes: int
     line: str
-    status: Optional[int]
+    status: int | None
     wrote: str
     said: str
 

@@ -6,7 +6,7 @@ what a failure needs is a number of events that the owner has done: see `Ask`.
 """
 from collections.abc import Iterator, Mapping
 from dataclasses import dataclass
-from typing import NamedTuple, Optional
+from typing import NamedTuple
 
 import model
 import model_runs
@@ -94,9 +94,9 @@ class State(NamedTuple):
     places of `Axioms.pairs`), and who published each name, by the places of `Axioms.named`."""
 
     done: tuple[int, ...]
-    asks: tuple[Optional[Ask], ...]
+    asks: tuple[Ask | None, ...]
     come: tuple[int, ...]
-    names: tuple[Optional[Event], ...]
+    names: tuple[Event | None, ...]
 
 
 # Who has published a name that a publish found there or an unpublish missed: nobody knows.
@@ -286,7 +286,7 @@ class Axioms:
         """Whether the library has kept the name so far as the rules do."""
         return self.family.names and state.names[self.named.index(name)] != LOST
 
-    def published(self, state: State, name: bytes) -> Optional[Event]:
+    def published(self, state: State, name: bytes) -> Event | None:
         """The publish of a name that is kept."""
         return state.names[self.named.index(name)]
 
@@ -306,7 +306,7 @@ class Axioms:
             return verb == b"lookup" and reply == model.NOT_FOUND
         return reply == succeed(self.facts.words(it)[2])
 
-    def names_after(self, state: State, event: Event) -> tuple[Optional[Event], ...]:
+    def names_after(self, state: State, event: Event) -> tuple[Event | None, ...]:
         """Who has published each name after an event."""
         verb, *words = self.facts.words(event)
         if verb not in (b"publish", b"unpublish") or model.is_reserved(words[0]):

@@ -11,7 +11,6 @@ the same rank can come before it: a get that has waited for longer may be answer
 """
 import itertools
 from collections.abc import Iterator
-from typing import Optional
 
 from library_axioms import WAITING, Axioms, State
 from library_plans import put_at
@@ -83,7 +82,7 @@ class Search:
         has_mates = any(nodes[it.rank] == nodes[event.rank] for it in mates)
         return self.family.at_once or event not in self.axioms.gets or not has_mates
 
-    def quiet_step(self, state: State) -> Optional[State]:
+    def quiet_step(self, state: State) -> State | None:
         """The state after a step that is taken as soon as it can be."""
         for event in self.nexts(state):
             if not self.is_asked(state, event):
@@ -95,7 +94,7 @@ class Search:
 
     def settle(self, state: State) -> State:
         """Takes all those steps."""
-        after: Optional[State] = state
+        after: State | None = state
         while after:
             state, after = after, self.quiet_step(after)
         return state

@@ -26,7 +26,7 @@ def succeed(value: bytes) -> bytes:
     return model.SUCCESS + b" " + value
 
 
-def reply_with(put: Optional[Put]) -> bytes:
+def reply_with(put: Put | None) -> bytes:
     """The reply to a get-now that sees a pair, or nothing."""
     return succeed(put.value) if put else model.NOT_FOUND
 

@@ -8,7 +8,6 @@ import sys
 import tempfile
 import unittest
 from collections.abc import Iterator
-from typing import Optional
 
 import support
 from support import TOP
@@ -101,7 +100,7 @@ def run_plainly(words: list[str]) -> Ran:
     )
 
 
-def find_python() -> Optional[str]:
+def find_python() -> str | None:
     """A Python that has mpi4py; None where there is none."""
     for it in (sys.executable, shutil.which("python3", path=os.defpath)):
         asked = [it or "false", "-c", "import mpi4py"]
@@ -151,7 +150,7 @@ class LiveTest(unittest.TestCase):
     """Tests in a folder of their own, with the recorders built, and programs compiled."""
 
     folder: tempfile.TemporaryDirectory[str]
-    program: Optional[str]
+    program: str | None
 
     @classmethod
     def setUpClass(cls) -> None:

@@ -8,7 +8,6 @@ import sys
 import time
 import unittest
 from collections.abc import Callable, Mapping
-from typing import Optional
 
 from live import run_plainly
 from running import ProgramCase, written
@@ -65,7 +64,7 @@ class LiveRuns(ProgramCase):
         """A command line."""
         return [sys.executable, COMMAND, "--checker", self.program, *words]
 
-    def environment(self, temporary: Optional[str] = None) -> Mapping[str, str]:
+    def environment(self, temporary: str | None = None) -> Mapping[str, str]:
         """An environment with a folder for temporary files: else that of the test."""
         return {**os.environ, "TMPDIR": temporary or self.room, MARK: self.room}
 
@@ -76,8 +75,8 @@ class LiveRuns(ProgramCase):
     def run_it(
         self,
         *words: str,
-        temporary: Optional[str] = None,
-        set_up: Optional[Callable[[], object]] = None,
+        temporary: str | None = None,
+        set_up: Callable[[], object] | None = None,
     ) -> Ran:
         """Runs it to its end. Nothing of it stays."""
         ran = subprocess.run(
@@ -93,7 +92,7 @@ class LiveRuns(ProgramCase):
         self.hold_nothing_left(temporary)
         return ran
 
-    def hold_nothing_left(self, temporary: Optional[str] = None) -> None:
+    def hold_nothing_left(self, temporary: str | None = None) -> None:
         """Fails where a process or a folder of a run is left."""
         self.assertEqual([], glob.glob(os.path.join(temporary or self.room, "wire_up-run-*")))
         self.assertEqual([], [read_words(it) for it in self.find_processes()])

@@ -12,7 +12,7 @@ import functools
 import operator
 import sys
 from collections import Counter, defaultdict
-from typing import NamedTuple, Optional
+from typing import NamedTuple
 
 import grammar
 from grammar import Words
@@ -144,14 +144,14 @@ class Plan:
             for name in own if self.words(event) == STAR else [self.words(event)[1]]:
                 self.on_name[name].append(event)
 
-    def commit_of(self, owner: int, key: bytes) -> Optional[Event]:
+    def commit_of(self, owner: int, key: bytes) -> Event | None:
         """The owner's first commit after its only put of a key, or None."""
         puts = self.puts.get((owner, key), [])
         return next(
             (it for it in self.commits[owner] if len(puts) == 1 and it.call > puts[0].call), None
         )
 
-    def only_publish(self, name: bytes) -> Optional[Event]:
+    def only_publish(self, name: bytes) -> Event | None:
         """The publish of a name that is published exactly once and never unpublished, or None."""
         is_unpublished = any(self.words(it)[0] == b"unpublish" for it in self.on_name[name])
         return (
@@ -160,7 +160,7 @@ class Plan:
             else None
         )
 
-    def sources_elsewhere(self, event: Event) -> Optional[list[Event]]:
+    def sources_elsewhere(self, event: Event) -> list[Event] | None:
         """The sources of an event but the one before it in its rank, or None if the scripts rule
         the event out."""
         verb, *words = self.words(event)
@@ -186,12 +186,12 @@ class Plan:
         scripts rule it out; and the live ones, each with the bits of all that are before it."""
         leaves = [it._replace(leaves=True) for it in self.fence_of]
         events: list[list[Event]] = [[] for _ in self.ranks]
-        self.sources: dict[Event, Optional[list[Event]]] = {}
+        self.sources: dict[Event, list[Event] | None] = {}
         for event in sorted(self.firsts + leaves):
             elsewhere, before = self.sources_elsewhere(event), events[event.rank][-1:]
             self.sources[event] = None if elsewhere is None else elsewhere + before
             events[event.rank].append(event)
-        self.events: list[list[Optional[Event]]] = [[*it, None] for it in events]
+        self.events: list[list[Event | None]] = [[*it, None] for it in events]
         self.bit = {it: 1 << n for n, it in enumerate(self.sources)}
         self.past: dict[Event, int] = {}
         count = -1

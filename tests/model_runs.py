@@ -1,7 +1,7 @@
 """Runs of the model of plans (model.py), written from the same documents: the reports of runs, and
 the four runs that may show a race, as docs/commands.md has them."""
 from collections.abc import Sequence
-from typing import NamedTuple, Optional
+from typing import NamedTuple
 
 from model import (
     BAD_PARAM,
@@ -29,7 +29,7 @@ class Shown(NamedTuple):
     second: "Run"
 
 
-def value_of(put: Optional[Put]) -> bytes:
+def value_of(put: Put | None) -> bytes:
     """The reply to a get that sees a pair, or nothing."""
     return SUCCESS + b" " + put.value if put else NOT_FOUND
 
@@ -50,9 +50,9 @@ class Run:
         self.arrived: dict[Event, dict[bytes, Put]] = {}
         # Who published what under each name, and what gets brought, by node, owner and key.
         self.names: dict[bytes, tuple[int, bytes]] = {}
-        self.kept: dict[tuple[bytes, int, bytes], Optional[Put]] = {}
+        self.kept: dict[tuple[bytes, int, bytes], Put | None] = {}
 
-    def next(self, rank: int) -> Optional[Event]:
+    def next(self, rank: int) -> Event | None:
         """The event at which a rank stands, or None."""
         return self.plan.events[rank][self.at[rank]]
 
@@ -123,7 +123,7 @@ class Run:
             self.kept[node, owner, key] = seen
         return value_of(seen)
 
-    def brought(self, node: bytes, owner: int, key: bytes) -> Optional[Put]:
+    def brought(self, node: bytes, owner: int, key: bytes) -> Put | None:
         """The pair of a rank that fences and gets brought to another node: of two, the one that was
         put later."""
         by_fence, by_get = None, self.kept.get((node, owner, key))
@@ -166,7 +166,7 @@ class Run:
             return NOT_FOUND
         return SUCCESS + b" " + published
 
-    def go(self, held: Optional[Event] = None, towards: Optional[Event] = None) -> "Run":
+    def go(self, held: Event | None = None, towards: Event | None = None) -> "Run":
         """Goes on until nobody can: the lowest rank that can take a step does. The rank of an event
         that is held back takes it only if no other can go on. If it goes towards an event, only
         what is before that one is taken."""
@@ -177,7 +177,7 @@ class Run:
                 return self
             self.step(next(able, rank) if self.next(rank) == held else rank)
 
-    def can_go(self, rank: int, towards: Optional[Event]) -> bool:
+    def can_go(self, rank: int, towards: Event | None) -> bool:
         """Whether a rank can take a step, and one that is before an event if that is given."""
         event = self.next(rank)
         if event is None or not self.is_ready(rank):
@@ -201,7 +201,7 @@ class Run:
         return b"".join(lines) + b"waiting %d\n" % waiting
 
 
-def followed(plan: Plan, steps: Sequence[bytes]) -> tuple[Run, Optional[int]]:
+def followed(plan: Plan, steps: Sequence[bytes]) -> tuple[Run, int | None]:
     """The run of an order, each step a PROC, and None; or the run before the first step that can't
     be taken, and that step's number."""
     run = Run(plan)
@@ -215,7 +215,7 @@ def followed(plan: Plan, steps: Sequence[bytes]) -> tuple[Run, Optional[int]]:
 # The four runs that may show a race.
 
 
-def needed(plan: Plan, x: Event, y: Event) -> Optional[Run]:
+def needed(plan: Plan, x: Event, y: Event) -> Run | None:
     """The run with only what is needed for x, then x, only what is needed for y, then y, and then
     everything. None if one can't come."""
     run = Run(plan)
@@ -232,7 +232,7 @@ def is_first(run: Run, x: Event, y: Event) -> bool:
     return x in run.taken and run.taken[x] < run.taken.get(y, len(run.order))
 
 
-def witness(plan: Plan, x: Event, y: Event) -> Optional[Shown]:
+def witness(plan: Plan, x: Event, y: Event) -> Shown | None:
     """What shows a race of two calls, each given by its first event, or None if the four runs
     don't. In which order the runs are laid side by side, and that x is looked at before y, is how
     the program has it; the documents leave it open."""

@@ -1,6 +1,5 @@
 """Recordings, and the order of the lines that they must become."""
 import unittest
-from typing import Optional
 
 from tapes import Recordings, Scripts, read_scripts, write_plan_of
 
@@ -14,7 +13,7 @@ SENT, WAITS = "publish mpi.0.1.{} sent", "lookup-wait mpi.0.1.{}"
 class OrderTest(unittest.TestCase):
     """A test that recordings become lines."""
 
-    def become(self, tapes: Recordings, scripts: Scripts, comment: Optional[str] = None) -> None:
+    def become(self, tapes: Recordings, scripts: Scripts, comment: str | None = None) -> None:
         """Tests that tapes become the scripts of a plan, with a comment."""
         plan = write_plan_of(tapes)
         self.assertEqual(read_scripts(plan), [[*it] for it in scripts])

@@ -5,7 +5,7 @@ A pattern has jobs, a job has roles, and a role has a script: call lines and loo
 0 in the order of the file, over all jobs.
 """
 import re
-from typing import NamedTuple, Optional, Union
+from typing import NamedTuple, Union
 
 import grammar
 from grammar import NAME_BYTES, VALUE_BYTES, Refused, Words
@@ -48,8 +48,8 @@ class Line(NamedTuple):
     at: int
     number: int
     words: tuple[bytes, ...]
-    key: Optional[Word]
-    who: Optional[bytes]
+    key: Word | None
+    who: bytes | None
     items: tuple[bytes, ...]
 
     @property
@@ -104,7 +104,7 @@ class Role(NamedTuple):
     at: int
     job: int
     name: bytes
-    least: Optional[int]
+    least: int | None
     steps: list[Step]
 
     @property
@@ -126,7 +126,7 @@ class Pattern(NamedTuple):
     job_lines: list[int]
     roles: list[Role]
 
-    def role(self, name: bytes) -> Optional[Role]:
+    def role(self, name: bytes) -> Role | None:
         return next((it for it in self.roles if it.name == name), None)
 
 
@@ -153,7 +153,7 @@ def is_item(word: bytes) -> bool:
     return is_name(word[:-2]) if word.endswith(b":*") else is_who(word)
 
 
-def parts_of_word(text: bytes) -> Optional[Word]:
+def parts_of_word(text: bytes) -> Word | None:
     """A key or a name in parts, or None if it's none."""
     found = re.fullmatch(rb"([^][]+)(?:\[([^][]+)\])?", text)
     if not found or found[1] == b"*":
@@ -163,7 +163,7 @@ def parts_of_word(text: bytes) -> Optional[Word]:
     return Word(base, tuple(indices)) if all(is_who(it) for it in indices) else None
 
 
-def parts_of_set(text: bytes) -> Optional[tuple[bytes, ...]]:
+def parts_of_set(text: bytes) -> tuple[bytes, ...] | None:
     """The items of a set, or None if it's none."""
     items = tuple(text.split(b","))
     return items if items == (ALL,) or all(is_item(it) for it in items) else None
@@ -189,7 +189,7 @@ def shape_of(verb: bytes, rest: Words) -> tuple[str, ...]:
     return SHAPES[verb]
 
 
-def line_of(at: int, number: int, words: Words) -> Optional[Line]:
+def line_of(at: int, number: int, words: Words) -> Line | None:
     """A call line, or None if it's none."""
     if words[0] not in SHAPES:
         return None
@@ -217,7 +217,7 @@ class FirstPass:
         self.pattern = Pattern(False, [], [], [])
         # The loop that is open, over the first of its roles, and all its roles. And how many call
         # lines the last role has.
-        self.loop: Optional[Loop] = None
+        self.loop: Loop | None = None
         self.listed: list[bytes] = []
         self.count = 0
 
@@ -344,7 +344,7 @@ class SecondPass:
         for line in loop.lines:
             self.judge_line(role, line, loop)
 
-    def judge_line(self, role: Role, line: Line, loop: Optional[Loop]) -> None:
+    def judge_line(self, role: Role, line: Line, loop: Loop | None) -> None:
         single = [it for it in line.processes if it not in (SELF, EACH)]
         items = [it for it in line.items if it not in (SELF, EACH, ALL)]
         jobs = [it[:-2] for it in items if it.endswith(b":*")]

@@ -8,7 +8,7 @@ those of pattern_calls.py.
 from bisect import bisect
 from collections import defaultdict
 from collections.abc import Iterator, Sequence
-from typing import NamedTuple, Optional
+from typing import NamedTuple
 
 from pattern_calls import Call, Script, Sync, is_reserved
 
@@ -73,7 +73,7 @@ class Plan:
         self.marks: list[list[int]] = [[] for _ in scripts]
         self.clocks: list[list[Clock]] = [[] for _ in scripts]
         # The arrivals at each fence that was asked about, and what is before its end.
-        self.known: dict[Fence, Optional[Arrivals]] = {}
+        self.known: dict[Fence, Arrivals | None] = {}
         self.met: dict[Fence, Clock] = {}
         self.find_live()
 
@@ -105,7 +105,7 @@ class Plan:
             self.clocks[rank].append([max(it) for it in zip(here, elsewhere)])
         return True
 
-    def before_elsewhere(self, rank: int, sync: Sync) -> Optional[Clock]:
+    def before_elsewhere(self, rank: int, sync: Sync) -> Clock | None:
         """What is before an event by its sources in other ranks, which may be nothing; None while
         one of them isn't live, and if the scripts rule the event out."""
         call = sync.call
@@ -123,7 +123,7 @@ class Plan:
             return self.through((owner.rank, commit))
         return [] if len(puts) > 1 else None
 
-    def before_leave(self, fence: Fence) -> Optional[Clock]:
+    def before_leave(self, fence: Fence) -> Clock | None:
         """What is before the end of a fence, once all arrivals at it are live."""
         if fence not in self.met:
             arrivals = self.arrivals(fence)
@@ -132,7 +132,7 @@ class Plan:
             self.met[fence] = [max(it) for it in zip(*(self.upto(it) for it in arrivals))]
         return self.met[fence]
 
-    def arrivals(self, fence: Fence) -> Optional[Arrivals]:
+    def arrivals(self, fence: Fence) -> Arrivals | None:
         """The arrivals at a fence, in rank order, or None if a member doesn't call it."""
         if fence not in self.known:
             members, turn = fence
@@ -141,7 +141,7 @@ class Plan:
             self.known[fence] = [(it, its[turn][0]) for it, its in calls] if is_full else None
         return self.known[fence]
 
-    def only_publish(self, name: bytes) -> Optional[Event]:
+    def only_publish(self, name: bytes) -> Event | None:
         """The publish of a name that is published once and that no call takes away, or None."""
         if any(name in it.takes for it in self.scripts):
             return None
@@ -151,7 +151,7 @@ class Plan:
     def is_live(self, event: Event) -> bool:
         return event[1] < self.live[event[0]]
 
-    def through(self, event: Event) -> Optional[Clock]:
+    def through(self, event: Event) -> Clock | None:
         """What is before an event, and the event itself; None while it isn't live."""
         return self.upto(event) if self.is_live(event) else None
 
@@ -191,7 +191,7 @@ class Plan:
         found = []
         for script in (it for it in self.scripts if it.has_rewrites):
             for key, its in script.puts.items():
-                first, *later = [self.place((script.rank, it)) for it in its]
+                first, *later = (self.place((script.rank, it)) for it in its)
                 found += [Finding(first, it, key) for it in later]
         return sorted(found, key=lambda it: it.higher)
 
@@ -242,7 +242,7 @@ class Plan:
                 if asked == (b"get", owner.rank, key) and self.is_live((script.rank, sync.at)):
                     yield Delivery(frozenset([script.rank]), [(script.rank, sync.at)])
 
-    def collecting(self, fence: Fence) -> Optional[Arrivals]:
+    def collecting(self, fence: Fence) -> Arrivals | None:
         """The arrivals at a fence, if all are live and say collect."""
         members, turn = fence
         events = self.arrivals(fence) or []
@@ -340,10 +340,10 @@ class Run:
             self.step(rank)
             rank = self.next_rank()
 
-    def next_rank(self) -> Optional[int]:
+    def next_rank(self) -> int | None:
         return next((it for it in self.plan.ranks if self.is_ready(it)), None)
 
-    def stands_at(self, rank: int) -> Optional[Call]:
+    def stands_at(self, rank: int) -> Call | None:
         """The call that a rank hasn't been answered, if there is one."""
         calls = self.plan.scripts[rank].calls
         return calls[self.at[rank]] if self.at[rank] < len(calls) else None

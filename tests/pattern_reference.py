@@ -9,7 +9,7 @@ import itertools
 import sys
 from collections import Counter, defaultdict
 from collections.abc import Iterator, Sequence
-from typing import NamedTuple, Optional
+from typing import NamedTuple
 
 import grammar
 import pattern_grammar
@@ -275,7 +275,7 @@ class Judge:
         self.waits: set[tuple[int, int, bytes]] = set()
         self.statuses: dict[tuple[int, int], set[bytes]] = defaultdict(set)
 
-    def counterexample(self) -> Optional[bytes]:
+    def counterexample(self) -> bytes | None:
         """The first instance with findings, as it is written. If there is none, all that waits and
         all statuses are noted."""
         for sizes in sizes_of(self.pattern):
@@ -288,7 +288,7 @@ class Judge:
                 self.note(ranks, plan, verdict)
         return None
 
-    def first_found(self, ranks: Ranks, plan: Plan, verdict: Verdict) -> Optional[bytes]:
+    def first_found(self, ranks: Ranks, plan: Plan, verdict: Verdict) -> bytes | None:
         """The first placement of a plan with findings, as it is written."""
         if verdict.is_clean_everywhere():
             return None
@@ -354,7 +354,7 @@ class Wait(NamedTuple):
         return b"ranks wait for ever with %s:\n" % self.words()
 
 
-def find_first_wait(pattern: Pattern) -> Optional[Wait]:
+def find_first_wait(pattern: Pattern) -> Wait | None:
     """The first instance that is judged in which a rank waits for ever."""
     for sizes in sizes_of(pattern):
         ranks = Ranks(pattern, sizes)

@@ -19,7 +19,7 @@ with very many isn't looked at.
 import functools
 import random
 import subprocess
-from typing import NamedTuple, Optional
+from typing import NamedTuple
 
 import grammar
 import pattern_grammar
@@ -247,7 +247,7 @@ def look(runner: Runner, text: bytes, seed: int) -> str:
     return Look(runner, text, pattern, seed).at_all()
 
 
-def difference_of(runner: Runner, text: bytes, seed: int) -> tuple[Optional[Difference], str]:
+def difference_of(runner: Runner, text: bytes, seed: int) -> tuple[Difference | None, str]:
     """The difference that a pattern shows, or None, and what kind of file it is."""
     try:
         return None, look(runner, text, seed)

@@ -5,7 +5,6 @@ Up to that answer all were those of the rules. So each state is looked at to whi
 that has their replies alone, and there each call that is made, with each reply that it could have.
 """
 from collections.abc import Iterator, Mapping
-from typing import Optional
 
 import model
 from library_axioms import UNREACHED, WAITING, Axioms, Library, State
@@ -70,14 +69,14 @@ class Divergence(Search):
             return False
         return any(self.axioms.wanted(it) not in (WAITING, UNREACHED) for it in nexts)
 
-    def differs(self, state: State) -> Optional[str]:
+    def differs(self, state: State) -> str | None:
         """What isn't by the rules at a state."""
         for event in self.nexts(state):
             if self.is_asked(state, event) and self.may_differ(state, event):
                 return f"{self.facts.plan.call_text(event).decode()} may be answered otherwise"
         return "it may stand earlier" if self.stands_early(state) else None
 
-    def find(self, most: int) -> Iterator[Optional[str]]:
+    def find(self, most: int) -> Iterator[str | None]:
         """What isn't by the rules, if anything is: one answer. None is given where that would take
         more states than so many."""
         stack = [self.start()]

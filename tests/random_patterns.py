@@ -2,7 +2,7 @@
 import random
 import re
 from collections.abc import Callable, Sequence
-from typing import NamedTuple, Optional
+from typing import NamedTuple
 
 import random_plans
 from random_plans import NUMBERS, RESERVED, Words, styled
@@ -45,7 +45,7 @@ class Part(NamedTuple):
 
     job: bytes
     name: bytes
-    least: Optional[int]
+    least: int | None
 
 
 def head_of(roles: Sequence[Part], mode: Sequence[bytes]) -> Words:
@@ -227,7 +227,7 @@ class Deal(NamedTuple):
     is_name: bool
     base: bytes
     writer: Part
-    group: Optional[Part]
+    group: Part | None
 
 
 class DealMaker(Maker):

@@ -1,7 +1,7 @@
 """Random runs of MPI programs, which know the order of their marks."""
 import random
 from collections.abc import Callable, Sequence
-from typing import NamedTuple, Optional
+from typing import NamedTuple
 
 from tapes import make_world
 
@@ -65,7 +65,7 @@ class World:
                 self.tapes[rank].say(f"comm 4 1 c3 0,{self.size - 1}")
         return found
 
-    def mark(self, rank: Optional[int] = None) -> None:
+    def mark(self, rank: int | None = None) -> None:
         """A process publishes a mark."""
         rank = self.random.randrange(self.size) if rank is None else rank
         name = f"m{len(self.marks)}"

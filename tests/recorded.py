@@ -1,7 +1,6 @@
 """What the recordings of the repository are, and what the checker finds in plans of them."""
 import re
 from dataclasses import dataclass
-from typing import Optional
 
 from tapes import ask_program, read_file
 from wire_up_tools import words
@@ -250,7 +249,7 @@ def drop_each_run(said: str) -> str:
     return said.replace(EACH_RUN, "")
 
 
-def why_other_findings(program: str, plan: str, count: int) -> Optional[str]:
+def why_other_findings(program: str, plan: str, count: int) -> str | None:
     """What is wrong with the findings of a plan, which must be so many races on names."""
     is_large = any(it.startswith("# Larger than") for it in read_file(plan).splitlines())
     ran = ask_program(program, "check", *["--large"] * is_large, plan)
@@ -269,7 +268,7 @@ def is_alike(real: str, replayed: str) -> bool:
     return not must_be_equal and reply.startswith("PMIX_ERR")
 
 
-def why_other_replay(program: str, plan: str, answers: str) -> Optional[str]:
+def why_other_replay(program: str, plan: str, answers: str) -> str | None:
     """Where the replay of a plan and the real ends of its calls differ, if they do."""
     ran, real = ask_program(program, "replay", plan), read_file(answers).splitlines()
     replayed = ran.stdout.splitlines()
@@ -283,7 +282,7 @@ def why_other_replay(program: str, plan: str, answers: str) -> Optional[str]:
 
 def why_wrong(
     program: str, plan: str, answers: str, count: int, is_replayed: bool = True
-) -> Optional[str]:
+) -> str | None:
     """What is wrong with a plan that must have so many findings. One without must be replayed as
     it was, if it `is_replayed`."""
     found = why_other_findings(program, plan, count)

@@ -5,7 +5,7 @@ import shutil
 import subprocess
 import unittest
 from collections.abc import Sequence
-from typing import NamedTuple, Optional
+from typing import NamedTuple
 
 import support
 
@@ -36,7 +36,7 @@ def library(room: str) -> str:
 
 
 def run_with(
-    library_path: str, words: Sequence[str], given: Optional[bytes] = None, **told: int
+    library_path: str, words: Sequence[str], given: bytes | None = None, **told: int
 ) -> tuple[Outcome, bytes]:
     """How a run ended, with the library before the C library, and what the library told."""
     ours, its = os.pipe()
@@ -49,8 +49,7 @@ def run_with(
             input=given,
             env={**os.environ, **preload, **settings},
             pass_fds=(its,),
-            stdout=subprocess.PIPE,
-            stderr=subprocess.PIPE,
+            capture_output=True,
             timeout=SECONDS,
             check=False,
         )

@@ -10,7 +10,7 @@ import tempfile
 import unittest
 from collections.abc import Callable
 from dataclasses import dataclass
-from typing import Optional, TypeVar
+from typing import TypeVar
 
 import support
 
@@ -24,7 +24,7 @@ SECONDS = 300
 Case = TypeVar("Case", bound=unittest.TestCase)
 
 
-def run_report(*words: str, checker: Optional[str] = None) -> "subprocess.CompletedProcess[str]":
+def run_report(*words: str, checker: str | None = None) -> "subprocess.CompletedProcess[str]":
     """Runs the command with a checker: the built program, if none is named."""
     command = [sys.executable, COMMAND, "--checker", checker or support.program(), *words]
     return subprocess.run(

@@ -4,7 +4,7 @@ import os
 import re
 from collections.abc import Iterator, Sequence
 from dataclasses import dataclass
-from typing import NamedTuple, Union
+from typing import NamedTuple
 
 from rows import (
     NOTHING,
@@ -72,7 +72,7 @@ def refused(fault: str, function: str = "") -> Ended:
     return Ended(status=2, said=stage + f"wire_up: fault {number} {fault}\n".encode())
 
 
-def answered(answer: Union[bytes, Fault], function: str = "") -> Ended:
+def answered(answer: bytes | Fault, function: str = "") -> Ended:
     """How a run ends that has an answer, or a fault in its place."""
     if isinstance(answer, Fault):
         return refused(answer.words, function)

@@ -6,7 +6,7 @@ import subprocess
 import tempfile
 import unittest
 from collections.abc import Callable, Iterable, Iterator, Sequence
-from typing import IO, NamedTuple, Optional, Union
+from typing import IO, NamedTuple, Union
 
 import support
 
@@ -89,7 +89,7 @@ class Run(NamedTuple):
     wrote: Text = b""
     said: Text = b""
     # What is done in the process before the program starts.
-    set_up: Optional[Callable[[], object]] = None
+    set_up: Callable[[], object] | None = None
 
 
 def text_of(path: str) -> bytes:
@@ -147,7 +147,7 @@ def as_lines(lines: Iterable[str]) -> bytes:
 
 
 def start(
-    program: str, run: Run, stdout: Union[int, IO[bytes]] = subprocess.PIPE
+    program: str, run: Run, stdout: int | IO[bytes] = subprocess.PIPE
 ) -> "subprocess.CompletedProcess[bytes]":
     """Runs a program to its end."""
     return subprocess.run(

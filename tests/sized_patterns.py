@@ -8,7 +8,7 @@ from these must say.
 import random
 from collections.abc import Sequence
 from dataclasses import replace
-from typing import NamedTuple, Optional
+from typing import NamedTuple
 
 import grammar
 import pattern_reference
@@ -212,7 +212,7 @@ def look(runner: Runner, text: bytes, seed: int) -> str:
     return "with findings" if said in (RACY, LESS, FEWER) else "without findings"
 
 
-def difference_of(runner: Runner, text: bytes, seed: int) -> tuple[Optional[Difference], str]:
+def difference_of(runner: Runner, text: bytes, seed: int) -> tuple[Difference | None, str]:
     """The difference that a pattern shows, or None, and what kind of file it is."""
     try:
         return None, look(runner, text, seed)

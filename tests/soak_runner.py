@@ -8,7 +8,7 @@ import time
 from collections import Counter
 from collections.abc import Sequence
 from dataclasses import dataclass
-from typing import NamedTuple, Optional, Union
+from typing import NamedTuple, Union
 
 SECONDS = 10
 FAULT = re.compile(rb"wire_up: fault (\d+) (\w+)( \d+)?\n")
@@ -44,7 +44,7 @@ class Runner:
     """Runs the program in a folder, and counts what it did. Beside it may be the unproved program
     of build/plain."""
 
-    def __init__(self, program: str, room: str, unproved: Optional[str] = None) -> None:
+    def __init__(self, program: str, room: str, unproved: str | None = None) -> None:
         self.program, self.room, self.unproved = program, room, unproved
         # How many answers of `check` were held to those of the unproved program.
         self.held_to_unproved = 0
@@ -61,7 +61,7 @@ class Runner:
             it.write(text)
         return path
 
-    def run(self, *words: Word, given: Optional[bytes] = None, by_byte: bool = False) -> Ran:
+    def run(self, *words: Word, given: bytes | None = None, by_byte: bool = False) -> Ran:
         """Runs a command, and answers how it ended. What no run may do is a difference."""
         command = str(words[0])
         named = " ".join(map(str, words)).replace(self.room + os.sep, "")
@@ -101,7 +101,7 @@ class Runner:
             raise Difference(f"output of {command} after a fault", what)
 
 
-def run_whole(words: Sequence[Word], given: Optional[bytes]) -> Ran:
+def run_whole(words: Sequence[Word], given: bytes | None) -> Ran:
     """Runs a command, with this or nothing on standard input."""
     nothing = subprocess.DEVNULL if given is None else None
     ran = subprocess.run(
@@ -110,7 +110,7 @@ def run_whole(words: Sequence[Word], given: Optional[bytes]) -> Ran:
     return Ran(ran.returncode, ran.stdout, ran.stderr)
 
 
-def run_by_byte(words: Sequence[Word], given: Optional[bytes]) -> Ran:
+def run_by_byte(words: Sequence[Word], given: bytes | None) -> Ran:
     """Hands each byte over as a message of its own, so that each read gets one."""
     ours, its = socket.socketpair(socket.AF_UNIX, socket.SOCK_SEQPACKET)
 

@@ -32,7 +32,6 @@ import json
 import random
 import re
 from collections.abc import Callable, Sequence
-from typing import Optional
 
 import everywhere
 import grammar
@@ -314,14 +313,14 @@ def answer_of(plan: model.Plan, x: tuple[bytes, str], y: tuple[bytes, str]) -> b
     return plan.why(plan.call_named(*x), plan.call_named(*y))
 
 
-def sides(wrote: bytes) -> tuple[Optional[bytes], object]:
+def sides(wrote: bytes) -> tuple[bytes | None, object]:
     """What `why` says: which call comes first, and the rest, in an order that is the same from both
     sides."""
     head, _, rest = wrote.partition(b"\n")
     return head, sorted(rest.splitlines()) if head == b"unordered" else rest
 
 
-def turned(wrote: bytes) -> tuple[Optional[bytes], object]:
+def turned(wrote: bytes) -> tuple[bytes | None, object]:
     """What `why` must say of the same calls from the other side."""
     head, rest = sides(wrote)
     other = {b"before": b"after", b"after": b"before", b"unordered": b"unordered"}
@@ -373,7 +372,7 @@ def look(runner: Runner, text: bytes, seed: int) -> str:
     return Look(runner, text, scripts, seed).at_all()
 
 
-def difference_of(runner: Runner, text: bytes, seed: int) -> tuple[Optional[Difference], str]:
+def difference_of(runner: Runner, text: bytes, seed: int) -> tuple[Difference | None, str]:
     """The difference that a file shows, or None, and what kind of file it is."""
     try:
         return None, look(runner, text, seed)

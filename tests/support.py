@@ -3,7 +3,7 @@ import os
 import sys
 import unittest
 
-TOP = os.path.dirname(os.path.dirname(os.path.abspath(__file__)))
+TOP = os.path.dirname(os.path.dirname(__file__))
 # Where the package of the Python programs is: a test that imports this module can import it.
 sys.path.insert(0, os.path.join(TOP, "python"))
 sys.dont_write_bytecode = True

@@ -4,7 +4,7 @@ import re
 import subprocess
 import sys
 from collections.abc import Sequence
-from typing import Optional, Union
+from typing import Union
 
 from support import TOP
 from wire_up_tools.record.planning import Choices, Plan, make_plan
@@ -126,7 +126,7 @@ def ask_program(program: str, *words: str) -> "subprocess.CompletedProcess[str]"
 
 
 def run_recorder(
-    *words: str, environment: Optional[dict[str, str]] = None, says_libraries: bool = False
+    *words: str, environment: dict[str, str] | None = None, says_libraries: bool = False
 ) -> "subprocess.CompletedProcess[str]":
     """Runs `wire_up-record`. The line that says for which libraries the plan is portable is left
     out of what it says, if that isn't asked for."""

@@ -104,7 +104,7 @@ class UnitTests(unittest.TestCase):
 
     def test_files_are_found(self) -> None:
         """The files are those that unittest finds."""
-        here = os.path.relpath(os.path.abspath(__file__), support.TOP)
+        here = os.path.relpath(__file__, support.TOP)
         self.assertIn(here, test_files.test_files())
 
 

@@ -3,7 +3,6 @@ import re
 import tempfile
 import unittest
 from collections.abc import Callable
-from typing import Optional
 
 import support
 from wire_up_tools import limits
@@ -55,7 +54,7 @@ class LimitsTest(unittest.TestCase):
         self.assertEqual(answer.status, 2, answer.stdout[:300])
         self.assertIn(f" {name} ", answer.stderr)
 
-    def hold(self, version: int, of: Limits, what: str, checker: Optional[Checker] = None) -> None:
+    def hold(self, version: int, of: Limits, what: str, checker: Checker | None = None) -> None:
         """Asks with a plan at a limit, and with one past it."""
         most: int = getattr(of, what)
         fault = TOO_LONG if what.endswith("_bytes") else TOO_MANY

@@ -51,7 +51,8 @@ class Names(unittest.TestCase):
         known = OF_LANGUAGES | OF_PLACEMENTS | OF_LISTS
         twice = {it: crates for it, crates in crates_by_name().items()
                  if len(crates) > 1 and it not in known}
-        self.assertEqual(twice, {}, "give one of each pair another name, or list it here with its sense")
+        advice = "give one of each pair another name, or list it here with its sense"
+        self.assertEqual(twice, {}, advice)
 
     def test_each_name_that_is_listed_stands_twice(self) -> None:
         crates = crates_by_name()

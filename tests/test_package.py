@@ -10,7 +10,6 @@ import subprocess
 import sys
 import unittest
 from collections.abc import Iterator, Sequence
-from typing import Optional
 
 import support
 import helps
@@ -85,7 +84,7 @@ Completed = subprocess.CompletedProcess[str]
 
 
 def run(
-    *words: str, folder: Optional[str] = None, settings: Optional[dict[str, str]] = None
+    *words: str, folder: str | None = None, settings: dict[str, str] | None = None
 ) -> Completed:
     """Runs a program in a folder, with these settings in its environment."""
     return subprocess.run(

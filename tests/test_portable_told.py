@@ -7,7 +7,6 @@ import stat
 import tempfile
 import unittest
 from collections.abc import Iterator
-from typing import Optional
 
 from support import TOP  # noqa: F401  the package can be imported behind this
 from wire_up_tools.checker import Checker
@@ -73,7 +72,7 @@ class Reading(unittest.TestCase):
 
     def test_asks(self) -> None:
         """A checker without the option isn't asked, and one that refuses the plan tells nothing."""
-        cases: list[tuple[str, int, Optional[Portable]]] = [
+        cases: list[tuple[str, int, Portable | None]] = [
             ("--portable", 1, take(SAID)),
             ("--portable", 2, None),
             ("--anywhere", 1, None),

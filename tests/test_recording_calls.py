@@ -2,7 +2,6 @@
 import unittest
 from collections.abc import Sequence
 from dataclasses import dataclass, replace
-from typing import Optional
 
 from tapes import Recorded, Tape, make_world, plan_tapes, read_scripts, write_plan_of
 from wire_up_tools.record.planning import Choices
@@ -29,12 +28,12 @@ class Case:
 
     calls: Sequence[Recorded]
     lines: Sequence[str]
-    comment: Optional[str] = None
+    comment: str | None = None
     more_calls: Sequence[Recorded] = ()
     more_lines: Sequence[str] = ()
 
 
-def one(call: str, line: str, comment: Optional[str] = None, end: str = "0") -> Case:
+def one(call: str, line: str, comment: str | None = None, end: str = "0") -> Case:
     """A case of one call, which becomes a line, or none."""
     return Case([(call, end)], [line] if line else [], comment)
 

@@ -14,7 +14,6 @@ import tempfile
 import time
 import unittest
 from collections.abc import Iterator, Mapping, Sequence
-from typing import Union
 
 from live import ENVIRONMENT, LiveTest, find_python, mpirun, run_plainly
 from recorded import (
@@ -49,7 +48,7 @@ TOO_OLD = 77
 
 # Whose data each of the four processes waits for in the collectives of `messages`.
 ALL, NONE, BELOW = Sources.ALL, Sources.NONE, Sources.BELOW
-SOURCES: Mapping[str, Sequence[Union[Sources, tuple[int, ...]]]] = {
+SOURCES: Mapping[str, Sequence[Sources | tuple[int, ...]]] = {
     "barrier": [ALL] * 4,
     "bcast": [NONE, (3,), (3,), (3,)],
     "gather": [NONE, NONE, ALL, NONE],

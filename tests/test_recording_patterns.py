@@ -4,7 +4,6 @@ import re
 import tempfile
 import unittest
 from collections.abc import Mapping, Sequence
-from typing import Optional
 
 from tapes import (
     SHIPPED,
@@ -93,7 +92,7 @@ NEIGHBOURS = CARDS.replace("for ranks", "for some ranks").replace("get-now", "ge
 ASKED = {0: (1, 3), 1: (2,), 2: (), 3: (0, 1, 2)}
 
 
-def make_plan(text: str, size: int, choices: Optional[Mapping[int, Sequence[int]]] = None
+def make_plan(text: str, size: int, choices: Mapping[int, Sequence[int]] | None = None
               ) -> list[Script]:
     """The scripts of a pattern with so many ranks in each group. Its fourth item is the loop of
     which some turns are chosen."""

@@ -4,7 +4,6 @@ import shutil
 import subprocess
 import tempfile
 import unittest
-from typing import Optional
 
 import support
 from tapes import write_file
@@ -38,7 +37,7 @@ def read(*places: str) -> Recording:
 class CallersTest(unittest.TestCase):
     """A place is said with the places at which its functions were called."""
 
-    def say(self, texts: dict[tuple[str, int], str], *places: str) -> Optional[str]:
+    def say(self, texts: dict[tuple[str, int], str], *places: str) -> str | None:
         """What is said of the last of some places, where texts are known."""
         known = {Address(module, offset): text for (module, offset), text in texts.items()}
         return Places(known).find(read(*places), places[-1].partition(" ")[0])

@@ -3,7 +3,6 @@ and are replayed as the programs ran."""
 import os
 import tempfile
 import unittest
-from typing import Optional
 
 import support
 import tapes
@@ -11,7 +10,7 @@ from recorded import SHIPPED, why_wrong
 from tapes import run_recorder
 
 
-def find_program() -> Optional[str]:
+def find_program() -> str | None:
     """The built program; None where there is none."""
     try:
         return support.program()

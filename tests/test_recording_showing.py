@@ -16,7 +16,6 @@ import tempfile
 import threading
 import time
 import unittest
-from typing import Optional
 
 from live import ENVIRONMENT, LiveTest, Ran, find_python, mpirun, small_disk
 from live_runs import read_words
@@ -343,7 +342,7 @@ class CommandTest(ShowingCase):
             refused.stderr.close()
 
     def begin(
-        self, task: list[str], words: list[str], source: Optional[int] = None
+        self, task: list[str], words: list[str], source: int | None = None
     ) -> "subprocess.Popen[str]":
         """Begins the recorder, in a group of its own."""
         return subprocess.Popen(

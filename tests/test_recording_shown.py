@@ -7,7 +7,6 @@ import threading
 import time
 import unittest
 from collections.abc import Sequence
-from typing import Optional
 
 from running import ProgramCase
 from tapes import SHIPPED, Recorded, Tape, run_recorder
@@ -57,7 +56,7 @@ def make_traces(tapes: Sequence[Tape]) -> Traces:
 
 def make_run(
     own: Sequence[Sequence[Recorded]],
-    status: Optional[int] = 0,
+    status: int | None = 0,
     courses: Sequence[Course] = (Course(1, 1, 2), Course(1, 2, 3)),
     output: bytes = b"",
 ) -> HeldRun:

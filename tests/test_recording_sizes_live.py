@@ -2,7 +2,7 @@
 import json
 import os
 import unittest
-from typing import NamedTuple, Optional
+from typing import NamedTuple
 
 from live import ENVIRONMENT, LiveTest, Ran
 from tapes import ask_program, run_recorder
@@ -15,7 +15,7 @@ class Answered(NamedTuple):
     that can race."""
 
     findings: int
-    shown: Optional[str] = None
+    shown: str | None = None
     can_race: bool = True
 
 

@@ -19,7 +19,6 @@ import tempfile
 import unittest
 from collections.abc import Iterator
 from dataclasses import dataclass, field
-from typing import Optional
 
 import support
 from forms import as_json
@@ -83,11 +82,11 @@ class Form:
     name: str
     words: list[str]
     # What standard input gives.
-    given: Optional[bytes] = None
+    given: bytes | None = None
     # Whether its order is free.
     is_free: bool = False
     # How it must end without a refusal, where that is told.
-    usual: Optional[Outcome] = None
+    usual: Outcome | None = None
     # Whether it is a function by itself, and whether it takes memory.
     is_part: bool = False
     takes: bool = True

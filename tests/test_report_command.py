@@ -6,7 +6,6 @@ import subprocess
 import sys
 import tempfile
 import unittest
-from typing import Optional
 
 import report_support
 import support
@@ -35,7 +34,7 @@ class CommandCase(unittest.TestCase):
 class RefusalsTest(CommandCase):
     """What can't be reported ends with status 125 and one line, and leaves what was there."""
 
-    def refuse(self, said: str, *words: str, checker: Optional[str] = None) -> None:
+    def refuse(self, said: str, *words: str, checker: str | None = None) -> None:
         """Tests that the command says this line, as a pattern, and writes nothing."""
         ran = report_support.run_report(*words, checker=checker)
         self.assertEqual((ran.returncode, ran.stdout), (FAILED, ""))
@@ -168,8 +167,8 @@ class StartsTest(CommandCase):
         return len(report_support.read(self.find("starts")).splitlines())
 
     def test_a_plan_with_a_race(self) -> None:
-        # Its version, what is found as written and anywhere, its options, on which libraries each run
-        # does as the rules say, two runs, and what comes of each.
+        # Its version, what is found as written and anywhere, its options, on which libraries each
+        # run does as the rules say, two runs, and what comes of each.
         self.assertEqual(self.count("early-get.plan"), 8)
 
     def test_a_plan_without_findings(self) -> None:

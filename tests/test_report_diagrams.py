@@ -1,7 +1,6 @@
 """Tests what stands in the diagram of a plan without findings, and how it is drawn."""
 import unittest
 import xml.etree.ElementTree
-from typing import Optional
 
 import report_support
 from wire_up_tools.plan_reading import read_plan
@@ -14,7 +13,7 @@ from wire_up_tools.report.wire_up_diagram import make_wire_up_diagram
 TWO_RANKS = "rehearsal 1\nnode n0\nnode n1\njob a\nrank n0\n{}rank n1\n{}"
 
 
-def make_diagram(text: str, **waiting: Optional[int]) -> Diagram:
+def make_diagram(text: str, **waiting: int | None) -> Diagram:
     """The diagram of a plan in which ranks of the job `a` wait for ever at these calls: r0=2."""
     order = find_order(read_plan(text.encode()))
     ends = {it.name: waiting.get(it.name.replace("a:", "r")) for it in order.plan.ranks}

@@ -1,7 +1,6 @@
 """Tests that diagrams show the calls of a plan in the order that `wire_up why` tells."""
 import random
 import unittest
-from typing import Optional
 
 import report_support
 from wire_up_tools.plan import Call
@@ -19,7 +18,7 @@ def name_order(order: Order, one: Call, other: Call) -> str:
     return "after" if order.is_before(other, one) else "unordered"
 
 
-def ask_why(name: str, one: Call, other: Call) -> Optional[str]:
+def ask_why(name: str, one: Call, other: Call) -> str | None:
     """The first word of `why` about two calls of a plan; None if one of them is dead."""
     words = [*report_support.list_options(name), *one.name.split(), *other.name.split()]
     said = report_support.run_checker("why", *words, report_support.find_plan(name)).stdout

@@ -5,7 +5,6 @@ They are whole, and nothing of a plan stands in one as other than text.
 import html.parser
 import re
 import unittest
-from typing import Optional
 
 import report_support
 
@@ -30,11 +29,11 @@ class PageReader(html.parser.HTMLParser):
         # Attributes that a plan may have brought in, and ids that stand twice.
         self.wrong: list[str] = []
         self.lines: dict[str, str] = {}
-        self.titles: dict[str, Optional[str]] = {}
+        self.titles: dict[str, str | None] = {}
         self.line = ""
         self.feed(text)
 
-    def handle_starttag(self, tag: str, attrs: list[tuple[str, Optional[str]]]) -> None:
+    def handle_starttag(self, tag: str, attrs: list[tuple[str, str | None]]) -> None:
         """Notes an element and its attributes."""
         found = {name: value or "" for name, value in attrs}
         self.elements.add(tag)

@@ -6,7 +6,7 @@ import unittest
 
 import support
 
-TESTS = os.path.dirname(os.path.abspath(__file__))
+TESTS = os.path.dirname(__file__)
 PATHS = os.pathsep.join([TESTS, os.path.join(support.TOP, "python")])
 
 

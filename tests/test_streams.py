@@ -10,7 +10,7 @@ import subprocess
 import threading
 import unittest
 from collections.abc import Callable
-from typing import IO, Optional, Union
+from typing import IO, Union
 
 import grammar
 import support
@@ -103,7 +103,7 @@ def ignore_broken_pipes() -> None:
     signal.signal(signal.SIGPIPE, signal.SIG_IGN)
 
 
-def counted(said: bytes) -> Optional[int]:
+def counted(said: bytes) -> int | None:
     """The number that the fault of a write carries, or None."""
     words = said.split()
     is_fault = said.startswith(b"wire_up: fault 11 Write ") and len(words) == 5

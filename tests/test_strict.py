@@ -19,7 +19,7 @@ import subprocess
 import tempfile
 import unittest
 from collections.abc import Callable, Iterator, Sequence
-from typing import NamedTuple, Optional
+from typing import NamedTuple
 
 from build.bench_plans import KINDS, ONE_NODE, Kind, on_one, ranks_of
 from running import CARDS, MEMORY, READ, ProgramCase, written
@@ -151,7 +151,7 @@ def limited(**limits: int) -> Callable[[], None]:
     return set_up
 
 
-def ran(words: Sequence[str], set_up: Optional[Callable[[], None]] = None) -> Ran:
+def ran(words: Sequence[str], set_up: Callable[[], None] | None = None) -> Ran:
     """Runs a command to its end, whose output is counted and thrown away."""
     with tempfile.TemporaryFile() as said:
         it = subprocess.Popen(
@@ -191,7 +191,7 @@ class Space:
             self.wrong.append((mebibytes, ended))
         return False
 
-    def least(self) -> Optional[int]:
+    def least(self) -> int | None:
         """The least MiB that suffice; nothing where they would be too many."""
         low, high = 0, 16
         while not self.suffices(high):

@@ -25,7 +25,6 @@ import subprocess
 import unittest
 from collections import Counter
 from collections.abc import Iterator, Sequence
-from typing import Optional
 
 import grammar
 import model
@@ -148,7 +147,7 @@ class Look:
             self.at_shown(self.words(y, x), model_runs.witness(self.model, y, x), True)
         return True
 
-    def at_shown(self, words: Lines, shown: Optional[model_runs.Shown], is_far: bool) -> Lines:
+    def at_shown(self, words: Lines, shown: model_runs.Shown | None, is_far: bool) -> Lines:
         """Looks at two calls of a race that is called shown, beside what shows it in the model.
         Answers the call that ends differently."""
         status, lines = self.witness(*words)

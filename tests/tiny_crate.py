@@ -1,7 +1,7 @@
 """A small crate with wrong bodies of each sort, and what must become of each."""
 import os
 from collections.abc import Sequence
-from typing import NamedTuple, Optional
+from typing import NamedTuple
 
 from build.edits.verdicts import ONLY_A_NAME
 
@@ -116,7 +116,7 @@ class Wanted(NamedTuple):
 
     lines: list[str]
     said: str
-    is_alone: Optional[bool]
+    is_alone: bool | None
 
 
 # The lines of each edit, what must be said of it, and whether it must be tried alone to say so.

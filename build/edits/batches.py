@@ -2,7 +2,6 @@
 from collections import defaultdict
 from collections.abc import Sequence
 from dataclasses import dataclass
-from typing import Optional
 
 from build.crates import Crate
 from build.edits.copying import Place, can_be_copied, copied_as_they_are, copies_of, proofs_of_copy
@@ -30,7 +29,7 @@ class Texts:
     # The texts of the source files that it changes, and those of the proof files; no text for one
     # that goes.
     sources: dict[str, str]
-    proofs: dict[str, Optional[str]]
+    proofs: dict[str, str | None]
     placed: list[Placed]
     # The paths of all functions that are checked.
     only: list[str]
@@ -62,8 +61,8 @@ def texts_of(batch: Sequence[Edit], empties: bool = True) -> Texts:
         by_function[edit.file, edit.body].append(edit)
     crate, as_they_are = batch[0].crate, copied_as_they_are(by_function)
     sources: dict[str, str] = {}
-    proofs: dict[str, Optional[str]] = {}
-    names: dict[str, Optional[Edit]] = {}
+    proofs: dict[str, str | None] = {}
+    names: dict[str, Edit | None] = {}
     # From the end of each file to its start, so that the places of other functions stay.
     for place, edits in sorted(by_function.items(), key=lambda it: -it[0][1].begin):
         copies = copies_of(edits, place in as_they_are) if len(edits) > 1 else {}
@@ -80,7 +79,7 @@ def put_in_place(
     edits: Sequence[Edit],
     copies: dict[str, str],
     sources: dict[str, str],
-    names: dict[str, Optional[Edit]],
+    names: dict[str, Edit | None],
 ) -> None:
     """Puts the wrong body of the first edit of a function, and the copies of that function behind
     it, into the text of its source file. Their paths join the names, each with its edit."""
@@ -93,7 +92,7 @@ def put_in_place(
 
 
 def placed_in(
-    crate: Crate, sources: dict[str, str], names: dict[str, Optional[Edit]]
+    crate: Crate, sources: dict[str, str], names: dict[str, Edit | None]
 ) -> list[Placed]:
     """The edits in their places, by the paths of the functions that have their wrong bodies."""
     found = []

@@ -8,7 +8,6 @@ import tempfile
 import time
 from collections.abc import Callable, Iterable, Mapping, Sequence
 from dataclasses import dataclass, replace
-from typing import Optional
 
 from build import kit
 from build.crates import Crate
@@ -32,7 +31,7 @@ class Checked:
     seconds: dict[tuple[str, ...], float]
 
 
-def copy_with(crate: Crate, texts: Mapping[str, Optional[str]], room: str) -> None:
+def copy_with(crate: Crate, texts: Mapping[str, str | None], room: str) -> None:
     """Copies a crate to a folder, with these texts in place of its own. A file without a text
     goes."""
     for part in kit.FOLDERS:
@@ -49,7 +48,7 @@ def copy_with(crate: Crate, texts: Mapping[str, Optional[str]], room: str) -> No
 
 
 def checked(
-    crate: Crate, texts: Mapping[str, Optional[str]], flags: Sequence[str], kept: Optional[str]
+    crate: Crate, texts: Mapping[str, str | None], flags: Sequence[str], kept: str | None
 ) -> Checked:
     """Checks a copy of a crate with these texts in place of its own, over what a folder keeps where
     it is given, and takes the time of each function."""
@@ -83,7 +82,7 @@ def heard(lines: Iterable[str]) -> tuple[str, dict[tuple[str, ...], float]]:
     return "".join(said), seconds
 
 
-def check(batch: Sequence[Edit], kept: Optional[str] = None, empties: bool = True) -> Outcomes:
+def check(batch: Sequence[Edit], kept: str | None = None, empties: bool = True) -> Outcomes:
     """Checks the functions of a batch, and answers what became of each of its edits, as far as that
     shows it. What an earlier check of the same crate kept in a folder isn't checked again, and what
     this one checks is kept there for the next."""
@@ -106,7 +105,7 @@ def seconds_of(placed: Placed, ran: Checked) -> float:
     return sum(seconds for path, seconds in ran.seconds.items() if belongs_to(placed, path))
 
 
-def check_in_parts(batch: Sequence[Edit], kept: Optional[str] = None) -> Outcomes:
+def check_in_parts(batch: Sequence[Edit], kept: str | None = None) -> Outcomes:
     """What became of each edit of a batch. Where one check doesn't show it, such as because of an
     edit that can't be read, each half is checked by itself."""
     found, half = check(batch, kept), len(batch) // 2

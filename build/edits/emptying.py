@@ -3,7 +3,6 @@ import os
 import re
 from collections.abc import Collection
 from dataclasses import dataclass
-from typing import Optional
 
 from build.crates import Crate
 from build.edits.sources import (
@@ -60,12 +59,12 @@ def without_body(text: str, function: Function) -> str:
     return f"{head}{{\n{indent}    unreachable!()\n{indent}}}{text[function.end :]}"
 
 
-def proofs_when_emptied(crate: Crate, path: str) -> dict[str, Optional[str]]:
+def proofs_when_emptied(crate: Crate, path: str) -> dict[str, str | None]:
     """The proof files of a function that is emptied, and those of its closures, which go."""
     *around, own = path.split("::")
     folder = os.path.join("proofs", *around, own)
     closures = os.path.join(crate.folder, "proofs", *around, "fn", own)
-    found: dict[str, Optional[str]] = {os.path.join(folder, it): None for it in OWN_PROOFS}
+    found: dict[str, str | None] = {os.path.join(folder, it): None for it in OWN_PROOFS}
     for at, _, files in os.walk(closures):
         found.update((os.path.relpath(os.path.join(at, it), crate.folder), None) for it in files)
     text = EMPTIED.format(crate=crate.name, path=path.replace("::", "."))
@@ -89,7 +88,7 @@ def called_in(body: str, names: Collection[str]) -> set[str]:
     return {it for it in CALLED.findall(body) if it in names}
 
 
-def control_of(to_empty: dict[str, ToEmpty], only: Collection[str]) -> Optional[str]:
+def control_of(to_empty: dict[str, ToEmpty], only: Collection[str]) -> str | None:
     """The path of a function that keeps its body though it has no edit: one that calls none with an
     edit or a copy of one, and if possible one that calls one that is emptied, and the shortest of
     those."""
@@ -110,8 +109,8 @@ def empty_others(
     crate: Crate,
     only: Collection[str],
     sources: dict[str, str],
-    proofs: dict[str, Optional[str]],
-) -> Optional[str]:
+    proofs: dict[str, str | None],
+) -> str | None:
     """Empties the functions of a crate that aren't among these, as far as they can be, in the texts
     of its source and proof files. Answers the path of the one that keeps its body."""
     to_empty = functions_to_empty(crate, only, sources)

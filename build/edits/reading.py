@@ -3,7 +3,6 @@ import os
 import sys
 from collections.abc import Sequence
 from dataclasses import dataclass
-from typing import Optional
 
 from build import kit
 from build.crates import Crate
@@ -24,7 +23,7 @@ class Edit:
     # If it changes one body alone: its source file, that file's text, and its function.
     file: str
     was: str
-    function: Optional[Function]
+    function: Function | None
 
     @property
     def body(self) -> Function:
@@ -51,7 +50,7 @@ def changed_part(old: str, new: str) -> tuple[int, int]:
     return begin, len(old) - same
 
 
-def read(crate: Crate, path: str) -> tuple[Optional[Edit], Optional[str]]:
+def read(crate: Crate, path: str) -> tuple[Edit | None, str | None]:
     """The edit of a file, or why it can't be applied."""
     texts, why = kit.read_edit(path, crate.folder)
     if why or not texts:

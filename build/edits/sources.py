@@ -5,7 +5,6 @@ import itertools
 import os
 import re
 from dataclasses import dataclass
-from typing import Optional
 
 from build import kit
 from build.crates import Crate
@@ -137,7 +136,7 @@ def functions_of(crate: Crate, file: str, text: str) -> list[Function]:
     return found
 
 
-def attributes_of(text: str, function: Function) -> Optional[str]:
+def attributes_of(text: str, function: Function) -> str | None:
     """The attributes of a function, each a line of its own between the function and what stands
     above it; nothing where other lines stand there, such as those of a long attribute."""
     above = text[: function.begin].split("\n")[:-1]
@@ -156,7 +155,7 @@ def is_in_cycle(attributes: str) -> bool:
     return "#[cycle" in attributes
 
 
-def brace_of(text: str, function: Function) -> Optional[int]:
+def brace_of(text: str, function: Function) -> int | None:
     """Where the body of a function begins, with its brace, if it has lines of its own."""
     opened = BRACE.search(text, function.body, function.end)
     return opened.start() if opened else None

@@ -2,7 +2,6 @@
 import re
 from collections.abc import Sequence
 from dataclasses import dataclass
-from typing import Optional
 
 from build import kit
 from build.edits.batches import Placed, Texts
@@ -110,7 +109,7 @@ def own_failures(said: str) -> list[tuple[list[str], str]]:
     return [(path, words) for path, words in found if is_own(words, path)]
 
 
-def judged(placed: Placed, said: str) -> Optional[Outcome]:
+def judged(placed: Placed, said: str) -> Outcome | None:
     """What a check says of an edit's own function: the outcome, or nothing where it doesn't show
     that the edit is refused."""
     edit = placed.edit

@@ -9,7 +9,6 @@ import tempfile
 import time
 from collections.abc import Mapping, Sequence
 from dataclasses import dataclass
-from typing import Optional
 
 from recorded import is_alike
 
@@ -48,7 +47,7 @@ NUMBER = re.compile(r"0x[0-9a-fA-F]+|\d+(?:\.\d+)?(?:e[-+]\d+)?")
 class Ran:
     """How a command ended; a status of None is that it took too long."""
 
-    status: Optional[int]
+    status: int | None
     wrote: str
     said: str
     seconds: float
@@ -80,7 +79,7 @@ def run(words: Sequence[str], folder: str, more: Mapping[str, str], patience: fl
         errors="replace",
         start_new_session=True,
     ) as process:
-        status: Optional[int] = None
+        status: int | None = None
         try:
             wrote, said = process.communicate(timeout=patience)
             status = process.returncode
@@ -112,7 +111,7 @@ class Outcome:
     no_plan: str = ""
     differs: str = ""
     is_in_part: bool = False
-    findings: Optional[int] = None
+    findings: int | None = None
     is_replayed: bool = False
     replay: str = ""
     seconds: float = 0.0

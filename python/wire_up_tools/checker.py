@@ -4,7 +4,6 @@ import re
 import shutil
 import subprocess
 from dataclasses import dataclass
-from typing import Optional
 
 NAME = "wire_up"
 # The commands that don't take the option --large.
@@ -58,7 +57,7 @@ class Checker:
             return False
 
 
-def find_checker(folder: str) -> Optional[str]:
+def find_checker(folder: str) -> str | None:
     """The path of the program beside the commands in a folder, else on the path of commands.
 
     None where there is none.

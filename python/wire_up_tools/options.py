@@ -3,7 +3,7 @@ import argparse
 import itertools
 from collections.abc import Iterator, Sequence
 from dataclasses import dataclass
-from typing import NoReturn, Optional, Union
+from typing import NoReturn
 
 from wire_up_tools import VERSION
 from wire_up_tools.failures import Unusable
@@ -50,8 +50,8 @@ class Once(argparse.Action):
         self,
         parser: argparse.ArgumentParser,
         namespace: argparse.Namespace,
-        values: Union[str, Sequence[str], None],
-        option_string: Optional[str] = None,
+        values: str | Sequence[str] | None,
+        option_string: str | None = None,
     ) -> None:
         """Keeps the word. Raises Unusable if there is one already."""
         if getattr(namespace, self.dest) is not None:
@@ -132,7 +132,7 @@ class Parser(argparse.ArgumentParser):
         return f"{written} is no option"
 
 
-def answer_alone(words: Sequence[str], name: str, help_text: str) -> Optional[str]:
+def answer_alone(words: Sequence[str], name: str, help_text: str) -> str | None:
     """What a program of this name writes that is asked for nothing but its help or its version;
     None where it is asked for something else."""
     if len(words) != 1:

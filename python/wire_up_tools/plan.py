@@ -8,7 +8,7 @@ import functools
 import itertools
 from collections.abc import Iterator, Mapping, Sequence
 from dataclasses import dataclass, field
-from typing import Optional, Union
+from typing import Union
 
 from wire_up_tools import words
 
@@ -44,8 +44,8 @@ class Call:
     number: int
     words: Sequence[str]
     line: int
-    place: Optional[str]
-    remark: Optional[str] = None
+    place: str | None
+    remark: str | None = None
 
     @property
     def verb(self) -> str:

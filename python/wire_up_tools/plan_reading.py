@@ -8,7 +8,7 @@ import itertools
 import re
 from collections.abc import Iterable, Mapping, Sequence
 from dataclasses import dataclass, field
-from typing import Optional, Union, overload
+from typing import overload
 
 from wire_up_tools import words
 from wire_up_tools.plan import (
@@ -118,7 +118,7 @@ class Lines(Sequence[str]):
     @overload
     def __getitem__(self, index: slice) -> Sequence[str]: ...
 
-    def __getitem__(self, index: Union[int, slice]) -> Union[str, Sequence[str]]:
+    def __getitem__(self, index: int | slice) -> str | Sequence[str]:
         if isinstance(index, slice):
             return [self[it] for it in range(*index.indices(self.total))]
         number = index + self.total if index < 0 else index
@@ -163,8 +163,8 @@ class Draft:
     ranks_in_job: int = 0
     calls: list[Call] = field(default_factory=list)
     calls_in_rank: int = 0
-    place: Optional[str] = None
-    remark: Optional[str] = None
+    place: str | None = None
+    remark: str | None = None
 
     def read(self, lines: Sequence[str], first: int) -> int:
         """Takes lines, the first of which has this number. Answers the number after the last."""

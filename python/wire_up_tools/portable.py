@@ -2,7 +2,7 @@
 import json
 from collections.abc import Sequence
 from dataclasses import dataclass
-from typing import Any, Optional
+from typing import Any
 
 from wire_up_tools.checker import Checker
 
@@ -49,7 +49,7 @@ class Portable:
         return [it for it in self.calls if version in it.libraries]
 
 
-def find_portable(checker: Checker, plan: bytes) -> Optional[Portable]:
+def find_portable(checker: Checker, plan: bytes) -> Portable | None:
     """On which libraries a plan is portable; None where the checker can't tell. It is asked with
     whatever is found in the plan."""
     try:
@@ -61,7 +61,7 @@ def find_portable(checker: Checker, plan: bytes) -> Optional[Portable]:
     return read_portable(answer.stdout) if answer.status in ANSWERED else None
 
 
-def read_portable(text: str) -> Optional[Portable]:
+def read_portable(text: str) -> Portable | None:
     """What the checker wrote; None where it isn't that."""
     try:
         said = json.loads(text)

@@ -43,7 +43,7 @@ class Followed(NamedTuple):
     name: str
     plan: bytes
     order: bytes
-    answer: Union[bytes, Fault]
+    answer: bytes | Fault
 
 
 class Asked(NamedTuple):
@@ -52,7 +52,7 @@ class Asked(NamedTuple):
     name: str
     plan: bytes
     words: str
-    answer: Union[bytes, Fault]
+    answer: bytes | Fault
 
 
 class Canonical(NamedTuple):
@@ -72,7 +72,7 @@ class Large(NamedTuple):
     piece: bytes
     times: int
     tail: bytes
-    answer: Union[bytes, Fault]
+    answer: bytes | Fault
 
 
 class Shown(NamedTuple):
@@ -103,7 +103,7 @@ class Placed(NamedTuple):
     name: str
     plan: bytes
     ranks: str
-    answer: Union[bytes, Fault]
+    answer: bytes | Fault
 
 
 class Anywhere(NamedTuple):

@@ -3,7 +3,7 @@
 In most of those that wait a circle has to go down one turn in each of several loops. So it needs as
 many ranks of the group as there are loops, and one more: no size is large enough to try.
 """
-from typing import NamedTuple, Optional
+from typing import NamedTuple
 
 # That no call waits, whatever the number of ranks.
 ANSWERED = b"every call is answered for every number of ranks"
@@ -18,7 +18,7 @@ class Told(NamedTuple):
     lines: str
     told: bytes
     status: int
-    first: Optional[int] = None
+    first: int | None = None
 
 
 SIZES = 6

@@ -1,7 +1,7 @@
 """What a recording says of calls: each kind with the parts that it has, and how a call ended."""
 import enum
 from dataclasses import dataclass
-from typing import ClassVar, Optional, Union
+from typing import ClassVar, Union
 
 from wire_up_tools.words import VALUE_BYTES, is_word
 
@@ -18,7 +18,7 @@ class ProcessName:
     """A process as a call names it. An empty namespace is that of the caller."""
 
     namespace: bytes
-    rank: Union[int, AnyRank]
+    rank: int | AnyRank
 
 
 class ValueKind(enum.Enum):
@@ -53,13 +53,13 @@ class Value:
         return self.kind is ValueKind.TEXT and is_word(self.text, VALUE_BYTES)
 
     @property
-    def number(self) -> Optional[int]:
+    def number(self) -> int | None:
         """The number that it is; None of any other kind."""
         is_number = self.kind is ValueKind.NUMBER
         return int(self.detail.partition(":")[2]) if is_number else None
 
     @property
-    def seconds(self) -> Optional[float]:
+    def seconds(self) -> float | None:
         """The time that it is, in seconds; None where it isn't a number, or is none."""
         if self.kind not in (ValueKind.NUMBER, ValueKind.REAL):
             return None
@@ -144,8 +144,8 @@ class Get:
 
     verb: ClassVar[str] = "get"
     ending: Ending
-    owner: Optional[ProcessName]
-    keys: Optional[tuple[bytes, ...]]
+    owner: ProcessName | None
+    keys: tuple[bytes, ...] | None
     directives: Directives
 
 
@@ -165,7 +165,7 @@ class Lookup:
 
     verb: ClassVar[str] = "lookup"
     ending: Ending
-    keys: Optional[tuple[bytes, ...]]
+    keys: tuple[bytes, ...] | None
     directives: Directives
 
 
@@ -175,7 +175,7 @@ class Unpublish:
 
     verb: ClassVar[str] = "unpublish"
     ending: Ending
-    keys: Optional[tuple[bytes, ...]]
+    keys: tuple[bytes, ...] | None
     directives: Directives
 
 
@@ -200,8 +200,8 @@ class Receive:
 
     verb: ClassVar[str] = "receive"
     communicator: int
-    source: Optional[int]
-    tag: Optional[int]
+    source: int | None
+    tag: int | None
 
 
 @dataclass(frozen=True)
@@ -212,8 +212,8 @@ class Probe:
 
     verb: ClassVar[str] = "probe"
     communicator: int
-    source: Optional[int]
-    tag: Optional[int]
+    source: int | None
+    tag: int | None
 
 
 @dataclass(frozen=True)
@@ -258,7 +258,7 @@ class End:
 class GetEnd(End):
     """The end of a get, with what it got."""
 
-    value: Optional[Value]
+    value: Value | None
 
 
 @dataclass(frozen=True)
@@ -277,7 +277,7 @@ class MessageEnd(End):
     source: int
     tag: int
     size: int
-    found_by: Optional[FoundBy]
+    found_by: FoundBy | None
 
 
 class Sources(enum.Enum):
@@ -294,8 +294,8 @@ class CollectiveEnd(End):
 
     __slots__ = ("sources", "found_by")
 
-    sources: Union[Sources, tuple[int, ...]]
-    found_by: Optional[FoundBy]
+    sources: Sources | tuple[int, ...]
+    found_by: FoundBy | None
 
 
 @dataclass(eq=False)
@@ -311,9 +311,9 @@ class Call:
     action: Action
     begins: int
     thread: str
-    place: Optional[str]
-    ends: Optional[int]
-    end: Optional[End]
+    place: str | None
+    ends: int | None
+    end: End | None
 
     def finish(self, ends: int, end: End) -> None:
         """Takes how it ended, at a line."""
@@ -325,7 +325,7 @@ class Call:
         return not isinstance(self.action, MPI_CALLS)
 
     @property
-    def status(self) -> Optional[int]:
+    def status(self) -> int | None:
         """The status with which it ended; None where its end isn't there."""
         return None if self.end is None else self.end.status
 

@@ -5,7 +5,6 @@ import signal
 import sys
 from collections.abc import Sequence
 from types import FrameType
-from typing import Optional
 
 from wire_up_tools.failures import Refused, Unusable, explain
 from wire_up_tools.options import (
@@ -222,7 +221,7 @@ def split_runs(words: Sequence[str]) -> Sequence[Sequence[str]]:
     return runs
 
 
-def stop(number: int, _: Optional[FrameType]) -> None:
+def stop(number: int, _: FrameType | None) -> None:
     """Ends what is done when a signal comes."""
     raise Stopped(number)
 

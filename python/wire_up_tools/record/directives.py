@@ -1,6 +1,5 @@
 """What the directives of calls of PMIx say."""
 import re
-from typing import Optional
 
 from wire_up_tools.record.calls import (
     NO,
@@ -105,7 +104,7 @@ def say_directive(action: Action, of: Pair, has_jobs: bool) -> str:
     return name if is_all else f"{name} of some processes"
 
 
-def find_persistence(action: Action) -> Optional[int]:
+def find_persistence(action: Action) -> int | None:
     """How long a name stays that a call publishes; None where that isn't known. The recorder once
     didn't tell it: then it stays."""
     if not isinstance(action, Publish):

@@ -3,7 +3,6 @@ import enum
 from collections import deque
 from collections.abc import Iterator, Mapping, Sequence
 from dataclasses import dataclass, field
-from typing import Optional, Union
 
 from wire_up_tools.record.calls import Call, Value, ValueKind
 from wire_up_tools.record.notes import Notes
@@ -30,11 +29,11 @@ class Line:
 
     process: Process
     at: int
-    said: Optional[str]
+    said: str | None
     call: Call
-    value: Optional[Value]
-    order: Optional[str]
-    remark: Optional[str]
+    value: Value | None
+    order: str | None
+    remark: str | None
 
     @property
     def words(self) -> str:
@@ -174,10 +173,10 @@ class Run:
         self.draft = draft
         self.reached: set[Line] = set()
         self.lacking: dict[Meeting, int] = {}
-        self.waiting: dict[Union[Line, Meeting], list[Process]] = {}
+        self.waiting: dict[Line | Meeting, list[Process]] = {}
         self.ready = deque(draft.lines)
 
-    def reach(self, line: Line, meeting: Optional[Meeting]) -> None:
+    def reach(self, line: Line, meeting: Meeting | None) -> None:
         """Takes a line that a process comes to: those that wait for it go on."""
         self.reached.add(line)
         self.ready.extend(self.waiting.pop(line, ()))
@@ -187,7 +186,7 @@ class Run:
             if not lacking:
                 self.ready.extend(self.waiting.pop(meeting, ()))
 
-    def what_lacks(self, line: Line, meeting: Optional[Meeting]) -> Union[Line, Meeting, None]:
+    def what_lacks(self, line: Line, meeting: Meeting | None) -> Line | Meeting | None:
         """What must be reached before a line can be passed; None if nothing lacks."""
         if meeting and self.lacking[meeting]:
             return meeting

@@ -7,7 +7,6 @@ import functools
 import re
 from collections.abc import Callable, Mapping, Sequence
 from dataclasses import dataclass
-from typing import Optional, Union
 
 from wire_up_tools.limits import LARGE
 from wire_up_tools.record import calls
@@ -90,7 +89,7 @@ def read_pairs(text: str) -> tuple[Pair, ...]:
     return tuple(Pair(decode(key), read_value(value)) for key, _, value in parts)
 
 
-def read_keys(text: str) -> Optional[tuple[bytes, ...]]:
+def read_keys(text: str) -> tuple[bytes, ...] | None:
     """The keys of :KEY,:KEY; None for every key."""
     if text in ("every", "-"):
         return None if text == "every" else ()
@@ -206,16 +205,16 @@ MESSAGE_END = re.compile(rf"0 (-?\d{{1,9}}) (-?\d{{1,18}}) (-?\d{{1,18}})(?: {FO
 # No message came: the receive was cancelled, or it failed.
 NO_MESSAGE, FAILED = "1", "2"
 # How a message was found, as a recording says it.
-FINDS: dict[Optional[str], int] = {it.value: n for n, it in enumerate(FOUND_WAYS) if it}
+FINDS: dict[str | None, int] = {it.value: n for n, it in enumerate(FOUND_WAYS) if it}
 
 
-def read_wanted(text: Optional[str], any_number: int) -> int:
+def read_wanted(text: str | None, any_number: int) -> int:
     """The source or tag that a receive or a probe asks for."""
     return any_number if text in ("any", None) else int(text or "")
 
 
 @functools.lru_cache(KEPT_RECORDS)
-def read_message(text: str) -> Optional[Begun]:
+def read_message(text: str) -> Begun | None:
     """What a call that begins sends, receives or probes for; None of another call."""
     read = MESSAGE.fullmatch(text)
     if not read:
@@ -232,7 +231,7 @@ def read_message(text: str) -> Optional[Begun]:
 
 
 @functools.lru_cache(KEPT_RECORDS)
-def read_came(text: str) -> Optional[Came]:
+def read_came(text: str) -> Came | None:
     """The message that a receive or a probe got; None where none came."""
     if text in (NO_MESSAGE, FAILED):
         return None
@@ -275,12 +274,12 @@ def read_lookup_end(text: str) -> End:
     return calls.LookupEnd(int(status), read_pairs(found))
 
 
-def read_found_by(text: Optional[str]) -> Optional[FoundBy]:
+def read_found_by(text: str | None) -> FoundBy | None:
     """How a request was found to be over, if that is said."""
     return FoundBy(text) if text else None
 
 
-def read_sources(text: str) -> Union[Sources, tuple[int, ...]]:
+def read_sources(text: str) -> Sources | tuple[int, ...]:
     """Those whose data a process waited for in a collective."""
     return tuple(map(int, text.split(","))) if text[0].isdigit() else Sources(text)
 

@@ -3,7 +3,7 @@ streams are in one for which one receive could get a message of either."""
 from array import array
 from collections.abc import Sequence
 from dataclasses import dataclass, field
-from typing import NamedTuple, Union
+from typing import NamedTuple
 
 from wire_up_tools.record.groups import Group, Letters, Matching, match_pairs
 from wire_up_tools.record.messages import ANY_RANK, ANY_TAG, RECEIVE
@@ -100,13 +100,13 @@ class Grouping:
             letters.find_ask(index).source == ANY_RANK,
         )
 
-    def sort(self) -> dict[Union[int, Alike], "array[int]"]:
+    def sort(self) -> dict[int | Alike, "array[int]"]:
         """What got a message, by groups, in the order of the first of each."""
-        found: dict[Union[int, Alike], "array[int]"] = {}
+        found: dict[int | Alike, "array[int]"] = {}
         for index, key in enumerate(self.keys):
             if self.letters.got[index] != MISSED:
                 is_pair = self.is_pair(index, key)
-                of: Union[int, Alike] = self.find_alike(index, key) if is_pair else key
+                of: int | Alike = self.find_alike(index, key) if is_pair else key
                 if of not in found:
                     found[of] = array("I")
                 found[of].append(index)

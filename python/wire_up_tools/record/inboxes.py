@@ -3,7 +3,6 @@ import sys
 from array import array
 from collections.abc import Mapping
 from dataclasses import dataclass, field
-from typing import Optional
 
 from wire_up_tools.record.communicators import Communicator, Communicators, Side
 from wire_up_tools.record.groups import Letters
@@ -118,7 +117,7 @@ class Found:
         """Takes whom a call found that ended at a line."""
         self.at.setdefault(peer, ends)
 
-    def has(self, peer: Optional[Process], begins: int) -> bool:
+    def has(self, peer: Process | None, begins: int) -> bool:
         """Whether a process was found before a call began at a line."""
         return peer is not None and self.at.get(peer, sys.maxsize) < begins
 
@@ -182,7 +181,7 @@ class Taking:
         if peer and self.is_found_by_luck(own, number):
             self.found.add(peer, messages.ends[number])
 
-    def find_peer(self, own: Communicator, number: int) -> Optional[Process]:
+    def find_peer(self, own: Communicator, number: int) -> Process | None:
         """The process of which a message came; None where none did."""
         rank = self.messages.came_from[number]
         return own.peers[rank] if 0 <= rank < len(own.peers) else None

@@ -3,7 +3,6 @@ import bisect
 import sys
 from collections.abc import Iterable, Iterator, Mapping, Sequence
 from dataclasses import dataclass, field
-from typing import Optional
 
 from wire_up_tools.record.calls import AnyRank, Call, ProcessName
 from wire_up_tools.record.names import name_set
@@ -42,7 +41,7 @@ class Bounds:
     """At which lines of the recording of each process calls begin and end, found out where that is
     asked for: of MPI's calls and, where `of_pmix` doesn't say where they are, of all of PMIx."""
 
-    of_pmix: Optional[Mapping[Process, Sequence[int]]] = None
+    of_pmix: Mapping[Process, Sequence[int]] | None = None
     found: dict[Process, Sequence[int]] = field(default_factory=dict)
 
     def find(self, process: Process) -> Sequence[int]:
@@ -72,12 +71,12 @@ class Sets:
     """The sets of processes that fences name, found once for each."""
 
     processes: Processes
-    found: dict[tuple[bytes, tuple[ProcessName, ...]], Optional[Members]] = field(
+    found: dict[tuple[bytes, tuple[ProcessName, ...]], Members | None] = field(
         default_factory=dict
     )
     words: dict[tuple[bytes, Members], str] = field(default_factory=dict)
 
-    def find_members(self, caller: Process, names: tuple[ProcessName, ...]) -> Optional[Members]:
+    def find_members(self, caller: Process, names: tuple[ProcessName, ...]) -> Members | None:
         """The members of a fence; None where one isn't recorded, or the caller isn't one."""
         at = caller.namespace, names
         if at not in self.found:
@@ -85,7 +84,7 @@ class Sets:
         members = self.found[at]
         return members if members and caller in members else None
 
-    def read_names(self, caller: Process, names: Iterable[ProcessName]) -> Optional[Members]:
+    def read_names(self, caller: Process, names: Iterable[ProcessName]) -> Members | None:
         """The processes that a fence names; None where one isn't recorded."""
         found: set[Process] = set()
         for name in names:

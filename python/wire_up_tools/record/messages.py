@@ -5,7 +5,6 @@ A large recording has millions of them: in arrays each takes some fifty bytes.
 import functools
 from array import array
 from collections.abc import Sequence
-from typing import Optional
 
 from wire_up_tools.record.calls import (
     Call,
@@ -42,7 +41,7 @@ Begun = tuple[int, int, int, int, int]
 Came = tuple[int, int, int, int]
 
 
-def find_wanted(number: int, any_number: int) -> Optional[int]:
+def find_wanted(number: int, any_number: int) -> int | None:
     """The source or tag that is asked for; None for any."""
     return None if number == any_number else number
 
@@ -80,12 +79,12 @@ class Messages:
         self.threads, self.places = array("I"), array("I")
         self.found_by = bytearray()
         self.failed: dict[int, int] = {}
-        self.words: dict[Optional[str], int] = {}
+        self.words: dict[str | None, int] = {}
 
     def __len__(self) -> int:
         return len(self.verbs)
 
-    def begin(self, begun: Begun, at: int, thread: str, place: Optional[str]) -> None:
+    def begin(self, begun: Begun, at: int, thread: str, place: str | None) -> None:
         """Takes a call that begins at a line."""
         verb, communicator, peer, tag, size = begun
         self.verbs.append(verb)
@@ -105,7 +104,7 @@ class Messages:
         """Whether a thread made a call."""
         return self.words.get(thread) == self.threads[number]
 
-    def finish(self, number: int, at: int, came: Optional[Came], status: int) -> None:
+    def finish(self, number: int, at: int, came: Came | None, status: int) -> None:
         """Takes how a call ended, at a line, and the message that came."""
         self.ends[number] = at
         if came:
@@ -120,7 +119,7 @@ class Messages:
         self.finish(number, at, None, status)
 
     @functools.cached_property
-    def texts(self) -> Sequence[Optional[str]]:
+    def texts(self) -> Sequence[str | None]:
         """The words of threads and places, by their numbers."""
         return [*self.words]
 
@@ -152,7 +151,7 @@ class Messages:
         """Whether another run may have found a call open at this place."""
         return self.found_by[number] >= BY_POLL
 
-    def make_end(self, number: int) -> Optional[End]:
+    def make_end(self, number: int) -> End | None:
         """How a call ended; None where that isn't recorded."""
         if self.ends[number] == NO_LINE:
             return None

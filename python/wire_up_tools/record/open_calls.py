@@ -1,6 +1,5 @@
 """Which calls of a recording are open: begun, and not ended."""
 from array import array
-from typing import Optional
 
 # How far a number may be past all before it to have a place in the array.
 MOST_AHEAD = 1 << 12
@@ -31,7 +30,7 @@ class OpenCalls:
             self.far[number] = index
         return True
 
-    def remove(self, number: int) -> Optional[int]:
+    def remove(self, number: int) -> int | None:
         """Closes a call. Answers its index; None where it isn't open."""
         if number < len(self.near) and self.near[number] != CLOSED:
             index, self.near[number] = self.near[number], CLOSED

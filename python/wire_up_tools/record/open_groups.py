@@ -3,7 +3,7 @@ run, whichever it got."""
 from collections import Counter, deque
 from collections.abc import Iterator, Mapping, Sequence
 from dataclasses import dataclass, field
-from typing import NamedTuple, Optional
+from typing import NamedTuple
 
 from wire_up_tools.record.calls import Call
 from wire_up_tools.record.communicators import Side
@@ -139,7 +139,7 @@ class Counted:
             self.open.add(stream)
             self.spread = max(self.spread, self.could[stream] - self.have[stream])
 
-    def count_own(self, asks: Sequence[Ask], probe: Optional[Ask]) -> dict[Stream, int]:
+    def count_own(self, asks: Sequence[Ask], probe: Ask | None) -> dict[Stream, int]:
         """How many messages of a stream were got by those who asked for it alone: of the new ones
         that asked so, and of a probe."""
         found: dict[Stream, int] = {}
@@ -151,7 +151,7 @@ class Counted:
             found[probe.stream] = self.own[probe] + 1
         return found
 
-    def find_new(self, count: int, asks: Sequence[Ask], probe: Optional[Ask]) -> Iterator[Call]:
+    def find_new(self, count: int, asks: Sequence[Ask], probe: Ask | None) -> Iterator[Call]:
         """The messages that have surely been sent when `count` receives have got one, of which
         the new ones asked for `asks`, and when a probe found one more: for each stream the last
         that is new.

@@ -6,7 +6,6 @@ import shutil
 import subprocess
 from collections.abc import Iterable, Iterator, Mapping, Sequence
 from dataclasses import dataclass
-from typing import Optional
 
 from wire_up_tools.failures import Refused
 from wire_up_tools.plan_reading import read_calls
@@ -32,7 +31,7 @@ class Places:
 
     texts: Mapping[Address, str]
 
-    def find(self, recording: Recording, number: Optional[str]) -> Optional[str]:
+    def find(self, recording: Recording, number: str | None) -> str | None:
         """The text of a place by its number; None where that isn't known."""
         frames = recording.list_frames(number)
         if not frames or not self.say(frames[-1]):
@@ -43,7 +42,7 @@ class Places:
         start = max((at for at, it in enumerate(named) if find_function(it) in MAIN), default=0)
         return INTO.join(named[max(start, len(named) - MOST_NAMED):])
 
-    def say(self, place: Place) -> Optional[str]:
+    def say(self, place: Place) -> str | None:
         """The text of a place alone."""
         return self.texts.get(place) if isinstance(place, Address) else place
 
@@ -97,7 +96,7 @@ def write_places(places: Places, folder: str) -> None:
 # --- what modules say ---
 
 
-def name_line(function: str, line: str) -> Optional[str]:
+def name_line(function: str, line: str) -> str | None:
     """`function (file.c:42)` by what `addr2line` writes; None where it doesn't know."""
     file, _, number = re.sub(r" \(discriminator \d+\)", "", line).rpartition(":")
     if not number.isdigit() or number == "0" or file.startswith("?"):
@@ -120,7 +119,7 @@ def ask_module(module: str, offsets: Sequence[int]) -> Sequence[str]:
     return ran.stdout.decode("utf-8", "replace").splitlines()
 
 
-def find_lines(module: str, offsets: Sequence[int]) -> Sequence[Optional[str]]:
+def find_lines(module: str, offsets: Sequence[int]) -> Sequence[str | None]:
     """The functions and lines of offsets in a module; None for those that it doesn't know."""
     answers: list[list[str]] = []
     for line in ask_module(module, offsets):
@@ -133,7 +132,7 @@ def find_lines(module: str, offsets: Sequence[int]) -> Sequence[Optional[str]]:
     return [name_lines(it) for it in answers]
 
 
-def name_lines(wrote: Sequence[str]) -> Optional[str]:
+def name_lines(wrote: Sequence[str]) -> str | None:
     """What is written of one address: a function and its line, and then those that hold it."""
     named = [name_line(function, line) for function, line in zip(wrote[::2], wrote[1::2])]
     return INTO.join(it for it in reversed(named) if it) if named and named[0] else None
@@ -168,7 +167,7 @@ def find_places(draft: Draft, kept: Mapping[Address, str]) -> Places:
 # --- calls of plans ---
 
 
-def find_call_place(process: str, number: int, plan: bytes) -> Optional[str]:
+def find_call_place(process: str, number: int, plan: bytes) -> str | None:
     """Where a call of a plan comes from, by its comments; None where there is no such call.
 
     Calls of a process such as `app:0` are counted from 1.

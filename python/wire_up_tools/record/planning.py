@@ -1,7 +1,6 @@
 """Makes the draft of a plan from recordings: all stages, one after another."""
 from collections.abc import Sequence
 from dataclasses import dataclass, replace
-from typing import Optional
 
 from wire_up_tools.failures import Refused
 from wire_up_tools.limits import VERSION_1, Limits
@@ -44,7 +43,7 @@ class MpiSummary:
     message_count: int = 0
     collective_count: int = 0
     left_to_luck: int = 0
-    verdicts: Optional[str] = None
+    verdicts: str | None = None
     strict_races: Sequence[str] = ()
 
 
@@ -55,11 +54,11 @@ class Tested:
     known of the library; whether each run of the program makes the calls of the plan, if it goes by
     them alone; and on which libraries each run does as the rules say."""
 
-    answered: Optional[str] = None
+    answered: str | None = None
     timed: Sequence[str] = ()
-    of_library: Optional[str] = None
+    of_library: str | None = None
     is_of_each_run: bool = False
-    portable: Optional[str] = None
+    portable: str | None = None
 
 
 @dataclass(frozen=True)

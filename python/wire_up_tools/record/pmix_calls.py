@@ -3,7 +3,6 @@ import re
 import sys
 from collections.abc import Mapping, Sequence
 from dataclasses import dataclass, field
-from typing import Optional, Union
 
 from wire_up_tools.record.calls import (
     NO,
@@ -53,7 +52,7 @@ UNREACHED = (
 AT_THE_END = sys.maxsize
 
 
-def find_owner(processes: Processes, caller: Process, get: Get) -> Optional[Process]:
+def find_owner(processes: Processes, caller: Process, get: Get) -> Process | None:
     """The process whose key is asked for; None where it isn't recorded."""
     if get.owner is None or not isinstance(get.owner.rank, int):
         return None
@@ -76,7 +75,7 @@ class ProcessLines:
     published: list[bytes] = field(default_factory=list)
 
     def add(
-        self, call: Call, words: str, value: Optional[Value] = None, at: Optional[int] = None
+        self, call: Call, words: str, value: Value | None = None, at: int | None = None
     ) -> None:
         """Adds a line; it stands where its call begins, if not elsewhere."""
         begins = call.begins if at is None else at
@@ -102,7 +101,7 @@ class ProcessLines:
             )
         return value.word
 
-    def note_several(self, action: Union[Publish, Lookup, Unpublish], count: int) -> None:
+    def note_several(self, action: Publish | Lookup | Unpublish, count: int) -> None:
         """Notes that one call has several lines."""
         if count > 1:
             self.write_otherwise(
@@ -146,7 +145,7 @@ class ProcessLines:
         else:
             self.add(call, "commit")
 
-    def why_no_get(self, get: Get) -> Optional[str]:
+    def why_no_get(self, get: Get) -> str | None:
         """What a get is that a plan can't have; None where it can."""
         if get.owner is None:
             return "gets that name no process"

@@ -5,7 +5,6 @@ calls over its set in the same order.
 """
 from collections.abc import Mapping, Sequence
 from dataclasses import dataclass
-from typing import Optional
 
 from wire_up_tools.record.calls import Call, Ending, Fence, Group, ProcessName
 from wire_up_tools.record.directives import COLLECT, OF_GROUPS, find_ending, has_directive
@@ -69,7 +68,7 @@ class OpenGroups:
     def __init__(self) -> None:
         self.found: dict[bytes, tuple[ProcessName, ...]] = {}
 
-    def find(self, call: Call) -> Optional[tuple[ProcessName, ...]]:
+    def find(self, call: Call) -> tuple[ProcessName, ...] | None:
         """The processes that a fence or a call of a group waits for; None where it isn't known
         that it waits for all of them."""
         action = call.action
@@ -123,7 +122,7 @@ def find_fences(sets: Sets, notes: Notes) -> CallsBySet:
     return found
 
 
-def why_left_out(meeting: JointCalls) -> Optional[str]:
+def why_left_out(meeting: JointCalls) -> str | None:
     """Why fences that meet have no lines; None where they have. One that failed at a process is
     left out at all its processes: it ordered nothing for certain."""
     if any(call.has_failed for call in meeting.calls.values()):

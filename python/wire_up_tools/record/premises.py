@@ -7,7 +7,6 @@ import contextlib
 import re
 from collections.abc import Iterable, Iterator, Mapping
 from dataclasses import dataclass, field
-from typing import Optional
 
 from wire_up_tools.checker import Checker
 from wire_up_tools.failures import Refused
@@ -87,7 +86,7 @@ class Differing:
 # --- the answers ---
 
 
-def find_said(line: Line, names: Mapping[bytes, str]) -> Optional[Value]:
+def find_said(line: Line, names: Mapping[bytes, str]) -> Value | None:
     """The value that the call of a line puts or publishes; None of other calls."""
     action = line.call.action
     if line.said is None or not line.is_of_program:
@@ -124,11 +123,11 @@ def is_alike(answered: Answered, replayed: str, words: ValueWords) -> bool:
 
 def compare(
     answers: Iterable[Answered], replayed: Iterator[str], words: ValueWords
-) -> Optional[Differing]:
+) -> Differing | None:
     """Where answers and the lines of a replay differ; None where they don't. Raises ValueError
     where the replay is of other calls."""
     count = calls = 0
-    first: Optional[tuple[Answered, str]] = None
+    first: tuple[Answered, str] | None = None
     for it in answers:
         said, calls = next(replayed, ""), calls + 1
         if not said.startswith(f"{it.line.process.name} {it.number} {it.line.verb} "):
@@ -141,7 +140,7 @@ def compare(
     return Differing(count, calls, first[0], " ".join([status, *map(words.say, value)]))
 
 
-def compare_answers(checker: Checker, plan: Plan) -> Optional[Differing]:
+def compare_answers(checker: Checker, plan: Plan) -> Differing | None:
     """Which calls of a plan without findings the library answered otherwise than its replay.
     Raises Refused, OSError or ValueError where it isn't replayed, as with findings."""
     words = ValueWords()
@@ -225,7 +224,7 @@ class Premises:
     and whether the program is known to go by nothing but its calls."""
 
     is_replayed: bool
-    differing: Optional[Differing] = None
+    differing: Differing | None = None
     goes_by_calls: bool = False
 
     @property

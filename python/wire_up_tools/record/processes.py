@@ -3,7 +3,7 @@ import re
 from collections.abc import Iterator, Mapping, Sequence
 from dataclasses import dataclass
 from functools import cached_property
-from typing import NamedTuple, Optional
+from typing import NamedTuple
 
 from wire_up_tools.limits import VERSION_1, Limits
 from wire_up_tools.record.calls import (
@@ -30,8 +30,8 @@ NAMED = 5
 
 
 def find_told_number(
-    call: Call, key: bytes, owners: Sequence[Optional[ProcessName]]
-) -> Optional[int]:
+    call: Call, key: bytes, owners: Sequence[ProcessName | None]
+) -> int | None:
     """The number that a call got, if it is a get of this key of one of these processes."""
     get = call.action
     if not isinstance(get, Get) or get.keys != (key,) or get.owner not in owners or call.status:
@@ -85,7 +85,7 @@ class Processes:
     nodes: Mapping[bytes, str]
     is_large: bool
 
-    def find(self, namespace: bytes, rank: int) -> Optional[Process]:
+    def find(self, namespace: bytes, rank: int) -> Process | None:
         """The process of a rank; None where it isn't recorded."""
         job = self.jobs.get(namespace)
         return job.processes[rank] if job and 0 <= rank < len(job.processes) else None

@@ -8,7 +8,7 @@ from collections import Counter
 from collections.abc import Mapping, Sequence
 from dataclasses import dataclass, field
 from functools import cached_property
-from typing import NoReturn, Optional, Union
+from typing import NoReturn, Union
 
 from wire_up_tools.failures import Refused
 from wire_up_tools.limits import Limits
@@ -89,7 +89,7 @@ class RecordedCommunicator:
     parent: int
     which: str
     ranks: Sequence[int]
-    remote_ranks: Optional[Sequence[int]]
+    remote_ranks: Sequence[int] | None
 
 
 @dataclass(frozen=True)
@@ -126,10 +126,10 @@ class Recording:
     files: Sequence[FileCall]
     unseen: Mapping[str, int]
     unseen_pmix: Mapping[str, int]
-    uses: Optional[bytes]
-    job_size: Optional[int]
-    application: Optional[int]
-    world: Optional[World]
+    uses: bytes | None
+    job_size: int | None
+    application: int | None
+    world: World | None
     communicators: Mapping[int, RecordedCommunicator]
     places: Mapping[str, Place]
     outer: Mapping[str, str]
@@ -147,7 +147,7 @@ class Recording:
         """The threads that made calls."""
         return {it.thread for it in self.calls} | self.messages.thread_words
 
-    def list_frames(self, number: Optional[str]) -> list[Place]:
+    def list_frames(self, number: str | None) -> list[Place]:
         """The place of a number and those at which the functions were called, from the outermost
         on; none where the number isn't known."""
         found: list[Place] = []
@@ -254,7 +254,7 @@ class Records:
     unseen: Counter[str] = field(default_factory=Counter)
     unseen_pmix: Counter[str] = field(default_factory=Counter)
     told: dict[str, bytes] = field(default_factory=dict)
-    world: Optional[World] = None
+    world: World | None = None
     communicators: dict[int, RecordedCommunicator] = field(default_factory=dict)
     places: dict[str, Place] = field(default_factory=dict)
     outer: dict[str, str] = field(default_factory=dict)
@@ -280,7 +280,7 @@ class Records:
             refuse(self.path, number, NO_RECORD)
 
     def begin(
-        self, call: int, number: int, thread: str, place: Optional[str], text: str
+        self, call: int, number: int, thread: str, place: str | None, text: str
     ) -> None:
         """Takes a call that begins. Raises Refused, ValueError or KeyError."""
         message = read_message(text)
@@ -394,7 +394,7 @@ def read_head(path: str, lines: Sequence[str]) -> Head:
     return head
 
 
-def find_number(told: Mapping[str, bytes], what: str) -> Optional[int]:
+def find_number(told: Mapping[str, bytes], what: str) -> int | None:
     """A number that the library told; None where it told none."""
     return int(told[what]) if what in told else None
 

@@ -5,7 +5,7 @@ import signal
 import subprocess
 import tempfile
 from collections.abc import Mapping, Sequence
-from typing import IO, NamedTuple, Optional
+from typing import IO, NamedTuple
 
 from wire_up_tools.failures import Refused
 from wire_up_tools.files import STANDARD_OUTPUT
@@ -48,7 +48,7 @@ class Stopped(Exception):
         self.number = number
 
 
-def find_library(folder: str, name: str) -> Optional[str]:
+def find_library(folder: str, name: str) -> str | None:
     """The path of a built library, by the folder of the command; None where it isn't built."""
     for beside in LIBRARIES:
         path = os.path.realpath(os.path.join(folder, beside, name))
@@ -84,7 +84,7 @@ def is_made_by_python(name: str) -> bool:
     return name in os.environ and not any(it.startswith(f"{name}=".encode()) for it in given)
 
 
-def make_folder(path: str, kept: Optional[str]) -> str:
+def make_folder(path: str, kept: str | None) -> str:
     """The folder for the recordings of a command, made or found empty: the one that is kept, or one
     beside the text that is written to a path, or here where that is no file. Raises Refused,
     OSError."""
@@ -140,8 +140,8 @@ def wait_and_hand_on(process: "subprocess.Popen[bytes]") -> Ended:
 def run(
     command: Sequence[str],
     environment: Mapping[str, str],
-    source: Optional[IO[bytes]] = None,
-    output: Optional[int] = None,
+    source: IO[bytes] | None = None,
+    output: int | None = None,
 ) -> Ended:
     """Runs a command, which reads from a source, else from standard input, hands signals on to it,
     and answers how it ended. `output` is the file to which its

@@ -4,7 +4,7 @@ from array import array
 from collections.abc import Iterable, Iterator, Mapping, Sequence, Set
 from dataclasses import dataclass, field
 from itertools import accumulate
-from typing import NamedTuple, Optional
+from typing import NamedTuple
 
 from wire_up_tools.record.messages import ANY_RANK, ANY_TAG
 
@@ -35,7 +35,7 @@ class Ask(NamedTuple):
         return Ask(source, ANY_TAG if other.tag == ANY_TAG else self.tag)
 
     @property
-    def stream(self) -> Optional[Stream]:
+    def stream(self) -> Stream | None:
         """The one stream that it asks for; None where it could be any of several."""
         return None if self.source == ANY_RANK or self.tag == ANY_TAG else Stream(*self)
 

@@ -4,7 +4,6 @@ Both plans have the calls of one program. Lines that stand for orders may be in 
 may have another number there.
 """
 from collections.abc import Iterator
-from typing import Optional
 
 from wire_up_tools.checker import Checker
 from wire_up_tools.record.draft import Draft
@@ -44,7 +43,7 @@ def list_places(draft: Draft) -> Iterator[tuple[Place, Key]]:
                 yield (process.name, number), (id(line.call), line.words)
 
 
-def translate(line: str, places: dict[Place, Place]) -> Optional[str]:
+def translate(line: str, places: dict[Place, Place]) -> str | None:
     """A race with the numbers of the other plan; None for what is none, or where that has no such
     calls."""
     words = line.split(" ")

@@ -7,7 +7,7 @@ import sys
 import time
 from collections.abc import Callable, Mapping, Sequence
 from dataclasses import dataclass, replace
-from typing import Optional, Union
+from typing import Union
 
 from wire_up_tools.checker import Checker, find_checker
 from wire_up_tools.failures import Refused
@@ -76,10 +76,10 @@ class Output:
     checker is asked; where that is None, the one that is found."""
 
     plan: str
-    answers: Optional[str] = None
-    kept: Optional[str] = None
-    pattern: Optional[str] = None
-    checker: Optional[str] = None
+    answers: str | None = None
+    kept: str | None = None
+    pattern: str | None = None
+    checker: str | None = None
     with_mpi: bool = True
     is_strict: bool = False
 
@@ -99,7 +99,7 @@ class CommandRequest:
 
     output: Output
     command: Sequence[str]
-    asked: Optional[Asked] = None
+    asked: Asked | None = None
 
 
 @dataclass(frozen=True)
@@ -257,7 +257,7 @@ def judge_otherwise(plan: Plan, make_other: Callable[[Choices], Plan], checker: 
     return settle_gets(add_verdicts(plan, make_other, checker), make_other, checker)
 
 
-def make_choices(output: Output, path: Optional[str]) -> Choices:
+def make_choices(output: Output, path: str | None) -> Choices:
     """What is taken from recordings, by the checker at a path."""
     is_large = path is not None and Checker(path).takes_large()
     return Choices(output.with_mpi, output.is_strict, LARGE if is_large else VERSION_1)
@@ -345,7 +345,7 @@ def run_first(asked: CommandRequest, environment: Mapping[str, str]) -> Ended:
 
 
 def find_material(
-    asked: Union[CommandRequest, ShowRequest], text: str, room: str, folder: str
+    asked: CommandRequest | ShowRequest, text: str, room: str, folder: str
 ) -> Material:
     """What there is to show races of a plan with, in runs whose recordings go to a room. `folder`
     is that of the recorder. Raises Refused, OSError."""

@@ -3,7 +3,6 @@ open, where that differs; on other placements of the ranks; and of several runs,
 and of each by itself. And on which libraries the plan is portable; and what the library that was
 recorded answered otherwise than the rules, or is known to answer so, where it isn't."""
 from collections.abc import Iterator, Sequence
-from typing import Optional
 
 from wire_up_tools.checker import Checker
 from wire_up_tools.failures import Refused
@@ -23,7 +22,7 @@ ANYWHERE = "--anywhere"
 NAMED = 4
 
 
-def find_verdict(checker: Checker, plan: str, *options: str) -> Optional[str]:
+def find_verdict(checker: Checker, plan: str, *options: str) -> str | None:
     """The last line that the checker writes about a plan; None where it writes none."""
     try:
         answer = checker.ask("check", *options, plan=plan.encode())
@@ -32,7 +31,7 @@ def find_verdict(checker: Checker, plan: str, *options: str) -> Optional[str]:
     return answer.stdout.splitlines()[-1] if answer.status in (0, 1) and answer.stdout else None
 
 
-def compare_verdicts(checker: Checker, plan: str, strict_plan: str) -> Optional[str]:
+def compare_verdicts(checker: Checker, plan: str, strict_plan: str) -> str | None:
     """The verdicts on a plan and on one that takes nothing from what was left to luck, if they
     differ."""
     found, strict = find_verdict(checker, plan), find_verdict(checker, strict_plan)
@@ -46,7 +45,7 @@ def finds_nothing(checker: Checker, *plans: str) -> bool:
     return all(find_verdict(checker, it) == NOTHING for it in plans)
 
 
-def judge_placements(checker: Checker, plan: str) -> Optional[str]:
+def judge_placements(checker: Checker, plan: str) -> str | None:
     """What is found on other placements of the ranks alone; None where nothing is, where something
     is found as the plan is placed, or where the checker judges no other placements."""
     try:
@@ -75,15 +74,15 @@ def judge_runs(
         yield f"what the runs share has {found}; by themselves they have {', '.join(each)}"
 
 
-def find_library(plan: Plan) -> Optional[Library]:
+def find_library(plan: Plan) -> Library | None:
     """The library that was recorded; None where nothing is known of it."""
     first = plan.processes.all[0].recording
     return find_recorded(first.library, first.namespace.decode("ascii", "replace"))
 
 
 def judge_library(
-    checker: Checker, plan: Plan, data: bytes, portable: Optional[Portable]
-) -> Optional[Judged]:
+    checker: Checker, plan: Plan, data: bytes, portable: Portable | None
+) -> Judged | None:
     """What the library that was recorded is known to make of a plan, whose text is given; None
     where nothing is known of it, where the plan is portable for it, or is too large."""
     library = find_library(plan)

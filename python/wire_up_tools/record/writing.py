@@ -3,7 +3,6 @@ calls ended, in the form of a report."""
 from collections.abc import Iterable, Iterator, Sequence
 from dataclasses import dataclass
 from datetime import datetime, timezone
-from typing import Optional
 
 from wire_up_tools.limits import VERSION_1
 from wire_up_tools.record.calls import (
@@ -191,7 +190,7 @@ def say_head(plan: Plan) -> list[str]:
 # --- the plan ---
 
 
-def find_texts(process: Process, places: Optional[Places]) -> dict[Optional[str], str]:
+def find_texts(process: Process, places: Places | None) -> dict[str | None, str]:
     """The texts of the places of a process, by their numbers, as far as they are known."""
     if not places:
         return {}
@@ -200,7 +199,7 @@ def find_texts(process: Process, places: Optional[Places]) -> dict[Optional[str]
     return {number: text for number, text in found if text}
 
 
-def say_order(line: Line) -> Optional[str]:
+def say_order(line: Line) -> str | None:
     """The comment above a line that stands for a message or a collective; None for another."""
     action, end = line.call.action, line.call.end
     if line.order is None or line.is_of_program:
@@ -216,7 +215,7 @@ def say_order(line: Line) -> Optional[str]:
     return f"{MPI_COMMENT}receive{of_any}{tag}"
 
 
-def write_script(lines: Iterable[Line], texts: dict[Optional[str], str]) -> Iterator[str]:
+def write_script(lines: Iterable[Line], texts: dict[str | None, str]) -> Iterator[str]:
     """The lines of one process. Where another place of the program begins, a comment says so."""
     place = UNKNOWN_PLACE
     for line in lines:
@@ -230,7 +229,7 @@ def write_script(lines: Iterable[Line], texts: dict[Optional[str], str]) -> Iter
         yield line.words
 
 
-def write_body(plan: Plan, places: Optional[Places]) -> list[str]:
+def write_body(plan: Plan, places: Places | None) -> list[str]:
     """The lines of the plan below its head."""
     lines = ["rehearsal 1", *(f"node {it}" for it in plan.processes.nodes.values())]
     for job in plan.processes.jobs.values():
@@ -250,7 +249,7 @@ def join_lines(head: Sequence[str], body: Sequence[str], is_large: bool) -> str:
     return "".join(f"{it}\n" for it in [*head, *(more if is_past else []), *body])
 
 
-def write_plan(plan: Plan, places: Optional[Places] = None) -> str:
+def write_plan(plan: Plan, places: Places | None = None) -> str:
     """The text of a plan, with where its calls come from if there is room for that.
 
     Raises Refused for a plan that is past the limits.
@@ -288,7 +287,7 @@ class Answered:
     line: Line
     number: int
     status: str
-    value: Optional[Value]
+    value: Value | None
 
     def write(self, value: str) -> str:
         """This as a line of a report, with the word of the value, if that isn't empty."""

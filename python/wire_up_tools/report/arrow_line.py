@@ -55,7 +55,7 @@ def list_taken(layout: Layout) -> list[Taken]:
 
 def find_bent(
     layout: Layout, arrow: Link, taken: Sequence[Box], others: Sequence[Way]
-) -> Optional[Way]:
+) -> Way | None:
     """The shortest way with bends that goes over nothing; rather one that has no bend of others.
     None where there is none."""
     bent = sorted(list_bent(layout, arrow), key=measure)[:MOST_WAYS]

@@ -5,7 +5,7 @@ import subprocess
 import tempfile
 from collections.abc import Generator, Iterator
 from dataclasses import dataclass
-from typing import IO, Any, Optional
+from typing import IO, Any
 
 from wire_up_tools.checker import Answer, Checker
 from wire_up_tools.failures import Refused
@@ -91,7 +91,7 @@ def stream_blocks(asker: Asker, command: str, *options: str) -> Generator[bytes,
         asker.judge(status, errors.read().decode("utf-8", "replace"))
 
 
-def cut_into_lines(source: Optional[IO[bytes]]) -> Iterator[bytes]:
+def cut_into_lines(source: IO[bytes] | None) -> Iterator[bytes]:
     """The bytes of a source in blocks that end with a line; the last may not."""
     rest = b""
     while source and (read := source.read(BLOCK)):

@@ -9,7 +9,6 @@ import itertools
 import re
 from collections.abc import Iterable, Iterator, Mapping, Sequence
 from dataclasses import dataclass
-from typing import Optional
 
 from wire_up_tools import words
 from wire_up_tools.plan import Call, Meeting, Plan, Rank
@@ -56,7 +55,7 @@ class Move:
         return f"move the {tell_call(plan, self.call)} {where} the {tell_call(plan, self.fence)}"
 
 
-def find_move(order: Order, finding: Finding, leader: Call) -> Optional[Move]:
+def find_move(order: Order, finding: Finding, leader: Call) -> Move | None:
     """The shortest move by which one call of a race comes first; None where there is none."""
     found = (find_move_past(order, finding, leader, it) for it in order.plan.meetings)
     moves = [it for it in found if it]
@@ -65,7 +64,7 @@ def find_move(order: Order, finding: Finding, leader: Call) -> Optional[Move]:
 
 def find_move_past(
     order: Order, finding: Finding, leader: Call, meeting: Meeting
-) -> Optional[Move]:
+) -> Move | None:
     """The move past one fence, if it is the program's and both ranks call it."""
     other, numbers = finding.find_other(leader), meeting.numbers
     both = numbers.get(leader.rank.name), numbers.get(other.rank.name)

@@ -4,7 +4,6 @@ import shutil
 import sys
 from collections.abc import Sequence
 from dataclasses import dataclass, replace
-from typing import Optional
 
 from wire_up_tools.checker import Checker, find_checker
 from wire_up_tools.failures import Refused, Unusable, explain
@@ -82,10 +81,10 @@ class Options:
     output: str
     is_text: bool
     is_large: bool
-    sarif: Optional[str]
-    source: Optional[str]
-    checker: Optional[str]
-    library: Optional[str] = None
+    sarif: str | None
+    source: str | None
+    checker: str | None
+    library: str | None = None
 
 
 def read_options(words: Sequence[str]) -> Options:
@@ -106,7 +105,7 @@ def read_options(words: Sequence[str]) -> Options:
     )
 
 
-def choose_checker(asked: Optional[str], folder: str) -> str:
+def choose_checker(asked: str | None, folder: str) -> str:
     """The path of the checker: what was asked for, else that beside the commands in a folder.
 
     Raises Refused if there is none.

@@ -3,7 +3,6 @@ import os
 import time
 from collections.abc import Sequence
 from dataclasses import dataclass, field, replace
-from typing import Optional
 
 from wire_up_tools import words
 from wire_up_tools.limits import VERSION_2
@@ -72,12 +71,12 @@ class Report:
     order: Order
     causes: Sequence[Cause] = ()
     details: Sequence[Detail] = ()
-    wire_up: Optional[WireUp] = None
-    elsewhere: Optional[Elsewhere] = None
-    pattern: Optional[Pattern] = None
+    wire_up: WireUp | None = None
+    elsewhere: Elsewhere | None = None
+    pattern: Pattern | None = None
     pattern_lines: Lines = field(default_factory=dict)
-    judged: Optional[Judged] = None
-    portable: Optional[Portable] = None
+    judged: Judged | None = None
+    portable: Portable | None = None
     is_past_limits: bool = False
 
     @property
@@ -126,7 +125,7 @@ class Report:
         return find_reasons(self.plan)
 
     @property
-    def verdicts(self) -> Optional[str]:
+    def verdicts(self) -> str | None:
         """The verdicts with and without the order of polls, if they differ."""
         return find_verdicts(self.plan)
 
@@ -165,7 +164,7 @@ def is_past_limits(asker: Asker) -> bool:
     return len(asker.data) > VERSION_2.plan_bytes
 
 
-def find_portable_of(asker: Asker) -> Optional[Portable]:
+def find_portable_of(asker: Asker) -> Portable | None:
     """For which libraries the plan is portable; None where the checker can't tell, and of a plan
     past the limits, which may have millions of calls that are named."""
     return None if is_past_limits(asker) else find_portable(asker.checker, asker.data)

@@ -6,7 +6,6 @@ import dataclasses
 import enum
 from collections.abc import Iterable, Mapping, Sequence
 from dataclasses import dataclass
-from typing import Optional
 
 from wire_up_tools.plan import Call, Meeting
 from wire_up_tools.report.language import HOW, name_call
@@ -62,7 +61,7 @@ class Item:
     lane: int
     row: Row
     label: str
-    line: Optional[int] = None
+    line: int | None = None
     style: Style = Style.PLAIN
     verb: str = ""
     first: int = 0
@@ -75,7 +74,7 @@ class Mark:
     that are drawn as one, the number of the last."""
 
     label: str
-    line: Optional[int] = None
+    line: int | None = None
     number: int = 0
     last: int = 0
 
@@ -113,7 +112,7 @@ class Diagram:
     items: Sequence[Item]
     bars: Sequence[Bar]
     arrows: Sequence[Link] = ()
-    race: Optional[Link] = None
+    race: Link | None = None
     notes: Sequence[str] = ()
 
     @property
@@ -220,7 +219,7 @@ def is_said(bar: Bar, link: Link) -> bool:
     return link.source.last < before.number and after.last < link.target.last
 
 
-def say_not_drawn(count: int, noun: str, plural: Optional[str] = None) -> list[str]:
+def say_not_drawn(count: int, noun: str, plural: str | None = None) -> list[str]:
     """The note that so many aren't drawn; none where all are."""
     said = f"{count_of(count, noun, plural)} {pick(count, 'is', 'are')} not drawn."
     return [said] if count else []

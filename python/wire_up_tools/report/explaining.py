@@ -1,6 +1,5 @@
 """What a finding is called, what it means, and how it is mended: as docs/races.md has it."""
 from collections.abc import Sequence
-from typing import Optional
 
 from wire_up_tools.plan import Call
 from wire_up_tools.report.barriers import (
@@ -105,7 +104,7 @@ WAIT_AND_REPORTED = (
 )
 
 
-def title(finding: Finding, abouts: Sequence[str] = (), order: Optional[Order] = None) -> str:
+def title(finding: Finding, abouts: Sequence[str] = (), order: Order | None = None) -> str:
     """What findings of one cause are, in one line, by the first, and by all keys or names if they
     have several; with the order, also who reads a key that is put twice."""
     (one, other), what = finding.verbs, say_what(finding, abouts)
@@ -241,7 +240,7 @@ def say_by_mpi(finding: Finding, order: Order, is_named: bool) -> str:
     return BY_MPI.format("" if is_named else way)
 
 
-def choose_wait(finding: Finding, order: Order) -> Optional[str]:
+def choose_wait(finding: Finding, order: Order) -> str | None:
     """The fix by which the call waits that doesn't; None where that orders nothing."""
     if finding.kind is Kind.KEY:
         is_open = any(it.endswith(NOT_WAITED) for it in order.plan.declared.head)

@@ -13,7 +13,7 @@ import json
 import re
 from collections.abc import Iterable, Sequence
 from dataclasses import dataclass, field
-from typing import Any, Optional
+from typing import Any
 
 from wire_up_tools.plan import Call, Plan
 from wire_up_tools.report.asking import Asker, stream_lines
@@ -55,7 +55,7 @@ class Finding:
 
     kind: Kind
     about: str
-    owner: Optional[str]
+    owner: str | None
     first: Call
     second: Call
 
@@ -81,7 +81,7 @@ class Finding:
         return next(verb for verb in self.verbs if verb != "get-now")
 
     @property
-    def leader(self) -> Optional[Call]:
+    def leader(self) -> Call | None:
         """The call that a fix lets come first: what brings a key, a publish before a lookup, and a
         lookup before an unpublish. None where neither order is the better one."""
         if self.kind is Kind.KEY:
@@ -107,7 +107,7 @@ class Group:
     first: Finding
     others: Sequence[Finding]
     count: int
-    rank_count: Optional[int]
+    rank_count: int | None
 
 
 @dataclass

@@ -62,7 +62,7 @@ def name_about(call: Call, about: str) -> str:
     return " ".join(NAMES[call.verb].format(about).split()) + collects
 
 
-def name_mpi(call: Call) -> Optional[str]:
+def name_mpi(call: Call) -> str | None:
     """What a call of MPI is called; None for a call of PMIx."""
     if not call.rank.is_recorded:
         return None

@@ -2,7 +2,6 @@
 import itertools
 from collections.abc import Iterator, Mapping, Sequence
 from dataclasses import dataclass
-from typing import Optional
 
 from wire_up_tools.report.diagram import LABEL_WIDTH, Bar, Diagram, Item, Row
 from wire_up_tools.report.phrases import count_of, cut, cut_middle
@@ -66,7 +65,7 @@ class Label:
     kind: str
     at: Point
     room: int
-    line: Optional[int] = None
+    line: int | None = None
 
     @property
     def shown(self) -> str:
@@ -196,7 +195,7 @@ def choose_side(layout: Layout, item: Item) -> int:
     return ABOVE if leads_down else BELOW
 
 
-def find_room(layout: Layout, x: float, lane: int, row: Optional[Row] = None) -> int:
+def find_room(layout: Layout, x: float, lane: int, row: Row | None = None) -> int:
     """How many characters a label has that begins there in a lane: up to what stands next in its
     row, or to the edge. What stands in no row has room up to the next lane."""
     diagram, beside = layout.diagram, set(range(len(layout.lanes)))

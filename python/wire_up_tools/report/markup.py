@@ -1,7 +1,6 @@
 """Text as HTML takes it."""
 import html
 from collections.abc import Iterable
-from typing import Optional
 
 # What stands for a character that HTML can't have.
 REPLACEMENT = "\ufffd"
@@ -25,7 +24,7 @@ def escape_lines(lines: Iterable[str]) -> str:
     return "\n".join(map(escape, lines))
 
 
-def link_to_line(markup: str, line: Optional[int], title: Optional[str] = None) -> str:
+def link_to_line(markup: str, line: int | None, title: str | None = None) -> str:
     """An element of SVG that leads to a line of the plan, if there is one, and has a title."""
     shown = f"<title>{escape(title)}</title>" if title else ""
     if line:

@@ -3,7 +3,6 @@ import itertools
 import re
 from collections.abc import Sequence
 from dataclasses import dataclass
-from typing import Optional
 
 from wire_up_tools.plan import Call, Plan
 from wire_up_tools.report.findings import Finding, Kind
@@ -29,7 +28,7 @@ class Late:
         return [self.sent, self.received]
 
 
-def find_late(order: Order, finding: Finding) -> Optional[Late]:
+def find_late(order: Order, finding: Finding) -> Late | None:
     """The message that would let that call of a race come first which should; None where there is
     none, or where it is sent only after the other call."""
     if finding.kind is Kind.REWRITE:
@@ -85,7 +84,7 @@ def mend_early(plan: Plan, finding: Finding) -> list[str]:
     return [f"move the {tell_call(plan, sent)} after the {tell_call(plan, leader)}"]
 
 
-def find_early(plan: Plan, finding: Finding) -> Optional[Call]:
+def find_early(plan: Plan, finding: Finding) -> Call | None:
     """The send before the call that should come first, of a message that the rank of the other call
     has before that; None where it can't be moved behind the first."""
     leader = finding.leader

@@ -10,7 +10,6 @@ import bisect
 import collections
 from collections.abc import Iterable, Mapping, Sequence
 from dataclasses import dataclass, field
-from typing import Optional
 
 from wire_up_tools.plan import Call, Entry, Meeting, Plan, Rank, last_of
 from wire_up_tools.report.uses import Uses, find_uses
@@ -21,8 +20,8 @@ class Stop:
     """A call at which a rank waits, by its number: for a call of another rank, or in a fence."""
 
     number: int
-    awaited: Optional[Call]
-    meeting: Optional[Meeting]
+    awaited: Call | None
+    meeting: Meeting | None
 
 
 @dataclass(frozen=True)
@@ -73,7 +72,7 @@ class Order:
         """How far each rank has surely come when a call comes."""
         return Backwards(self).find(call)
 
-    def find_nearest(self, rank: Rank, call: Call) -> Optional[Call]:
+    def find_nearest(self, rank: Rank, call: Call) -> Call | None:
         """The last call of a rank from which a chain leads to a call."""
         reached = self.find_earlier(call).get(rank, START)
         number = reached.number - (call.rank is rank)
@@ -248,7 +247,7 @@ class Sweep:
         last = self.stops[rank][len(depths) - 1].number if depths else 0
         return (depths[-1] if depths else -1) + number - last
 
-    def find_depth(self, rank: Rank, stop: Stop) -> Optional[int]:
+    def find_depth(self, rank: Rank, stop: Stop) -> int | None:
         """The depth of the last event of a stop; None if what it waits for hasn't come."""
         own = self.come(rank, stop.number)
         if stop.meeting:
@@ -264,7 +263,7 @@ class Sweep:
         depth = self.depths[other][needed - 1] if needed else -1
         return max(own, depth + awaited.number - last + 1)
 
-    def find_leaving(self, rank: Rank, meeting: Meeting, own: int) -> Optional[int]:
+    def find_leaving(self, rank: Rank, meeting: Meeting, own: int) -> int | None:
         """The depth of leaving a fence; None if not all have come."""
         number = meeting.number
         if (rank, number) not in self.is_there:

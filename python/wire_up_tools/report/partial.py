@@ -2,7 +2,6 @@
 can hide a race."""
 import re
 from collections.abc import Sequence
-from typing import Optional
 
 from wire_up_tools import words
 from wire_up_tools.left_out import can_hide
@@ -39,13 +38,13 @@ def find_hidden(head: Sequence[str]) -> list[str]:
     return [it for it in reasons if it]
 
 
-def find_verdicts(plan: Plan) -> Optional[str]:
+def find_verdicts(plan: Plan) -> str | None:
     """The verdicts with and without the order of polls, where the recorder says that they
     differ."""
     return find_both(plan.declared.head)
 
 
-def find_both(head: Sequence[str]) -> Optional[str]:
+def find_both(head: Sequence[str]) -> str | None:
     """The verdicts with and without the order of polls that a head has."""
     said = (it for it in head if it.startswith(words.VERDICTS))
     return next((it.removeprefix(words.VERDICTS) for it in said), None)
@@ -57,7 +56,7 @@ def is_of_each_run(plan: Plan) -> bool:
     return plan.is_recorded and words.EACH_RUN_SENTENCE in plan.declared.head
 
 
-def say_answered(plan: Plan) -> Optional[str]:
+def say_answered(plan: Plan) -> str | None:
     """Which calls the library that was recorded answered otherwise than the rules."""
     said = plan.list_in_head(words.ANSWERED)
     if not said:
@@ -65,7 +64,7 @@ def say_answered(plan: Plan) -> Optional[str]:
     return f"the verdict doesn't hold of this library's run, which answered otherwise {said[0]}"
 
 
-def say_timed(plan: Plan) -> Optional[str]:
+def say_timed(plan: Plan) -> str | None:
     """Which calls the library that was recorded is known to answer by which rank is fast."""
     named = plan.list_in_head(words.TIMED)
     if not named:
@@ -73,7 +72,7 @@ def say_timed(plan: Plan) -> Optional[str]:
     return f"the reply can depend on which rank is fast: {list_names(named)}"
 
 
-def say_polled(head: Sequence[str]) -> Optional[str]:
+def say_polled(head: Sequence[str]) -> str | None:
     """Of how many polls the order of one run is taken, and what the verdict is without."""
     found = next(filter(None, map(POLLED.fullmatch, head)), None)
     if not found or is_by_mpi_alone(head):
@@ -86,7 +85,7 @@ def say_polled(head: Sequence[str]) -> Optional[str]:
     return f"the order of {polled} is that of this run{both}"
 
 
-def say_received(head: Sequence[str]) -> Optional[str]:
+def say_received(head: Sequence[str]) -> str | None:
     """What could have come otherwise, so that another run may do something else."""
     listed = [say_counted(it) for it in list_below(head, words.OTHERWISE_AFTER)]
     return f"another run may do otherwise after {list_names(listed)}" if listed else None
@@ -97,7 +96,7 @@ def is_by_mpi_alone(head: Sequence[str]) -> bool:
     return words.OWN_CODE in head
 
 
-def say_awaited(plan: Plan) -> Optional[str]:
+def say_awaited(plan: Plan) -> str | None:
     """On what the order rests that gets have which don't block; None where there are none, or that
     order is said to hide what another lacks."""
     if not any(it.endswith(words.AWAITED) for it in plan.list_in_head(words.WRITTEN_OTHERWISE)):
@@ -108,7 +107,7 @@ def say_awaited(plan: Plan) -> Optional[str]:
     )
 
 
-def say_own_code(plan: Plan) -> Optional[str]:
+def say_own_code(plan: Plan) -> str | None:
     """What luck decides that leads to no call of PMIx, and on what that rests; None where it
     decides nothing, or can lead to one."""
     if not is_by_mpi_alone(plan.declared.head):
@@ -121,13 +120,13 @@ def say_own_code(plan: Plan) -> Optional[str]:
     )
 
 
-def say_parted(head: Sequence[str]) -> Optional[str]:
+def say_parted(head: Sequence[str]) -> str | None:
     """Where several runs parted."""
     partings = list_below(head, words.PARTED)
     return f"the runs part: {'; '.join(partings)}" if partings else None
 
 
-def say_cut_off(head: Sequence[str]) -> Optional[str]:
+def say_cut_off(head: Sequence[str]) -> str | None:
     """How many recordings were cut off."""
     titles = (words.CUT_OFF, words.LEFT_OUT, words.WRITTEN_OTHERWISE)
     listed = [it for title in titles for it in list_below(head, title)]
@@ -145,7 +144,7 @@ def hides_race(plan: Plan) -> bool:
     return bool(say_left_out(head) or say_cut_off(head))
 
 
-def say_left_out(head: Sequence[str]) -> Optional[str]:
+def say_left_out(head: Sequence[str]) -> str | None:
     """What was left out that can hide a race."""
     counted = (it.partition(" ") for it in list_below(head, words.LEFT_OUT))
     found = [f"{count} {what}" for count, _, what in counted if can_hide(what)]

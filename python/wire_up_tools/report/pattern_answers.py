@@ -3,7 +3,6 @@ words."""
 import re
 from collections.abc import Sequence
 from dataclasses import dataclass, field
-from typing import Optional
 
 from wire_up_tools.report.phrases import count_of, name_all
 
@@ -101,7 +100,7 @@ class Settled:
         return [*self.waits, *self.later, *(it.call for it in self.fails)]
 
 
-def read_settled(lines: Sequence[str], is_complete: bool) -> Optional[Settled]:
+def read_settled(lines: Sequence[str], is_complete: bool) -> Settled | None:
     """What an answer says whose first line is that nothing is found; None for one of another form.
     `is_complete`: whether each call is said to succeed."""
     said = Settled(is_complete)

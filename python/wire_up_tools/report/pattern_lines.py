@@ -7,7 +7,7 @@ of the plan.
 import itertools
 from collections.abc import Iterator, Mapping, Sequence
 from dataclasses import dataclass
-from typing import Any, Optional, Union
+from typing import Any
 
 from wire_up_tools.plan import Call, Plan
 from wire_up_tools.record.patterns.expanding import (
@@ -85,13 +85,13 @@ def match_plan(
     return found
 
 
-def list_lines(item: Union[Line, ReadLoop]) -> Sequence[Line]:
+def list_lines(item: Line | ReadLoop) -> Sequence[Line]:
     """The lines of a loop, or of what is none."""
     return item.lines if isinstance(item, ReadLoop) else [item]
 
 
 def list_turns(
-    instance: Instance, rank: str, item: Union[Line, ReadLoop], numbers: Sequence[int]
+    instance: Instance, rank: str, item: Line | ReadLoop, numbers: Sequence[int]
 ) -> list[Turn]:
     """What a rank says of a line, or in the turns of a loop."""
     if not isinstance(item, ReadLoop):
@@ -102,7 +102,7 @@ def list_turns(
     ]
 
 
-def match_turns(turns: Sequence[Turn], said: Sequence[Said]) -> Optional[list[int]]:
+def match_turns(turns: Sequence[Turn], said: Sequence[Said]) -> list[int] | None:
     """The numbers of the lines of what a rank says, if it takes these turns one after another, but
     for some that may be left out; None if it doesn't."""
     ways: dict[int, list[int]] = {0: []}
@@ -118,7 +118,7 @@ def match_turns(turns: Sequence[Turn], said: Sequence[Said]) -> Optional[list[in
     return ways.get(len(said))
 
 
-def say(instance: Instance, rank: str, line: Line, each: Optional[str] = None) -> Said:
+def say(instance: Instance, rank: str, line: Line, each: str | None = None) -> Said:
     """What a line of a pattern says for a rank, in the turn for another."""
     if line[0] == "fence":
         return [line[0], instance.find_members(line[1], rank, each), *line[2:]]

@@ -9,7 +9,6 @@ import os
 import re
 from collections.abc import Iterator, Sequence
 from dataclasses import dataclass
-from typing import Optional, Union
 
 from wire_up_tools import words
 from wire_up_tools.failures import Refused
@@ -69,9 +68,9 @@ class CleanPattern:
     pattern: Pattern
     version: str
     said: Settled
-    sized: Optional[Sized] = None
+    sized: Sized | None = None
 
-    def find_line(self, line: CallLine) -> Optional[int]:
+    def find_line(self, line: CallLine) -> int | None:
         """The line of the file where a call stands, if it is found there."""
         calls = list_calls(self.pattern)
         return next((it for role, number, it in calls if line.is_at(role, number)), None)
@@ -110,7 +109,7 @@ def is_pattern(data: bytes) -> bool:
     return FIRST.match(data) is not None
 
 
-def judge_pattern(path: str, asker: Asker) -> Union[CleanPattern, Counterexample]:
+def judge_pattern(path: str, asker: Asker) -> CleanPattern | Counterexample:
     """What the checker says of a pattern. Raises Refused if it refuses it, or judges none."""
     small = dataclasses.replace(asker, checker=dataclasses.replace(asker.checker, is_large=False))
     answer = small.ask("check", OPTION, *MORE)

@@ -1,6 +1,5 @@
 """Numbers, names and long texts as a report says them."""
 from collections.abc import Sequence
-from typing import Optional
 
 # How many characters of a value are shown.
 VALUE_WIDTH = 60
@@ -8,7 +7,7 @@ VALUE_WIDTH = 60
 NAMES = 6
 
 
-def count_of(number: int, noun: str, plural: Optional[str] = None) -> str:
+def count_of(number: int, noun: str, plural: str | None = None) -> str:
     """A number with its noun: `1 rank`, `2,047 ranks`."""
     return f"{number:,} {noun if number == 1 else plural or noun + 's'}"
 

@@ -7,7 +7,6 @@ import dataclasses
 import itertools
 from collections.abc import Iterable, Mapping, Sequence
 from dataclasses import dataclass
-from typing import Optional
 
 from wire_up_tools.failures import Refused
 from wire_up_tools.plan import Plan
@@ -45,10 +44,10 @@ class Elsewhere:
 
     causes: Sequence[Cause] = ()
     placed: Sequence[Placed] = ()
-    fault: Optional[str] = None
+    fault: str | None = None
 
 
-def find_elsewhere(search: Search, order: Order, written: Iterable[Cause]) -> Optional[Elsewhere]:
+def find_elsewhere(search: Search, order: Order, written: Iterable[Cause]) -> Elsewhere | None:
     """What is found on other placements only; None if the checker can't tell.
 
     Raises Refused if the checker can't be run, or writes lines of another form.
@@ -87,7 +86,7 @@ def read_placed(plan: Plan, said: Iterable[str]) -> Mapping[Finding, Sequence[st
 
 def find_placed(
     search: Search, order: Order, cause: Cause, ranks: Sequence[str]
-) -> Optional[Placed]:
+) -> Placed | None:
     """A cause on its placement; None where the checker doesn't write that."""
     if not ranks or search.is_late:
         return None

@@ -7,7 +7,6 @@ of each long series.
 import bisect
 from collections.abc import Iterator, Mapping, Sequence
 from dataclasses import dataclass
-from typing import Optional
 
 from wire_up_tools.plan import Call, Plan, Rank, Series
 
@@ -33,7 +32,7 @@ class PlanPart:
     data: bytes
     stretches: Mapping[str, Sequence[Stretch]]
 
-    def find_number(self, rank: str, number: int) -> Optional[int]:
+    def find_number(self, rank: str, number: int) -> int | None:
         """The number in the plan of a call of the part; None where another part tells of it."""
         of_rank = self.stretches[rank]
         found = of_rank[bisect.bisect_right(of_rank, number, key=lambda it: it.first) - 1]

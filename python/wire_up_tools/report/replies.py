@@ -34,7 +34,7 @@ class Replies:
     """What becomes of the calls: where ranks wait for ever, how many calls fail, and the first of
     these."""
 
-    waiting_at: dict[str, Optional[int]]
+    waiting_at: dict[str, int | None]
     failed: int = 0
     failures: list[Failure] = field(default_factory=list)
 

@@ -3,7 +3,6 @@ waits."""
 import math
 from collections.abc import Sequence
 from dataclasses import dataclass
-from typing import Optional
 
 from wire_up_tools.report.drawing import NARROW, draw_way
 from wire_up_tools.report.layout import CHARACTER, Point
@@ -30,7 +29,7 @@ class Label:
 
     rank: str
     call: str
-    line: Optional[int] = None
+    line: int | None = None
 
 
 def say_circle(count: int) -> str:

@@ -6,7 +6,7 @@ import re
 import urllib.parse
 from collections.abc import Mapping, Sequence
 from dataclasses import dataclass
-from typing import Any, Optional
+from typing import Any
 
 from wire_up_tools.plan import Call, Plan
 from wire_up_tools.report import explaining
@@ -50,7 +50,7 @@ Paths = Mapping[str, Sequence[str]]
 class Source:
     """The folder of the files that places name, if it is known, and the paths of these below it."""
 
-    folder: Optional[str]
+    folder: str | None
     paths: Paths
 
 
@@ -64,7 +64,7 @@ class Location:
     line: int
 
 
-def write_sarif(report: Report, folder: Optional[str]) -> str:
+def write_sarif(report: Report, folder: str | None) -> str:
     """The whole text. `folder` is that of the files that places name, if it is known."""
     source = Source(folder, find_files(folder) if folder else {})
     results = [make_result(report, it, source) for it in report.causes]
@@ -88,8 +88,8 @@ def describe_verdict(report: Report) -> dict[str, Any]:
 def write_results(
     version: str,
     results: Sequence[Any],
-    folder: Optional[str],
-    properties: Optional[Mapping[str, Any]] = None,
+    folder: str | None,
+    properties: Mapping[str, Any] | None = None,
 ) -> str:
     """The whole text, by its results, the version of the checker, and what else is told."""
     rules = [{"id": it, "shortDescription": {"text": said}} for it, said in RULES.items()]

@@ -4,7 +4,7 @@ import itertools
 import re
 from collections.abc import Iterator, Sequence
 from dataclasses import dataclass, replace
-from typing import Any, Optional
+from typing import Any
 
 from wire_up_tools.checker import Answer
 from wire_up_tools.report.asking import CLEAN, Asker, read_json
@@ -58,7 +58,7 @@ class Sized:
         return ",".join(f"{name}={count}" for name, count in self.sizes)
 
 
-def find_standstill(asker: Asker) -> Optional[Standstill]:
+def find_standstill(asker: Asker) -> Standstill | None:
     """Who waits for ever in a plan; None if the checker is an older one, which doesn't tell all of
     it, or the plan so large that its report in one piece would be."""
     if asker.checker.is_large:
@@ -66,7 +66,7 @@ def find_standstill(asker: Asker) -> Optional[Standstill]:
     return read_standstill(asker.ask("replay", "--json", "--explain"))
 
 
-def read_standstill(answer: Answer) -> Optional[Standstill]:
+def read_standstill(answer: Answer) -> Standstill | None:
     """Who waits for ever by a report as JSON; of an older checker, by what it says besides."""
     said = read_json(answer)
     if "deadlock" not in said:
@@ -79,7 +79,7 @@ def read_members(said: dict[str, Any]) -> Standstill:
     return Standstill([*map(read_standing, said["deadlock"])], [*map(read_standing, said["never"])])
 
 
-def read_lines(said: str) -> Optional[Standstill]:
+def read_lines(said: str) -> Standstill | None:
     """Who waits for ever by the lines that say it; None if they only count some."""
     if MORE.search(said):
         return None
@@ -96,7 +96,7 @@ def read_standing(said: dict[str, Any]) -> Standing:
     return Standing(said["proc"], said["call"], said["verb"], said["waits_for"])
 
 
-def find_sized(asker: Asker, groups: Sequence[str], said: Settled) -> Optional[Sized]:
+def find_sized(asker: Asker, groups: Sequence[str], said: Settled) -> Sized | None:
     """Who waits for ever in the smallest plan of a pattern in which a rank does. Where the checker
     doesn't tell, or no rank waits in a plan that it judges, in the smallest of those in which all
     turns are taken; None if that is none of the first sizes."""
@@ -111,7 +111,7 @@ def find_sized(asker: Asker, groups: Sequence[str], said: Settled) -> Optional[S
     return None
 
 
-def find_judged(asker: Asker) -> Optional[Sized]:
+def find_judged(asker: Asker) -> Sized | None:
     """Who waits for ever in the first plan that is judged in which a rank does; None if the checker
     is an older one, which doesn't tell."""
     where = read_json(asker.ask("check", "--pattern", "--json", "--explain")).get("where")
@@ -137,7 +137,7 @@ def list_later_sizes(groups: Sequence[str], said: Settled) -> Iterator[list[tupl
         yield [(it, size) for it in groups]
 
 
-def look_at_size(asker: Asker, sizes: Sequence[tuple[str, int]]) -> Optional[Sized]:
+def look_at_size(asker: Asker, sizes: Sequence[tuple[str, int]]) -> Sized | None:
     """Who waits for ever in the plan of a pattern with these sizes; None if none is written."""
     sized = Sized(sizes, 0, Standstill([], []))
     plan = asker.ask("expand", *([f"--ranks={sized.words}"] if sizes else []))

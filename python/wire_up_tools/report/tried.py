@@ -2,7 +2,6 @@
 import re
 from collections.abc import Iterator
 from dataclasses import dataclass
-from typing import Optional
 
 from wire_up_tools import words
 from wire_up_tools.plan import Plan
@@ -63,7 +62,7 @@ class Tried:
         return self.word == "shown" and ENDED_OTHERWISE.search(self.said) is not None
 
 
-def find_tried(plan: Plan, finding: Finding) -> Optional[Tried]:
+def find_tried(plan: Plan, finding: Finding) -> Tried | None:
     """What came of a finding that was tried; None where it wasn't."""
     names = {it.name for it in finding.calls}
     for it in map(TRIED.fullmatch, plan.declared.head if plan.is_recorded else ()):
@@ -72,7 +71,7 @@ def find_tried(plan: Plan, finding: Finding) -> Optional[Tried]:
     return None
 
 
-def find_command(plan: Plan, finding: Finding) -> Optional[str]:
+def find_command(plan: Plan, finding: Finding) -> str | None:
     """The command that tries a finding again: it stands below what came of that."""
     names, is_found = {it.name for it in finding.calls}, False
     for line in plan.declared.head:
@@ -101,7 +100,7 @@ def say_no_alarms(plan: Plan) -> list[str]:
     return told[:MOST_TOLD]
 
 
-def say_all_kept(plan: Plan) -> Optional[str]:
+def say_all_kept(plan: Plan) -> str | None:
     """That the program kept each order of the plan, if that was tried of all."""
     found = map(IN_VAIN.fullmatch, plan.declared.head if plan.is_recorded else ())
     kept = next((it for it in found if it and it[4] and it[2] == it[3]), None)

@@ -3,7 +3,6 @@ import bisect
 import collections
 from collections.abc import Mapping, Sequence
 from dataclasses import dataclass
-from typing import Optional
 
 from wire_up_tools.plan import Call, Plan
 from wire_up_tools.words import EVERY_NAME, is_reserved
@@ -22,18 +21,18 @@ class Uses:
     publishes: Mapping[str, Sequence[Call]]
     unpublished: frozenset[str]
 
-    def find_commit(self, put: Call) -> Optional[Call]:
+    def find_commit(self, put: Call) -> Call | None:
         """The first commit of a rank after a put of it."""
         commits = self.commits.get(put.rank.name, ())
         at = bisect.bisect_right(commits, put.number, key=lambda it: it.number)
         return commits[at] if at < len(commits) else None
 
-    def find_bringer(self, owner: str, key: str) -> Optional[Call]:
+    def find_bringer(self, owner: str, key: str) -> Call | None:
         """The commit for which a get of another rank's key waits in every run."""
         puts = self.puts.get((owner, key), ())
         return self.find_commit(puts[0]) if len(puts) == 1 else None
 
-    def find_awaited(self, call: Call) -> Optional[Call]:
+    def find_awaited(self, call: Call) -> Call | None:
         """The call of another rank for which a call waits in every run, by the scripts."""
         if call.verb == "get" and call.target != call.rank.name:
             return self.find_bringer(call.target, call.about)

@@ -2,7 +2,6 @@
 import itertools
 from collections.abc import Mapping, Sequence
 from dataclasses import dataclass
-from typing import Optional
 
 from wire_up_tools.plan import Call
 from wire_up_tools.report.orders import Order
@@ -103,10 +102,10 @@ def find_circle(waits: Sequence[Wait]) -> Sequence[str]:
 
 def follow_waits(
     start: str, ranks_of: Mapping[str, Sequence[str]], known: set[str]
-) -> tuple[list[str], Optional[str]]:
+) -> tuple[list[str], str | None]:
     """The ranks from one to the next for which it waits, and the rank after the last, if any."""
     way: list[str] = []
-    at: Optional[str] = start
+    at: str | None = start
     while at is not None and at not in known and at not in way:
         way.append(at)
         at = next((it for it in ranks_of[at] if it in ranks_of), None)

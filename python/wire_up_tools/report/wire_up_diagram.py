@@ -8,7 +8,6 @@ import dataclasses
 import re
 from collections.abc import Hashable, Mapping, Sequence
 from dataclasses import dataclass
-from typing import Optional
 
 from wire_up_tools.plan import Call, Entry, Meeting, Plan, Rank, Series
 from wire_up_tools.report.diagram import (
@@ -105,7 +104,7 @@ class Step:
     """What a call has alike with those of other ranks of one shape: of a fence, its meeting."""
 
     verb: str
-    meeting: Optional[int]
+    meeting: int | None
     key: str
     whose: str
 
@@ -153,14 +152,14 @@ def find_bundles(plan: Plan, rank: Rank, waiting_at: WaitingAt) -> list[Bundle]:
     return [Bundle(calls, choose_style(calls[0], end)) for calls in found]
 
 
-def is_bundled(before: Call, call: Call, end: Optional[int]) -> bool:
+def is_bundled(before: Call, call: Call, end: int | None) -> bool:
     """Whether a call is of one bundle with that before it."""
     waits = end in (before.number, call.number)
     is_alike = call.verb == before.verb and call.verb != "fence"
     return is_alike and not waits and not (find_message(call) or find_message(before))
 
 
-def choose_style(call: Call, end: Optional[int]) -> Style:
+def choose_style(call: Call, end: int | None) -> Style:
     """How a call is drawn of a rank that waits for ever at this number, if at any."""
     if end is None or call.number < end:
         return Style.PLAIN

@@ -7,7 +7,6 @@ import selectors
 import socket
 from collections.abc import Iterable, Iterator, Sequence
 from dataclasses import dataclass, field
-from typing import Optional
 
 from wire_up_tools.failures import Refused
 
@@ -36,7 +35,7 @@ class Channel:
         except OSError:
             pass
 
-    def receive(self) -> Optional[list[str]]:
+    def receive(self) -> list[str] | None:
         """The lines that came; None at the end."""
         try:
             came = self.connection.recv(READ_BYTES)
@@ -53,7 +52,7 @@ class Heard:
     """A line that came over a channel; None: its end."""
 
     channel: Channel
-    line: Optional[str]
+    line: str | None
 
 
 @dataclass(eq=False)
@@ -109,7 +108,7 @@ class Hall:
             it.close()
 
 
-def open_hall(folder: str, hosts: Optional[Iterable[str]]) -> Hall:
+def open_hall(folder: str, hosts: Iterable[str] | None) -> Hall:
     """Opens a hall: at a port that the hosts reach, or without hosts for ranks of this machine, in
     a folder. Raises Refused, OSError."""
     if hosts is None:
@@ -171,7 +170,7 @@ def find_addresses(hosts: Iterable[str]) -> list[str]:
     return outer or [LOOPBACK]
 
 
-def find_own_address(host: str) -> Optional[str]:
+def find_own_address(host: str) -> str | None:
     """The address from which this machine reaches a host; the loopback where the host is this
     machine. None where the way to it isn't known."""
     if host == socket.gethostname():

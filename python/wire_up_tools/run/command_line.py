@@ -4,7 +4,6 @@ import math
 import re
 import sys
 from collections.abc import Sequence
-from typing import Optional
 
 from wire_up_tools.failures import Refused, Unusable, explain
 from wire_up_tools.options import Option, Parser, answer_alone, describe, say_unusable
@@ -117,7 +116,7 @@ def write_help() -> str:
     return f"{ABOUT}\n\n{uses}\n{describe(OPTIONS)}\n{BELOW}"
 
 
-def read_count(option: str, word: Optional[str], usual: int = 1) -> int:
+def read_count(option: str, word: str | None, usual: int = 1) -> int:
     """A count from 1; the usual one where there is none. Raises Unusable."""
     if word is None:
         return usual
@@ -126,7 +125,7 @@ def read_count(option: str, word: Optional[str], usual: int = 1) -> int:
     return int(word)
 
 
-def read_seconds(option: str, word: Optional[str], usual: float) -> float:
+def read_seconds(option: str, word: str | None, usual: float) -> float:
     """A time; the usual one where there is none. Raises Unusable."""
     try:
         found = usual if word is None else float(word)

@@ -12,7 +12,6 @@ import signal
 import subprocess
 import time
 from collections.abc import Callable
-from typing import Optional
 
 from wire_up_tools.run.saying import say
 
@@ -23,7 +22,7 @@ TICK, PATIENCE, LIMIT = 0.02, 5.0, 10.0
 ENDED = (b"Z", b"X")
 
 
-def find_status(process: "subprocess.Popen[bytes]") -> Optional[int]:
+def find_status(process: "subprocess.Popen[bytes]") -> int | None:
     """The status with which a process has ended, as Popen tells it; None while it runs. Its end
     isn't taken."""
     # Where its end was taken, or such ends are ignored, there is no child: Popen knows what to say.

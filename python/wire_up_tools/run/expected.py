@@ -3,7 +3,6 @@ import os
 import tempfile
 from collections.abc import Sequence
 from dataclasses import dataclass
-from typing import Optional
 
 from wire_up_tools.checker import Answer, Checker
 from wire_up_tools.failures import Refused
@@ -20,7 +19,7 @@ class Expected:
     whose findings are rewrites alone is run freely."""
 
     report: Report
-    order: Optional[Sequence[str]] = None
+    order: Sequence[str] | None = None
     findings: int = 0
 
 

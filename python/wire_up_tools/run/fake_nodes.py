@@ -7,7 +7,6 @@ import os
 import re
 import shutil
 from collections.abc import Iterable
-from typing import Optional
 
 from wire_up_tools.failures import Refused
 from wire_up_tools.files import write_file
@@ -66,7 +65,7 @@ def write_names(folder: str, hosts: Iterable[str]) -> str:
     return path
 
 
-def write_start(names: Optional[str]) -> list[str]:
+def write_start(names: str | None) -> list[str]:
     """The words before a command that is to run among fake nodes: with a table of names, or
     without."""
     user = ["--user", "--map-root-user"] if os.geteuid() else []

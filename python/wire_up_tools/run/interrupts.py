@@ -4,7 +4,6 @@ import signal
 import threading
 from dataclasses import dataclass
 from types import FrameType, TracebackType
-from typing import Optional
 
 CAUGHT = (signal.SIGINT, signal.SIGTERM, signal.SIGHUP, signal.SIGQUIT)
 
@@ -22,7 +21,7 @@ class Signals:
     """Whether signals are put off, and the one that has come."""
 
     is_held: bool = False
-    came: Optional[int] = None
+    came: int | None = None
 
     def take(self) -> None:
         """Raises Interrupted if a signal has come, unless it is put off."""
@@ -53,9 +52,9 @@ class Held:
 
     def __exit__(
         self,
-        kind: Optional[type[BaseException]],
-        why: Optional[BaseException],
-        trace: Optional[TracebackType],
+        kind: type[BaseException] | None,
+        why: BaseException | None,
+        trace: TracebackType | None,
     ) -> None:
         if self.is_main:
             SIGNALS.is_held = self.was_held
@@ -78,7 +77,7 @@ def ignore_signals() -> None:
         signal.signal(it, signal.SIG_IGN)
 
 
-def stop(number: int, _: Optional[FrameType]) -> None:
+def stop(number: int, _: FrameType | None) -> None:
     """Ends what is done when a signal comes. Further ones don't disturb its end."""
     ignore_signals()
     SIGNALS.came = number

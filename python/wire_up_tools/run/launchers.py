@@ -7,7 +7,6 @@ import shutil
 import subprocess
 from collections.abc import Mapping, Sequence
 from dataclasses import dataclass
-from typing import Optional
 
 from wire_up_tools.failures import Refused
 
@@ -64,7 +63,7 @@ class Start:
     hosts: Sequence[str]
     has_several_jobs: bool
     folder: str
-    agent: Optional[str]
+    agent: str | None
 
     @property
     def host_file(self) -> str:
@@ -72,7 +71,7 @@ class Start:
         return os.path.join(self.folder, "hosts")
 
 
-def tell_kind(said: str) -> Optional[Kind]:
+def tell_kind(said: str) -> Kind | None:
     """What a launcher is, by what it says of its version."""
     open_mpi = re.search(r"Open MPI\) (\d+)", said)
     if open_mpi:
@@ -99,7 +98,7 @@ def ask_version(path: str) -> str:
     return said[0] if said else ""
 
 
-def find_launcher(asked: Optional[str]) -> Launcher:
+def find_launcher(asked: str | None) -> Launcher:
     """The launcher of a name or path, else the first that is there. Raises Refused."""
     found = (shutil.which(it) for it in ([asked] if asked else KNOWN))
     path = next((it for it in found if it), None)

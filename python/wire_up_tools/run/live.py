@@ -8,7 +8,6 @@ import threading
 import time
 from collections.abc import Iterator, Sequence
 from dataclasses import dataclass, field
-from typing import Optional
 
 from wire_up_tools.failures import Refused
 from wire_up_tools.files import write_file
@@ -61,7 +60,7 @@ class Setting:
 
     launcher: Launcher
     program: str
-    hosts: Optional[Sequence[str]] = None
+    hosts: Sequence[str] | None = None
     quiet: float = 6.0
     start: float = 60.0
     stop: threading.Event = field(default_factory=threading.Event)
@@ -72,7 +71,7 @@ class Task:
     """A plan that is run, and in which order, if in one. With `is_held` nothing comes after it."""
 
     plan: Plan
-    order: Optional[Sequence[str]] = None
+    order: Sequence[str] | None = None
     is_held: bool = False
 
 
@@ -97,7 +96,7 @@ class Run:
     names: dict[Channel, str] = field(default_factory=dict)
     spaces: dict[str, str] = field(default_factory=dict)
     library: str = ""
-    turns: Optional[Turns] = None
+    turns: Turns | None = None
 
     @property
     def plan(self) -> Plan:
@@ -266,7 +265,7 @@ class Run:
             for heard in self.hall.hear(TICK):
                 self.hold_served(left.pop(heard.channel, ""), heard.line)
 
-    def hold_served(self, name: str, line: Optional[str]) -> None:
+    def hold_served(self, name: str, line: str | None) -> None:
         """Takes what a rank says at its end; without a name it is of another process. Raises
         Refused if it has no server any more, or is gone."""
         if name and line is None:
@@ -276,7 +275,7 @@ class Run:
 
 
 def choose_hosts(
-    plan: Plan, ranks: Sequence[Rank], hosts: Optional[Sequence[str]]
+    plan: Plan, ranks: Sequence[Rank], hosts: Sequence[str] | None
 ) -> list[str]:
     """The host of each rank. Raises Refused if there are too few."""
     nodes = plan.declared.nodes
@@ -292,7 +291,7 @@ def is_among_fake_nodes(setting: Setting) -> bool:
     return setting.hosts is None and setting.launcher.makes_fake_nodes
 
 
-def list_reached(task: Task, setting: Setting) -> Optional[Sequence[str]]:
+def list_reached(task: Task, setting: Setting) -> Sequence[str] | None:
     """The hosts that must reach this machine; None where all is on it. Of a command of the user's
     without hosts none is known: an empty name stands for any. Raises Refused."""
     if is_among_fake_nodes(setting):

@@ -2,7 +2,6 @@
 import time
 from collections.abc import Mapping, Sequence
 from dataclasses import dataclass, field
-from typing import Optional
 
 from wire_up_tools.failures import Refused
 from wire_up_tools.plan import Call, Plan, Rank
@@ -126,6 +125,6 @@ def make_report(
     return Report(lines)
 
 
-def find_standing(live: LiveRank, calls: Sequence[Call]) -> Optional[Call]:
+def find_standing(live: LiveRank, calls: Sequence[Call]) -> Call | None:
     """The call at which a rank stands; None at its end."""
     return calls[len(live.replies)] if len(live.replies) < len(calls) else None

@@ -6,7 +6,6 @@ import os
 import sys
 from collections.abc import Iterator, Sequence
 from dataclasses import dataclass
-from typing import Optional
 
 from wire_up_tools.checker import Checker
 from wire_up_tools.failures import Refused
@@ -19,7 +18,7 @@ from wire_up_tools.run.live import Outcome, Setting, Task, run_plan
 from wire_up_tools.run.profile import BY_LABEL, ProfileRule
 from wire_up_tools.run.reports import Difference
 
-FOLDER = os.path.join(os.path.dirname(os.path.abspath(__file__)), "plans")
+FOLDER = os.path.join(os.path.dirname(__file__), "plans")
 # The lines that stand for a letter at the beginning of a plan.
 HEADS = {
     "A": ["rehearsal 1", "node n0", "node n1", "job app"],
@@ -174,7 +173,7 @@ def tell_progress(done: int, count: int) -> None:
 
 
 def is_predicted(
-    plan: SuitePlan, expected: Expected, seen: Seen, known: Optional[Library]
+    plan: SuitePlan, expected: Expected, seen: Seen, known: Library | None
 ) -> bool:
     """Whether the known rules of a library predict what it did: each reply that can't depend on
     timing by them."""

@@ -2,7 +2,6 @@
 import collections
 from collections.abc import Sequence
 from dataclasses import dataclass
-from typing import Optional
 
 from wire_up_tools.run.answers import Case, dump, make_difference
 from wire_up_tools.run.libraries.traits import Library
@@ -19,7 +18,7 @@ class SuiteResult:
     launcher: str
     times: int
     quiet: float
-    known: Optional[Library]
+    known: Library | None
 
     @property
     def library(self) -> str:

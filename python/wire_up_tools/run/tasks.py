@@ -5,7 +5,7 @@ import shutil
 import socket
 from collections.abc import Sequence
 from dataclasses import dataclass
-from typing import Optional, Union
+from typing import Union
 
 from wire_up_tools.checker import Checker, find_checker
 from wire_up_tools.failures import Refused
@@ -44,14 +44,14 @@ class Choices:
     """What is common to all tasks: which launcher and which hosts, how long is waited, and how the
     answer is written."""
 
-    launcher: Optional[str] = None
-    command: Optional[str] = None
-    hosts: Optional[str] = None
-    checker: Optional[str] = None
+    launcher: str | None = None
+    command: str | None = None
+    hosts: str | None = None
+    checker: str | None = None
     quiet: float = 6.0
     start: float = 60.0
     is_json: bool = False
-    junit: Optional[str] = None
+    junit: str | None = None
 
 
 @dataclass(frozen=True)
@@ -60,7 +60,7 @@ class PlanRequest:
 
     plan: str
     times: int = 1
-    order: Optional[str] = None
+    order: str | None = None
     is_free: bool = False
 
 
@@ -80,7 +80,7 @@ class SuiteRequest:
     names: Sequence[str]
     times: int
     at_a_time: int
-    table: Optional[str] = None
+    table: str | None = None
 
 
 @dataclass(frozen=True)
@@ -196,7 +196,7 @@ def run_freely(asked: PlanRequest, choices: Choices, folder: str) -> int:
 
 
 def say_of_library(
-    runs: answers.Runs, library: Optional[Library], portable: Portable, asked: PlanRequest
+    runs: answers.Runs, library: Library | None, portable: Portable, asked: PlanRequest
 ) -> None:
     """Says for which libraries a plan is portable; and of one for which it is, that it breaks an
     axiom where it answers otherwise in a plan without findings."""

@@ -3,7 +3,6 @@ import itertools
 import re
 from collections.abc import Iterator, Mapping, Sequence
 from dataclasses import dataclass, field
-from typing import Optional, Union
 
 from wire_up_tools.record.patterns.scripts import ALL, ASKING, EACH, INDEXED, SELF
 
@@ -32,7 +31,7 @@ class ReadRole:
     job: str
     name: str
     is_group: bool
-    items: list[Union[Line, ReadLoop]] = field(default_factory=list)
+    items: list[Line | ReadLoop] = field(default_factory=list)
 
 
 def read_loops(words: Sequence[str]) -> list[ReadLoop]:
@@ -47,7 +46,7 @@ def read_pattern(text: str) -> list[ReadRole]:
     """The roles of a pattern. It must be one: nothing is judged."""
     roles: list[ReadRole] = []
     job = ""
-    lines: Optional[list[Line]] = None
+    lines: list[Line] | None = None
     for words in (it.split() for it in text.splitlines()):
         if not words or words[0].startswith("#") or " ".join(words) in (HEADER, "keep"):
             continue
@@ -81,13 +80,13 @@ class Instance:
             self.ranks[it.name] = [f"{it.job}:{len(job) + n}" for n in range(count)]
             job += self.ranks[it.name]
 
-    def expand_rank(self, word: str, rank: str, each: Optional[str]) -> str:
+    def expand_rank(self, word: str, rank: str, each: str | None) -> str:
         """The rank that a word stands for."""
         if word == EACH and each is not None:
             return each
         return rank if word == SELF else self.ranks[word][0]
 
-    def expand_key(self, key: str, rank: str, each: Optional[str]) -> str:
+    def expand_key(self, key: str, rank: str, each: str | None) -> str:
         """A key or a name, with ranks in its brackets."""
         read = INDEXED.fullmatch(key)
         if not read:
@@ -95,7 +94,7 @@ class Instance:
         indices = (self.expand_rank(it, rank, each) for it in read[2].split(","))
         return f"{read[1]}[{','.join(indices)}]"
 
-    def find_members(self, word: str, rank: str, each: Optional[str]) -> set[str]:
+    def find_members(self, word: str, rank: str, each: str | None) -> set[str]:
         """The ranks of a set."""
         found = set[str]()
         for it in word.split(","):
@@ -110,7 +109,7 @@ class Instance:
                 found.add(self.expand_rank(it, rank, each))
         return found
 
-    def expand_set(self, word: str, rank: str, each: Optional[str]) -> str:
+    def expand_set(self, word: str, rank: str, each: str | None) -> str:
         """A set as the recorder says it."""
         members = self.find_members(word, rank, each)
         if members == set(self.of_job[rank.rpartition(":")[0]]):
@@ -121,7 +120,7 @@ class Instance:
             items += [f"{job}:*"] if here and len(here) == len(ranks) else here
         return ",".join(items)
 
-    def expand_line(self, line: Line, rank: str, each: Optional[str] = None) -> Line:
+    def expand_line(self, line: Line, rank: str, each: str | None = None) -> Line:
         """The words of a call."""
         verb, *rest = line
         if verb == "fence":
@@ -133,7 +132,7 @@ class Instance:
         words = [self.expand_key(it, rank, each) if n == at else it for n, it in enumerate(rest)]
         return [verb, *words]
 
-    def find_turns(self, loop: ReadLoop, rank: str, chosen: Optional[Sequence[str]]) -> list[str]:
+    def find_turns(self, loop: ReadLoop, rank: str, chosen: Sequence[str] | None) -> list[str]:
         """Whom a loop of a rank is over: all others of the role, unless some are chosen."""
         ranks = self.ranks[loop.role]
         if rank in ranks:

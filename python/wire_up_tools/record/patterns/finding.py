@@ -2,7 +2,7 @@
 plans side by side."""
 from collections.abc import Iterator, Sequence
 from dataclasses import dataclass, field
-from typing import Optional, Union
+from typing import Union
 
 from wire_up_tools.record.patterns.scripts import (
     ASKING,
@@ -122,7 +122,7 @@ class Search:
         self.group_of = [of_rank[id(it.roles)] for it in told]
         self.ranks_of = [of_name[id(it.roles)] for it in told]
 
-    def find(self) -> Union[Sequence[Item], Broken]:
+    def find(self) -> Sequence[Item] | Broken:
         """The items of the script, or where none goes on."""
         waiting = [iter([State(self.furthest)])]
         for _ in range(MOST_TURNS):
@@ -140,7 +140,7 @@ class Search:
                 waiting.append(self.go_on(state))
         return self.say_broken()
 
-    def find_next(self, state: State) -> list[Optional[Said]]:
+    def find_next(self, state: State) -> list[Said | None]:
         """The next call of each rank; None where it has no more."""
         return [
             it.calls[at] if at < len(it.calls) else None for it, at in zip(self.told, state.at)
@@ -183,7 +183,7 @@ class Search:
         if ended and ended != state.at:
             yield State(ended, [*state.items, loop], self.leaves_put(loop, state))
 
-    def find_named(self, index: int, said: Optional[Said]) -> Sequence[Role]:
+    def find_named(self, index: int, said: Said | None) -> Sequence[Role]:
         """The single roles that a call names by themselves."""
         if said is None or said.other:
             return []
@@ -225,7 +225,7 @@ class Search:
         """Whether a put waits for a commit after a loop."""
         return state.has_open_put or ("put" in loop.verbs and COMMIT not in loop.verbs)
 
-    def take(self, loop: Loop, state: State) -> Optional[tuple[int, ...]]:
+    def take(self, loop: Loop, state: State) -> tuple[int, ...] | None:
         """Where each rank is after a loop; None where one doesn't make it."""
         ended = []
         for told, ranks_of, at in zip(self.told, self.ranks_of, state.at):
@@ -260,7 +260,7 @@ class RoleScript:
     told: Sequence[Told]
 
 
-def tell_all(roles: Roles, scripts: Sequence[Script]) -> Union[Sequence[Told], Broken]:
+def tell_all(roles: Roles, scripts: Sequence[Script]) -> Sequence[Told] | Broken:
     """What ranks call, in the words of a pattern; or the first call that has none."""
     told = []
     for it in scripts:
@@ -274,7 +274,7 @@ def tell_all(roles: Roles, scripts: Sequence[Script]) -> Union[Sequence[Told], B
     return told
 
 
-def find_scripts(roles: Roles, scripts: Sequence[Script]) -> Union[Sequence[RoleScript], Broken]:
+def find_scripts(roles: Roles, scripts: Sequence[Script]) -> Sequence[RoleScript] | Broken:
     """The script of each role, from what its ranks call; or where none goes on."""
     found = []
     for role in roles.all:

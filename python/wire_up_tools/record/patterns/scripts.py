@@ -3,7 +3,7 @@ import itertools
 import re
 from collections.abc import Iterator, Mapping, Sequence
 from dataclasses import dataclass
-from typing import NamedTuple, Optional
+from typing import NamedTuple
 
 # A word that stands for the caller, and for the rank of a turn of a loop.
 SELF, EACH = "self", "each"
@@ -46,7 +46,7 @@ class Said(NamedTuple):
     names one of a group."""
 
     words: str
-    other: Optional[str]
+    other: str | None
 
 
 class NotSaid(Exception):

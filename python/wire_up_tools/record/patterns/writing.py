@@ -2,7 +2,6 @@
 scripts expand to the plan."""
 from collections.abc import Mapping, Sequence
 from dataclasses import dataclass, field
-from typing import Union
 
 from wire_up_tools.record.patterns.expanding import Choices, Line, expand, read_pattern
 from wire_up_tools.record.patterns.finding import (
@@ -120,7 +119,7 @@ def forget_value(words: Sequence[str]) -> Sequence[str]:
 
 def why_other(
     text: str, scripts: Sequence[RoleScript], choices: Choices, plan: Sequence[Script]
-) -> Union[Broken, bool]:
+) -> Broken | bool:
     """Where a pattern doesn't expand to a plan, or whether it does so with other values alone."""
     sizes = {it.role.name: len(it.role.ranks) for it in scripts}
     expanded: Mapping[str, Sequence[Line]] = expand(read_pattern(text), sizes, choices)
@@ -144,7 +143,7 @@ def say_broken(broken: Broken, plan: Sequence[Script]) -> str:
     return f"{broken.rank} {broken.number}: {what}{f': {broken.why}' if broken.why else ''}"
 
 
-def make_pattern(plan: Sequence[Script]) -> Union[Pattern, Broken]:
+def make_pattern(plan: Sequence[Script]) -> Pattern | Broken:
     """The pattern of a plan; or where the way that goes furthest breaks."""
     calls = {it.rank: it.calls for it in plan}
     broken: list[Broken] = []

@@ -8,7 +8,6 @@ import struct
 import sys
 import termios
 from dataclasses import dataclass
-from typing import Optional
 
 from wire_up_tools.failures import Unusable
 from wire_up_tools.options import Option
@@ -87,16 +86,16 @@ class Asked:
     how."""
 
     does_show: bool
-    race: Optional[tuple[str, int, str, int]]
+    race: tuple[str, int, str, int] | None
     does_turn: bool
     turn_waits: int
-    of: Optional[str]
+    of: str | None
     most: int
-    hold: Optional[float]
-    limit: Optional[float]
+    hold: float | None
+    limit: float | None
     within: float
-    source: Optional[str]
-    shown: Optional[str]
+    source: str | None
+    shown: str | None
 
     @property
     def task(self) -> list[str]:
@@ -106,11 +105,11 @@ class Asked:
         found += ["--turn"] * self.does_turn
         return found + (["--turn-waits", str(self.turn_waits)] if self.turn_waits else [])
 
-    def find_hold(self, first: Optional[float]) -> float:
+    def find_hold(self, first: float | None) -> float:
         """How long nothing may move before a hold ends, by how long the first run took."""
         return self.hold or max(HOLD, HOLD_TIMES * (first or 0))
 
-    def find_limit(self, first: Optional[float]) -> float:
+    def find_limit(self, first: float | None) -> float:
         """How long a run may take, by how long the first took: besides a hold."""
         by_first = LIMIT_OF_PLAN if first is None else LIMIT + LIMIT_TIMES * first
         return self.limit or by_first + self.find_hold(first)
@@ -126,7 +125,7 @@ def read_race(text: str) -> tuple[str, int, str, int]:
     return words[0], int(words[1]), words[2], int(words[3])
 
 
-def read_seconds(name: str, text: Optional[str]) -> Optional[float]:
+def read_seconds(name: str, text: str | None) -> float | None:
     """A time. Raises Unusable."""
     if text is None:
         return None
@@ -135,7 +134,7 @@ def read_seconds(name: str, text: Optional[str]) -> Optional[float]:
     return float(text)
 
 
-def read_count(name: str, text: Optional[str], other: int) -> int:
+def read_count(name: str, text: str | None, other: int) -> int:
     """How many are tried; where nothing says it, as many as `other`. Raises Unusable."""
     if text is not None and not re.fullmatch(r"[1-9]\d{0,3}", text):
         raise Unusable(f"{name} {text}: needs a number from 1 to 9999")
@@ -147,7 +146,7 @@ def is_asked(found: argparse.Namespace) -> bool:
     return bool(found.show or found.show_race is not None or found.turn)
 
 
-def read_asked(found: argparse.Namespace) -> Optional[Asked]:
+def read_asked(found: argparse.Namespace) -> Asked | None:
     """What a command line asks to be shown; None if nothing. Raises Unusable."""
     if not is_asked(found):
         given = [it for it in OF_SHOWING if getattr(found, it) is not None]
@@ -195,7 +194,7 @@ def has_input() -> bool:
         return False
 
 
-def refuse_input(source: Optional[str]) -> None:
+def refuse_input(source: str | None) -> None:
     """Refuses standard input that only one of several runs could read. Raises Unusable."""
     if source is None and has_input():
         raise Unusable("each run reads its input anew: give it with --input FILE")

@@ -1,7 +1,6 @@
 """Compares two runs: replies that differ, and where calls part."""
 from collections.abc import Iterator, Sequence
 from dataclasses import dataclass
-from typing import Optional
 
 from wire_up_tools.record.showing.held_runs import HeldRun
 from wire_up_tools.record.showing.naming import Target, mask
@@ -82,7 +81,7 @@ def say_last(calls: Sequence[TracedCall]) -> str:
 
 def find_parting(
     process: str, first: Sequence[TracedCall], second: Sequence[TracedCall]
-) -> Optional[Difference]:
+) -> Difference | None:
     """Where the calls of a process part, if they do."""
     names = [[it.told for it in calls] for calls in (first, second)]
     if names[0] == names[1]:

@@ -1,7 +1,6 @@
 """The lines that the head of a plan has of what was tried."""
 import re
 from collections.abc import Iterator, Sequence
-from typing import Optional
 
 from wire_up_tools.words import (
     EACH_RUN_SENTENCE,
@@ -30,7 +29,7 @@ def is_alarm(line: str) -> bool:
     return re.match(rf"# {TURNED_ROUND} [\d-]+: ", line) is not None
 
 
-def find_pair(line: str) -> Optional[frozenset[str]]:
+def find_pair(line: str) -> frozenset[str] | None:
     """The two calls that a line is about, if it is about a race."""
     found = CALLS.search(line)
     return frozenset(found.groups()) if found else None

@@ -7,7 +7,6 @@ import subprocess
 import time
 from collections.abc import Mapping, Sequence
 from dataclasses import dataclass, field
-from typing import Optional
 
 from wire_up_tools.failures import Refused
 from wire_up_tools.record.running import HANDED_ON, NOT_RUN, NotRun, make_environment
@@ -36,8 +35,8 @@ class Session:
     command: Sequence[str]
     libraries: Sequence[str]
     room: str
-    source: Optional[str]
-    hosts: Optional[list[str]]
+    source: str | None
+    hosts: list[str] | None
     patience: Patience
     within: float = math.inf
     until: float = math.inf
@@ -55,14 +54,14 @@ class HeldRun:
 
     holds: Holds
     folder: str
-    status: Optional[int]
+    status: int | None
     began: float
     seconds: float
     courses: Mapping[int, Course]
     traces: Traces = field(default_factory=dict)
     output: bytes = b""
 
-    def find(self, target: Target) -> Optional[TracedCall]:
+    def find(self, target: Target) -> TracedCall | None:
         """The call in this run."""
         trace = self.traces.get(target.process)
         return trace.find(target.key) if trace else None
@@ -91,7 +90,7 @@ def end_launcher(process: "subprocess.Popen[bytes]") -> None:
         signal.pthread_sigmask(signal.SIG_SETMASK, before)
 
 
-def watch(process: "subprocess.Popen[bytes]", server: Server, limit: float) -> Optional[int]:
+def watch(process: "subprocess.Popen[bytes]", server: Server, limit: float) -> int | None:
     """Serves a run until it ends, at most so many seconds besides what was held in vain. Answers
     its status; None where it didn't end."""
     began = time.monotonic()

@@ -3,7 +3,6 @@ import enum
 import os
 from collections.abc import Mapping, Sequence
 from dataclasses import dataclass, field
-from typing import Optional
 
 from wire_up_tools.record.showing.naming import Target
 
@@ -40,10 +39,10 @@ class Course:
     """How it went with a named call: when it came, went on, was over, and when it went on though
     what it waited for wasn't there, all in seconds since 1970; and whether it couldn't be held."""
 
-    came: Optional[float] = None
-    gone: Optional[float] = None
-    over: Optional[float] = None
-    late: Optional[float] = None
+    came: float | None = None
+    gone: float | None = None
+    over: float | None = None
+    late: float | None = None
     is_passed: bool = False
 
 

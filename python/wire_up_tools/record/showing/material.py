@@ -6,7 +6,7 @@ import time
 from collections.abc import Callable, Sequence
 from dataclasses import dataclass, field
 from datetime import datetime, timezone
-from typing import Any, Optional
+from typing import Any
 
 from wire_up_tools.checker import Checker
 from wire_up_tools.files import STANDARD_OUTPUT, write_whole
@@ -48,9 +48,9 @@ class Material:
     libraries: Sequence[str]
     text: str
     path: str
-    checker: Optional[Checker]
+    checker: Checker | None
     room: str
-    first: Optional[First] = None
+    first: First | None = None
 
 
 @dataclass(eq=False)
@@ -69,7 +69,7 @@ def tell_day() -> str:
     return f"{datetime.now(timezone.utc):%Y-%m-%d}"
 
 
-def find_hosts(plan: Plan) -> Optional[list[str]]:
+def find_hosts(plan: Plan) -> list[str] | None:
     """The hosts of the processes; None where they are all on this machine."""
     hosts = list(plan.declared.nodes)
     own, _, _ = socket.gethostname().partition(".")

@@ -1,6 +1,5 @@
 """Why an order of two calls wasn't made."""
 from dataclasses import dataclass, replace
-from typing import Optional
 
 from wire_up_tools.record.showing.held_runs import HeldRun
 from wire_up_tools.record.showing.naming import Target, mask
@@ -31,7 +30,7 @@ class Missed:
         return f"{self.why}: {self.meaning}" if self.meaning else self.why
 
 
-def explain_by_plan(missed: Optional[Missed]) -> Optional[Missed]:
+def explain_by_plan(missed: Missed | None) -> Missed | None:
     """Why an order wasn't made of two calls that don't race in the plan."""
     is_waiting = missed is not None and missed.meaning in (BY_LIBRARY, BY_OTHER_MEANS)
     return replace(missed, meaning=BY_PLAN) if missed and is_waiting else missed
@@ -65,7 +64,7 @@ def tell_standing(run: HeldRun, process: str, when: float) -> Missed:
     return Missed(why, BY_LIBRARY if is_open else BY_OTHER_MEANS)
 
 
-def find_missed(run: HeldRun, first: Target, second: Target) -> Optional[Missed]:
+def find_missed(run: HeldRun, first: Target, second: Target) -> Missed | None:
     """Why the first of two calls wasn't over before the second went on; None if it was. They are
     the first two that the run names."""
     one, other = run.courses[1], run.courses[2]

@@ -5,7 +5,6 @@ import re
 from collections import Counter
 from collections.abc import Iterator, Mapping
 from dataclasses import dataclass
-from typing import Optional
 
 from wire_up_tools.failures import Refused
 from wire_up_tools.plan import Call, Plan
@@ -134,7 +133,7 @@ class Naming:
         is_group = above.startswith(OF_GROUP)
         return call.remark is None and not is_group and not (self.marks and is_order)
 
-    def list_targets(self, process: str) -> Iterator[Optional[Target]]:
+    def list_targets(self, process: str) -> Iterator[Target | None]:
         """The calls of a process of the plan, one after another; None for an order of MPI."""
         job, _, rank = process.rpartition(":")
         names: Counter[str] = Counter()

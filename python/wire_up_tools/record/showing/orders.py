@@ -1,7 +1,6 @@
 """Makes both orders of two calls in a program, and says what came of it."""
 from collections.abc import Sequence
 from dataclasses import dataclass
-from typing import Optional
 
 from wire_up_tools.checker import Checker
 from wire_up_tools.plan import Call, Plan
@@ -54,7 +53,7 @@ class Shown:
     race: Race
     word: str
     runs: Sequence[HeldRun]
-    missed: Sequence[Optional[Missed]]
+    missed: Sequence[Missed | None]
     means: Sequence[str]
     compared: Compared
     is_by_witness: bool = False
@@ -74,7 +73,7 @@ class Trial:
     nothing is held."""
 
     session: Session
-    checker: Optional[Checker]
+    checker: Checker | None
     plan: Plan
     text: str
     naming: Naming
@@ -87,8 +86,8 @@ class Made:
     """A run for an order, why that wasn't made, and by which swap of messages it was."""
 
     run: HeldRun
-    missed: Optional[Missed]
-    swap: Optional[Swap] = None
+    missed: Missed | None
+    swap: Swap | None = None
 
 
 def choose_end(trial: Trial, first: Target, second: Target) -> Until:
@@ -100,7 +99,7 @@ def choose_end(trial: Trial, first: Target, second: Target) -> Until:
     return Until.HAS_COME if is_member else Until.IS_OVER
 
 
-def hold_order(trial: Trial, order: Sequence[Target], swap: Optional[Swap]) -> Holds:
+def hold_order(trial: Trial, order: Sequence[Target], swap: Swap | None) -> Holds:
     """Holds by which the second of two calls waits for the first, and a send for another."""
     first, second = order
     waits = {2: [Wait(1, choose_end(trial, first, second))]}
@@ -131,7 +130,7 @@ def compare_made(trial: Trial, runs: Sequence[HeldRun], race: Race) -> Compared:
     return leave_out_own(compared, runs, race.targets, trial.plains)
 
 
-def find_word(missed: Sequence[Optional[Missed]], compared: Compared) -> str:
+def find_word(missed: Sequence[Missed | None], compared: Compared) -> str:
     """The word for what came of a race."""
     if any(missed):
         return NOT_MADE
@@ -140,7 +139,7 @@ def find_word(missed: Sequence[Optional[Missed]], compared: Compared) -> str:
     return ALIKE if compared.is_alike else SHOWN_LATER
 
 
-def is_about(call: Call, about: str, owner: Optional[str]) -> bool:
+def is_about(call: Call, about: str, owner: str | None) -> bool:
     """Whether a call is on a name; of a key, which has an owner, the racing calls are enough."""
     return owner is None and call.about == about and call.verb not in ("put", "get", "get-now")
 
@@ -174,7 +173,7 @@ def run_by_witness(trial: Trial, order: Sequence[Target], name: str) -> HeldRun:
     return run_held(trial.session, Holds(order, waits), name)
 
 
-def try_witness(trial: Trial, race: Race) -> Optional[tuple[list[HeldRun], str]]:
+def try_witness(trial: Trial, race: Race) -> tuple[list[HeldRun], str] | None:
     """Two runs by the orders of the witness, and how they were made; None where there are none."""
     orders = [order_by_witness(trial, race, it) for it in (FIRST, SECOND)]
     if not all(orders):

@@ -1,6 +1,6 @@
 """What is said of a race that was tried: lines, the head of a plan, and JSON."""
 from collections.abc import Iterator, Sequence
-from typing import Any, Optional
+from typing import Any
 
 from wire_up_tools.record.showing.comparing import NEVER_CAME, Compared, Difference
 from wire_up_tools.record.showing.held_runs import HeldRun
@@ -147,7 +147,7 @@ def list_differences(compared: Compared) -> dict[str, Any]:
 
 
 def make_json_of_run(
-    run: HeldRun, first: Optional[str], missed: Optional[object], targets: Sequence[Target]
+    run: HeldRun, first: str | None, missed: object | None, targets: Sequence[Target]
 ) -> dict[str, Any]:
     """A run, for JSON, with the place of the call that was to be first."""
     return {

@@ -5,7 +5,6 @@ import tempfile
 import time
 from collections.abc import Iterator
 from dataclasses import dataclass, field
-from typing import Optional
 
 from wire_up_tools.record.showing.holds import Course, Holds, Until, Wait
 from wire_up_tools.record.showing.motion import Motion
@@ -25,7 +24,7 @@ class Patience:
 
 
 @contextlib.contextmanager
-def open_hall_for(hosts: Optional[list[str]]) -> Iterator[Hall]:
+def open_hall_for(hosts: list[str] | None) -> Iterator[Hall]:
     """A hall that processes of hosts can reach; None: of this machine. Raises Refused, OSError."""
     folder = tempfile.mkdtemp(prefix="wire_up-show-")
     try:

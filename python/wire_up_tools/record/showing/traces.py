@@ -5,7 +5,6 @@ import re
 from collections import Counter
 from collections.abc import Mapping, Sequence
 from dataclasses import dataclass, field
-from typing import Optional
 
 from wire_up_tools.record.directives import TIMEOUT, gives_up
 from wire_up_tools.record.forms import read_begin
@@ -72,9 +71,9 @@ class TracedCall:
     keys: Sequence[tuple[str, int]]
     text: str
     began: float
-    place: Optional[str]
-    end: Optional[str] = None
-    ended: Optional[float] = None
+    place: str | None
+    end: str | None = None
+    ended: float | None = None
 
     @property
     def name(self) -> str:
@@ -152,7 +151,7 @@ class Trace:
         """Its calls that are compared."""
         return [it for it in self.calls if it.is_compared]
 
-    def find(self, key: tuple[str, int]) -> Optional[TracedCall]:
+    def find(self, key: tuple[str, int]) -> TracedCall | None:
         """The call with this name and number; None where it made none."""
         return next((it for it in self.calls if key in it.keys), None)
 
@@ -188,7 +187,7 @@ class Reader:
             self.trace.has_finalized = True
 
 
-def read_trace(path: str) -> Optional[Trace]:
+def read_trace(path: str) -> Trace | None:
     """Reads a recording as a trace, up to the zeros and without a cut line; None where it has no
     head yet. Raises OSError."""
     with open(path, "rb") as it:

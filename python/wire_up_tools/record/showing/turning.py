@@ -3,7 +3,7 @@ after it is over."""
 import itertools
 from collections.abc import Iterator, Sequence
 from dataclasses import dataclass
-from typing import Any, Optional
+from typing import Any
 
 from wire_up_tools.record.showing.comparing import Compared, compare
 from wire_up_tools.record.showing.held_runs import HeldRun, run_held
@@ -39,7 +39,7 @@ class Turn:
     pair: Pair
     word: str
     why: str = ""
-    compared: Optional[Compared] = None
+    compared: Compared | None = None
     strikes: Sequence[str] = ()
 
     @property

@@ -3,7 +3,7 @@ it was held, what is found and what shows it, and on what the answer rests."""
 import json
 from collections.abc import Mapping, Sequence
 from dataclasses import dataclass, field, replace
-from typing import Any, Optional
+from typing import Any
 
 from wire_up_tools.record.patterns.scripts import NotSaid, Speaker
 from wire_up_tools.record.sizes.inferring import Inferred
@@ -36,9 +36,9 @@ class Answer:
 
     taken: Sequence[SizedPlan]
     held: Sequence[SizedPlan]
-    inferred: Optional[Inferred]
+    inferred: Inferred | None
     verdict: Verdict
-    shown: Optional[Shown] = None
+    shown: Shown | None = None
     unfit: str = ""
     in_part: Sequence[str] = field(default_factory=list)
 

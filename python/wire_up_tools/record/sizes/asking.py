@@ -2,7 +2,6 @@
 import re
 from collections.abc import Sequence
 from dataclasses import dataclass
-from typing import Optional
 
 from wire_up_tools.failures import Refused, Unusable
 from wire_up_tools.options import Option, Parser
@@ -26,8 +25,8 @@ class SizesRequest:
     command: Sequence[str]
     taken: Sequence[Sequence[str]]
     held: Sequence[Sequence[str]]
-    kept: Optional[str] = None
-    checker: Optional[str] = None
+    kept: str | None = None
+    checker: str | None = None
     with_mpi: bool = True
     is_strict: bool = False
     is_json: bool = False

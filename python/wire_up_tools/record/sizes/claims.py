@@ -1,7 +1,7 @@
 """What ranks of a role surely know of others where they come to an item of their script."""
 from collections.abc import Callable, Iterator, Sequence, Set
 from dataclasses import dataclass
-from typing import NamedTuple, Optional
+from typing import NamedTuple
 
 from wire_up_tools.record.patterns.finding import Loop
 from wire_up_tools.record.sizes.growing import measure
@@ -57,7 +57,7 @@ def find_waits(claims: Sequence[Claim]) -> frozenset[Wait]:
 
 def find_level(
     instance: Instance, known: Known, claim: Claim, waits: Set[Wait]
-) -> Optional[int]:
+) -> int | None:
     """To which item all ranks that a claim is about are known to have come; None where there are
     none. A rank that has made no call behind one of the `waits` hasn't surely passed it."""
     passed = instance.passed
@@ -110,7 +110,7 @@ class Finder:
                     claim = self.claim(Claim(role, at, source, 0, True), had[source])
                     yield from [claim] if claim else []
 
-    def claim(self, asked: Claim, had: int) -> Optional[Claim]:
+    def claim(self, asked: Claim, had: int) -> Claim | None:
         """What is known in all plans, if that is more than was known, and than by the program."""
         levels = self.find_least(asked, lambda it: it.known)
         if levels is None or levels <= had:
@@ -118,7 +118,7 @@ class Finder:
         by_program = self.find_least(asked, lambda it: it.by_program)
         return asked._replace(known=levels) if levels > (by_program or 0) else None
 
-    def find_least(self, asked: Claim, choose: Callable[[Informed], Known]) -> Optional[int]:
+    def find_least(self, asked: Claim, choose: Callable[[Informed], Known]) -> int | None:
         """What is known in all plans."""
         levels = (
             find_level(it.instance, choose(it), asked, self.waits) for it in self.informed

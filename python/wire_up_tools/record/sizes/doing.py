@@ -6,7 +6,6 @@ import sys
 from collections import Counter
 from collections.abc import Iterator, Sequence
 from dataclasses import dataclass, replace
-from typing import Union
 
 from wire_up_tools.checker import Checker, find_checker
 from wire_up_tools.failures import Refused
@@ -137,7 +136,7 @@ def collect_runs(
     return taken, held
 
 
-def find_shown(checker: Checker, runs: Sequence[Made]) -> Union[Shown, None]:
+def find_shown(checker: Checker, runs: Sequence[Made]) -> Shown | None:
     """The first run in which something is found. Raises Refused, OSError."""
     for it in runs:
         verdict = judge_plan(checker, it.sized.name, it.text)

@@ -1,7 +1,7 @@
 """Infers one pattern from the plans of several sizes, and holds it against larger ones."""
 from collections.abc import Callable, Sequence
 from dataclasses import dataclass, replace
-from typing import Optional, Union
+from typing import Optional
 
 from wire_up_tools.record.patterns.indexing import find_places as find_numbers
 from wire_up_tools.record.patterns.indexing import name_all
@@ -49,10 +49,10 @@ class Inferred:
     skeleton: Skeleton
     dropped: int
     needs_messages: bool
-    racing: Optional[int]
+    racing: int | None
     taken: Sequence[SizedPlan]
     held: Sequence[SizedPlan]
-    failed: Optional[SizedPlan] = None
+    failed: SizedPlan | None = None
 
 
 def index_all(plans: Sequence[SizedPlan]) -> Sequence[SizedPlan]:
@@ -63,7 +63,7 @@ def index_all(plans: Sequence[SizedPlan]) -> Sequence[SizedPlan]:
 
 def infer_ways(
     taken: Sequence[SizedPlan], larger: Sequence[SizedPlan], judge: Judge
-) -> Union[Inferred, Unfit]:
+) -> Inferred | Unfit:
     """The pattern of plans, which the larger ones hold, by the first way to part ranks into roles
     that has one in which nothing is found, with as few ranks as something is found by the ways
     before; or else by the first that has one, if it can be judged; or where it breaks."""
@@ -91,7 +91,7 @@ def infer_way(
     taken: Sequence[SizedPlan],
     larger: Sequence[SizedPlan],
     judge: Judge,
-) -> Union[Inferred, Unfit]:
+) -> Inferred | Unfit:
     """The pattern of the scripts of plans, which the larger ones hold; or where it breaks. Of MPI's
     order it has nothing, or else only that of fences of all ranks, if nothing is found without the
     rest."""
@@ -122,7 +122,7 @@ def change_plans(skeleton: Skeleton, change: Callable[[SizedPlan], SizedPlan]) -
     ])
 
 
-def why_other(fitted: Sequence[Instance], claims: Sequence[Claim]) -> Optional[Unfit]:
+def why_other(fitted: Sequence[Instance], claims: Sequence[Claim]) -> Unfit | None:
     """The first instance of which claims aren't true."""
     waits = find_waits(claims)
     for it in fitted if claims else ():
@@ -134,7 +134,7 @@ def why_other(fitted: Sequence[Instance], claims: Sequence[Claim]) -> Optional[U
 
 def infer_once(
     taken: Sequence[SizedPlan], larger: Sequence[SizedPlan], judge: Judge
-) -> Union[Inferred, Unfit]:
+) -> Inferred | Unfit:
     """The pattern of plans, which the larger ones hold, with the fences of the program as they are,
     or else with those for order that collect nothing; or where the first breaks."""
     unfit = None
@@ -151,7 +151,7 @@ def infer_once(
 
 def infer(
     taken: Sequence[SizedPlan], larger: Sequence[SizedPlan], judge: Judge
-) -> Union[Inferred, Unfit]:
+) -> Inferred | Unfit:
     """The pattern of plans, which the larger ones hold. Where one doesn't, the pattern is made anew
     with all of them. Answers where their calls fit no script, if they don't."""
     found = infer_once(taken, larger, judge)
@@ -165,7 +165,7 @@ def infer(
     return explain(again, [*taken, *larger])
 
 
-def find_twin(first: SizedPlan, other: SizedPlan) -> Optional[str]:
+def find_twin(first: SizedPlan, other: SizedPlan) -> str | None:
     """The first call of a rank that is one in its other form in another size, that for another
     reply."""
     for rank in filter(other.calls.__contains__, first.ranks):

@@ -3,7 +3,7 @@ import json
 import re
 from collections.abc import Sequence
 from dataclasses import dataclass
-from typing import Any, Optional
+from typing import Any
 
 from wire_up_tools.checker import Answer, Checker
 from wire_up_tools.failures import Refused
@@ -24,7 +24,7 @@ class Named:
     rank: str
     number: int
     words: Sequence[str]
-    place: Optional[str]
+    place: str | None
 
 
 @dataclass(frozen=True)
@@ -63,7 +63,7 @@ def judge_pattern(checker: Checker, text: str, *options: str) -> Verdict:
     return Verdict([], waiting=said["waits"], failing=failing)
 
 
-def count_racing(checker: Checker, text: str) -> Optional[int]:
+def count_racing(checker: Checker, text: str) -> int | None:
     """How many ranks the first plan of a pattern has in which something is found; 0 if nothing is
     found, None where the checker refuses it, as one with too many choices. Raises OSError."""
     try:

@@ -1,7 +1,6 @@
 """The plan of a run with some number of ranks, of one job."""
 from collections.abc import Callable, Mapping, Sequence
 from dataclasses import dataclass, replace
-from typing import Optional
 
 from wire_up_tools.failures import Refused
 from wire_up_tools.plan_reading import read_set
@@ -23,7 +22,7 @@ class Call:
 
     words: Sequence[str]
     is_order: bool = False
-    place: Optional[str] = None
+    place: str | None = None
 
     @property
     def verb(self) -> str:

@@ -2,7 +2,6 @@
 import bisect
 from collections.abc import Iterator, Mapping, Sequence, Set
 from dataclasses import dataclass
-from typing import Optional, Union
 
 from wire_up_tools.record.patterns.finding import (
     Broken,
@@ -98,7 +97,7 @@ def name_call(call: Call) -> str:
     return f"`{spell_words(call.words)}`{f' at {call.place}' if call.place else ''}"
 
 
-def tell_plan(plan: SizedPlan, roles: Roles) -> Union[Sequence[Told], Broken]:
+def tell_plan(plan: SizedPlan, roles: Roles) -> Sequence[Told] | Broken:
     """What the program calls in each rank, in the words of a pattern; or the first call that has
     none."""
     return tell_all(roles, [
@@ -106,7 +105,7 @@ def tell_plan(plan: SizedPlan, roles: Roles) -> Union[Sequence[Told], Broken]:
     ])
 
 
-def pass_script(items: Sequence[Item], told: Told) -> Optional[Passed]:
+def pass_script(items: Sequence[Item], told: Told) -> Passed | None:
     """How a rank goes through a script; None where its calls don't come from it."""
     at, bounds, turns = 0, [0], dict[int, Sequence[str]]()
     for number, item in enumerate(items):
@@ -123,7 +122,7 @@ def pass_script(items: Sequence[Item], told: Told) -> Optional[Passed]:
     return Passed(bounds, turns) if at == len(told.calls) else None
 
 
-def pass_loop(loop: Loop, told: Told, at: int) -> Optional[tuple[int, Sequence[str]]]:
+def pass_loop(loop: Loop, told: Told, at: int) -> tuple[int, Sequence[str]] | None:
     """At which call a rank is after a loop that begins at one, and whom it was over; None where it
     doesn't make it."""
     others = list[str]()
@@ -139,7 +138,7 @@ def pass_loop(loop: Loop, told: Told, at: int) -> Optional[tuple[int, Sequence[s
 
 def fit(
     plan: SizedPlan, way: Way, scripts: Mapping[str, Sequence[Item]]
-) -> Union[Instance, Unfit]:
+) -> Instance | Unfit:
     """A plan as an instance of scripts; or the rank whose calls don't come from its script."""
     roles = part_ranks(plan.ranks, plan.job, way)
     told = tell_plan(plan, roles)
@@ -162,7 +161,7 @@ def find_otherwise(items: Sequence[Item], told: Told) -> int:
     return next(others, len(told.calls))
 
 
-def find_scripts(plans: Sequence[SizedPlan], way: Way) -> Union[Skeleton, Unfit]:
+def find_scripts(plans: Sequence[SizedPlan], way: Way) -> Skeleton | Unfit:
     """The scripts of plans, with the roles of a way; or where none goes on."""
     parted = [part_ranks(it.ranks, it.job, way) for it in plans]
     all_told = list[tuple[SizedPlan, Told]]()

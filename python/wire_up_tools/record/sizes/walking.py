@@ -1,7 +1,7 @@
 """One run of a plan: each call once the calls are there that it waits for."""
 from collections import Counter
 from collections.abc import Iterator, Sequence
-from typing import NamedTuple, Optional
+from typing import NamedTuple
 
 from wire_up_tools.record.draft import Step
 from wire_up_tools.record.sizes.plans import Call, SizedPlan
@@ -76,7 +76,7 @@ class Walk:
         self.standing[rank] = fence
         self.arrived.setdefault(fence, []).append(Source(rank, call))
 
-    def find_sources(self, rank: str, call: Call) -> Optional[Sequence[Source]]:
+    def find_sources(self, rank: str, call: Call) -> Sequence[Source] | None:
         """What a call waited for; None where it waits still. Whose publish a lookup waits for isn't
         known where there are several."""
         if call.verb == "fence":

@@ -2,7 +2,6 @@
 publish for themselves."""
 from collections.abc import Mapping, Sequence
 from dataclasses import dataclass
-from typing import Optional
 
 from wire_up_tools.record.patterns.finding import Item, Loop
 from wire_up_tools.record.patterns.indexing import find_key
@@ -89,7 +88,7 @@ class Writer:
     def write_item(self, role: str, at: int, item: Item) -> list[str]:
         """The lines of an item, with where in the program they come from."""
         found = list[str]()
-        place: Optional[str] = UNKNOWN_PLACE
+        place: str | None = UNKNOWN_PLACE
         for number, line in enumerate(list_lines(item)):
             calls = self.calls.get((role, at, number), ())
             here = next((it.place for it in calls if it.place), UNKNOWN_PLACE)

@@ -2,7 +2,6 @@
 import collections
 from collections.abc import Mapping, Sequence
 from dataclasses import dataclass, field
-from typing import Optional
 
 from wire_up_tools.plan import Call
 from wire_up_tools.run.libraries.rules import Rule
@@ -167,12 +166,12 @@ class End:
         near = {it for it in self.members if self.node_of(it) == self.here}
         return near <= self.meeting.arrived.keys()
 
-    def find_flags(self, node: Optional[str] = None) -> set[bool]:
+    def find_flags(self, node: str | None = None) -> set[bool]:
         """Whether those that have arrived collect, on a node or on all."""
         there = [it for it in self.members if it in self.arrived]
         return {self.arrived[it].collects for it in there if node in (None, self.node_of(it))}
 
-    def answer_mixed(self) -> Optional[str]:
+    def answer_mixed(self) -> str | None:
         """The reply of a fence whose callers differ in collecting, if it is another one."""
         if len(self.find_flags()) < 2 or not self.world.has(Rule.MIXED_COLLECT):
             return None

@@ -1,7 +1,6 @@
 """What a library replies to each call of a plan, and by which rule."""
 from collections.abc import Sequence
 from dataclasses import dataclass, field
-from typing import Optional
 
 from wire_up_tools.plan import Call, Plan, Rank
 from wire_up_tools.run.libraries.fences import Fences
@@ -37,7 +36,7 @@ class Prediction:
         self.fences = Fences(self.world)
         self.replies = {it.name: [] for it in self.world.plan.ranks}
 
-    def find_call(self, rank: Rank) -> Optional[Call]:
+    def find_call(self, rank: Rank) -> Call | None:
         """The call at which a rank stands."""
         calls, done = self.world.plan.calls_of[rank.name], len(self.replies[rank.name])
         return calls[done] if done < len(calls) else None
@@ -130,7 +129,7 @@ LOWEST_FIRST = Way()
 
 
 def predict(
-    plan: Plan, traits: Traits, without: Optional[Rule] = None, way: Way = LOWEST_FIRST
+    plan: Plan, traits: Traits, without: Rule | None = None, way: Way = LOWEST_FIRST
 ) -> Report:
     """The report of a library by its rules, or by all of them but one."""
     rules = traits.rules if without is None else traits.rules - {without}

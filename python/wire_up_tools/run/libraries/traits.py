@@ -4,13 +4,12 @@ import os
 import re
 from collections.abc import Mapping
 from dataclasses import dataclass
-from typing import Optional
 
 from wire_up_tools.failures import Refused
 from wire_up_tools.run.launchers import Kind
 from wire_up_tools.run.libraries.rules import Rule
 
-TABLES = os.path.join(os.path.dirname(os.path.dirname(os.path.abspath(__file__))), "tables")
+TABLES = os.path.join(os.path.dirname(os.path.dirname(__file__)), "tables")
 OUTSIDE, NOT_FOUND = "PMIX_ERR_EXISTS_OUTSIDE_SCOPE", "PMIX_ERR_NOT_FOUND"
 
 
@@ -228,7 +227,7 @@ def take_library(name: str) -> Library:
     return LIBRARIES[name]
 
 
-def find_recorded(version: str, namespace: str) -> Optional[Library]:
+def find_recorded(version: str, namespace: str) -> Library | None:
     """The library that served a job of this namespace, by what it said of its version; None where
     nothing is known of it."""
     kinds = (kind for kind, form in NAMESPACES.items() if form.match(namespace))
@@ -236,7 +235,7 @@ def find_recorded(version: str, namespace: str) -> Optional[Library]:
     return find_library(version, kind) if kind else None
 
 
-def find_library(version: str, kind: Kind) -> Optional[Library]:
+def find_library(version: str, kind: Kind) -> Library | None:
     """The library of which most is known that is like one of this version, with a launcher of this
     kind: of the same release."""
     alike = (it for it in _ALL if it.kind is kind and version.startswith(it.release))
