@@ -17,9 +17,9 @@ partings.py and merging.py make one plan of several runs: of what they share, an
 planning.py calls them in this order, from recordings to the draft. overlaps.py notes the calls that
 get more order thereby than they had. What MPI's order is stands in mpi_order.py. It has messages
 collected by inboxes.py, parted by streams.py and grouping.py and matched by groups.py, collectives
-matched by collectives.py, and messages that could have come otherwise ordered by open_groups.py;
-horizon.py says which of them can matter. The calls of a process that send, receive or probe are
-columns (messages.py), since there can be millions.
+matched by collectives.py, and messages that could have come otherwise ordered by
+wildcard_receives.py; horizon.py says which of them can matter. The calls of a process that send,
+receive or probe are columns (messages.py), since there can be millions.
 
 command_line.py is what users call, and tasks.py what is done then: running.py runs a command,
 places.py finds lines in the source, and verdicts.py asks the checker.

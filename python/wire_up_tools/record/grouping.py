@@ -5,7 +5,7 @@ from collections.abc import Sequence
 from dataclasses import dataclass, field
 from typing import NamedTuple
 
-from wire_up_tools.record.groups import Group, Letters, Matching, match_pairs
+from wire_up_tools.record.groups import Group, SortedInbox, Matching, match_pairs
 from wire_up_tools.record.messages import ANY_RANK, ANY_TAG, RECEIVE
 from wire_up_tools.record.streams import (
     MISSED,
@@ -32,14 +32,14 @@ class Keys:
     """Finds what stands for the group of what is asked for: its first stream or, where no message
     fits, a negative number of its own."""
 
-    letters: Letters
+    inbox: SortedInbox
     parts: Parts
     found: dict[Ask, int] = field(default_factory=dict)
 
     def find(self, ask: Ask) -> int:
         """The key of what is asked for."""
         if ask not in self.found:
-            first = find_fitting(self.letters.streams, ask)
+            first = find_fitting(self.inbox.streams, ask)
             is_there = first != NO_STREAM
             self.found[ask] = self.parts.roots[first] if is_there else -1 - len(self.found)
         return self.found[ask]
@@ -47,9 +47,9 @@ class Keys:
     def find_all(self) -> "array[int]":
         """The keys of all that was asked for. What got a message of a stream that is there, and
         that fits, has the key of that."""
-        streams, roots = self.letters.streams, self.parts.roots
+        streams, roots = self.inbox.streams, self.parts.roots
         found = array("i")
-        for stream, (source, tag) in zip(self.letters.got, self.letters.list_asks()):
+        for stream, (source, tag) in zip(self.inbox.got, self.inbox.list_asks()):
             is_fit = (
                 stream >= 0
                 and source in (ANY_RANK, streams.sources[stream])
@@ -62,13 +62,13 @@ class Keys:
 class Grouping:
     """Groups what was asked for, by what could get messages of the same streams."""
 
-    def __init__(self, letters: Letters) -> None:
-        self.letters = letters
-        self.parts = part_streams(letters.streams, letters.list_asks())
-        self.keys = Keys(letters, self.parts).find_all()
+    def __init__(self, inbox: SortedInbox) -> None:
+        self.inbox = inbox
+        self.parts = part_streams(inbox.streams, inbox.list_asks())
+        self.keys = Keys(inbox, self.parts).find_all()
         self.lacking: set[int] = set()
-        self.counts = array("I", bytes(4 * len(letters.streams)))
-        for key, stream in zip(self.keys, letters.got):
+        self.counts = array("I", bytes(4 * len(inbox.streams)))
+        for key, stream in zip(self.keys, inbox.got):
             if stream == MISSED:
                 self.lacking.add(key)
             elif key >= 0:
@@ -77,34 +77,34 @@ class Grouping:
     def is_pair(self, index: int, key: int) -> bool:
         """Whether a receive and one message are a group by themselves, that can be taken as one
         with others."""
-        letters = self.letters
+        inbox = self.inbox
         return (
-            0 <= key == letters.got[index]
-            and self.counts[key] == letters.streams.counts[key] == 1
+            0 <= key == inbox.got[index]
+            and self.counts[key] == inbox.streams.counts[key] == 1
             and key not in self.parts.joint
             and key not in self.lacking
-            and letters.own.verbs[letters.asked[index]] == RECEIVE
-            and not letters.has_other_size(key, letters.sent.find(key, 0), letters.asked[index])
-            and key not in letters.chosen_receives
-            and key not in letters.chosen_sends
+            and inbox.own.verbs[inbox.asked[index]] == RECEIVE
+            and not inbox.has_other_size(key, inbox.sent.find(key, 0), inbox.asked[index])
+            and key not in inbox.chosen_receives
+            and key not in inbox.chosen_sends
         )
 
     def find_alike(self, index: int, key: int) -> Alike:
         """What a receive and its message have in common with others."""
-        letters, number = self.letters, self.letters.asked[index]
-        sender = letters.find_sender(key).recording.messages
+        inbox, number = self.inbox, self.inbox.asked[index]
+        sender = inbox.find_sender(key).recording.messages
         return Alike(
-            letters.streams.sources[key],
-            sender.threads[letters.sent.find(key, 0)],
-            letters.own.threads[number],
-            letters.find_ask(index).source == ANY_RANK,
+            inbox.streams.sources[key],
+            sender.threads[inbox.sent.find(key, 0)],
+            inbox.own.threads[number],
+            inbox.find_ask(index).source == ANY_RANK,
         )
 
     def sort(self) -> dict[int | Alike, "array[int]"]:
         """What got a message, by groups, in the order of the first of each."""
         found: dict[int | Alike, "array[int]"] = {}
         for index, key in enumerate(self.keys):
-            if self.letters.got[index] != MISSED:
+            if self.inbox.got[index] != MISSED:
                 is_pair = self.is_pair(index, key)
                 of: int | Alike = self.find_alike(index, key) if is_pair else key
                 if of not in found:
@@ -114,22 +114,22 @@ class Grouping:
 
     def make_group(self, key: int, asked: Sequence[int]) -> Group:
         """A group of streams, whose first is the key."""
-        letters, lacks = self.letters, key in self.lacking
+        inbox, lacks = self.inbox, key in self.lacking
         streams = self.parts.of_group(key) if key >= 0 else ()
-        match = Matching(letters, streams, asked).finish(lacks)
-        return Group(letters, streams, asked, lacks, match)
+        match = Matching(inbox, streams, asked).finish(lacks)
+        return Group(inbox, streams, asked, lacks, match)
 
     def join_pairs(self, asked: Sequence[int]) -> Group:
         """A group of messages of one process that each have a receive and a stream of their
         own."""
-        letters = self.letters
-        streams = array("I", map(letters.got.__getitem__, asked))
-        return Group(letters, streams, asked, False, match_pairs(letters, asked))
+        inbox = self.inbox
+        streams = array("I", map(inbox.got.__getitem__, asked))
+        return Group(inbox, streams, asked, False, match_pairs(inbox, asked))
 
 
-def find_groups(letters: Letters) -> list[Group]:
+def find_groups(inbox: SortedInbox) -> list[Group]:
     """All groups, in the order of the first of each that got a message."""
-    grouping = Grouping(letters)
+    grouping = Grouping(inbox)
     return [
         grouping.join_pairs(asked) if isinstance(of, Alike) else grouping.make_group(of, asked)
         for of, asked in grouping.sort().items()

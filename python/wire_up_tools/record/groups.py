@@ -12,7 +12,7 @@ from wire_up_tools.record.streams import Ask, Sent, Streams
 
 
 @dataclass(frozen=True, eq=False)
-class Letters:
+class SortedInbox:
     """What one process was sent in one communicator, by streams, and what it asked for there, in
     the order in which that was posted. `peers` are the processes that its ranks are.
 
@@ -109,9 +109,9 @@ class Group:
     indices in the order in which they were posted. `lacks` says that there are others which got
     none. `match` is the same in every run, where the group is certain."""
 
-    __slots__ = ("letters", "streams", "asked", "lacks", "match")
+    __slots__ = ("inbox", "streams", "asked", "lacks", "match")
 
-    letters: Letters
+    inbox: SortedInbox
     streams: Sequence[int]
     asked: Sequence[int]
     lacks: bool
@@ -120,29 +120,29 @@ class Group:
     @property
     def target(self) -> Process:
         """The process that receives."""
-        return self.letters.target
+        return self.inbox.target
 
     @property
     def message_count(self) -> int:
         """How many messages there are."""
-        counts = self.letters.streams.counts
+        counts = self.inbox.streams.counts
         return sum(counts[it] for it in self.streams)
 
     @property
     def is_certain(self) -> bool:
         """Whether each receive gets the same message in every run: all are of one process."""
-        sources = self.letters.streams.sources
+        sources = self.inbox.streams.sources
         return len({sources[it] for it in self.streams}) < 2
 
     @property
     def source(self) -> Process:
         """The process that sends, where the group is certain."""
-        return self.letters.find_sender(self.streams[0]) if self.streams else self.target
+        return self.inbox.find_sender(self.streams[0]) if self.streams else self.target
 
     @property
     def is_from_any(self) -> bool:
         """Whether something was asked of any source."""
-        return any(self.letters.find_ask(it).source == ANY_RANK for it in self.asked)
+        return any(self.inbox.find_ask(it).source == ANY_RANK for it in self.asked)
 
     @property
     def is_all(self) -> bool:
@@ -152,10 +152,10 @@ class Group:
     @property
     def has_chosen(self) -> bool:
         """Whether the program may have chosen the peer of a message by one that came before."""
-        letters = self.letters
+        inbox = self.inbox
         return any(
             it in chosen
-            for chosen in (letters.chosen_sends, letters.chosen_receives)
+            for chosen in (inbox.chosen_sends, inbox.chosen_receives)
             for it in (self.streams if chosen else ())
         )
 
@@ -167,13 +167,13 @@ class Group:
 
     def ends(self) -> Iterator[int]:
         """The lines at which the receives and probes ended."""
-        letters = self.letters
-        return (letters.own.ends[letters.asked[it]] for it in self.asked)
+        inbox = self.inbox
+        return (inbox.own.ends[inbox.asked[it]] for it in self.asked)
 
     def pairs(self) -> Iterator[tuple[int, int]]:
         """The numbers of messages, and of the receives and probes that got them, of a certain
         group."""
-        return zip(self.match.sends, map(self.letters.asked.__getitem__, self.match.asked))
+        return zip(self.match.sends, map(self.inbox.asked.__getitem__, self.match.asked))
 
 
 class Matching:
@@ -185,31 +185,31 @@ class Matching:
     got another size than its own message has.
     """
 
-    def __init__(self, letters: Letters, streams: Sequence[int], asked: Sequence[int]) -> None:
-        self.letters, self.verbs = letters, letters.own.verbs
+    def __init__(self, inbox: SortedInbox, streams: Sequence[int], asked: Sequence[int]) -> None:
+        self.inbox, self.verbs = inbox, inbox.own.verbs
         self.sends, self.asked = array("I"), array("I")
         self.taken = dict.fromkeys(streams, 0)
         self.receive_count = 0
         self.is_foreign, self.has_too_few = False, False
         self.of_other_size: set[int] = set()
-        self.threads = {letters.own.threads[letters.asked[it]] for it in asked}
+        self.threads = {inbox.own.threads[inbox.asked[it]] for it in asked}
         for index in asked:
             self.take(index)
 
     def take(self, index: int) -> None:
         """Takes a receive or a probe."""
-        letters, number = self.letters, self.letters.asked[index]
-        stream, is_receive = letters.got[index], self.verbs[number] == RECEIVE
+        inbox, number = self.inbox, self.inbox.asked[index]
+        stream, is_receive = inbox.got[index], self.verbs[number] == RECEIVE
         self.receive_count += is_receive
         count = self.taken.get(stream)
         if count is None:
             self.is_foreign |= is_receive
             return
-        if count < letters.streams.counts[stream]:
-            send = letters.sent.find(stream, count)
+        if count < inbox.streams.counts[stream]:
+            send = inbox.sent.find(stream, count)
             self.sends.append(send)
             self.asked.append(index)
-            if is_receive and letters.has_other_size(stream, send, number):
+            if is_receive and inbox.has_other_size(stream, send, number):
                 self.of_other_size.add(stream)
         else:
             self.has_too_few |= is_receive
@@ -221,19 +221,19 @@ class Matching:
         received = (stream for stream, count in self.taken.items() if count)
         if self.is_foreign or self.of_other_size or len(self.threads) > 1:
             return Fit.NOT_SURE
-        if not all(map(self.letters.has_one_thread, received)):
+        if not all(map(self.inbox.has_one_thread, received)):
             return Fit.NOT_SURE
         return Fit.TOO_FEW if self.has_too_few else Fit.SURE
 
     @property
     def is_unfit(self) -> bool:
         """Whether a receive got a message that isn't there, or one of another size."""
-        of_other_size = any(map(self.letters.has_one_thread, self.of_other_size))
+        of_other_size = any(map(self.inbox.has_one_thread, self.of_other_size))
         return self.is_foreign or self.has_too_few or of_other_size
 
     def finish(self, lacks: bool) -> Match:
         """What was found, where `lacks` says whether others that asked got nothing."""
-        counts = self.letters.streams.counts
+        counts = self.inbox.streams.counts
         is_any_left = sum(counts[it] for it in self.taken) > self.receive_count and not lacks
         return Match(
             sends=self.sends,
@@ -244,7 +244,7 @@ class Matching:
         )
 
 
-def match_pairs(letters: Letters, asked: Sequence[int]) -> Match:
+def match_pairs(inbox: SortedInbox, asked: Sequence[int]) -> Match:
     """Receives that each have the one message of a stream of their own."""
-    sends = array("I", (letters.sent.find(letters.got[it], 0) for it in asked))
+    sends = array("I", (inbox.sent.find(inbox.got[it], 0) for it in asked))
     return Match(sends, asked, len(asked), Fit.SURE, False)

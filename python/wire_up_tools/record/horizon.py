@@ -120,11 +120,11 @@ def extend_by_group(last: dict[Process, int], group: Group) -> bool:
 
 def extend_by_open_group(last: dict[Process, int], group: Group) -> bool:
     """Takes what processes learn by the messages of a group that could have come otherwise."""
-    letters, is_further = group.letters, False
+    inbox, is_further = group.inbox, False
     if any(NO_LINE < ends <= last[group.target] for ends in group.ends()):
         for stream in group.streams:
-            sender = letters.find_sender(stream)
-            begins = sender.recording.messages.begins[letters.sent.of_stream(stream)[-1]]
+            sender = inbox.find_sender(stream)
+            begins = sender.recording.messages.begins[inbox.sent.of_stream(stream)[-1]]
             is_further |= extend(last, sender, begins)
     return is_further
 

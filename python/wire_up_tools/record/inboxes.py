@@ -5,7 +5,7 @@ from collections.abc import Mapping
 from dataclasses import dataclass, field
 
 from wire_up_tools.record.communicators import Communicator, Communicators, Side
-from wire_up_tools.record.groups import Letters
+from wire_up_tools.record.groups import SortedInbox
 from wire_up_tools.record.messages import (
     ANY_RANK,
     BY_SOME,
@@ -84,11 +84,11 @@ class Inbox:
             return MISSED
         return self.streams.find(messages.came_from[number], messages.came_tags[number])
 
-    def sort(self) -> Letters:
+    def sort(self) -> SortedInbox:
         """All of it, by streams."""
         messages, find = self.target.recording.messages, self.streams.find
         of_receives = {find(*it): number for it, number in self.chosen_receives.items()}
-        return Letters(
+        return SortedInbox(
             target=self.target,
             peers=self.peers,
             streams=self.streams,

@@ -3,7 +3,7 @@ from collections.abc import Iterable, Mapping, Sequence
 
 from wire_up_tools.record.draft import Draft, Line, Step, walk
 from wire_up_tools.record.knowledge import find_heard
-from wire_up_tools.record.open_groups import find_sources
+from wire_up_tools.record.wildcard_receives import find_sources
 from wire_up_tools.record.processes import Process
 
 # For each process, by its name, how many calls of the program it has surely made.

@@ -9,7 +9,7 @@ from wire_up_tools.record.calls import Call, End
 from wire_up_tools.record.draft import SENT_VALUE, Draft, Line
 from wire_up_tools.record.made import Counts, find_known, join
 from wire_up_tools.record.notes import Notes
-from wire_up_tools.record.open_groups import find_sources
+from wire_up_tools.record.wildcard_receives import find_sources
 from wire_up_tools.record.partings import (
     Run,
     Scripts,

@@ -4,7 +4,7 @@
   received. That is a name which the one publishes and the other waits for.
 - A send that ends after its receive has begun (a synchronous one) waits for that too.
 - A receive that could get messages of several processes orders what holds in every run, whichever
-  it got (open_groups.py).
+  it got (wildcard_receives.py).
 - A collective in which all processes wait for all is a fence. Any other is names: each process
   waits for those whose data it needs.
 - An end that another run may have found open, since a poll succeeded or it was one of several,
@@ -83,9 +83,9 @@ def order_messages(
     for inbox in inboxes.found.values():
         is_cut = any(it in lacking for it in inbox.peers)
         is_open = not unknown.isdisjoint(inbox.peers)
-        letters = inbox.sort()
-        groups = find_groups(letters)
-        note_unfit_messages(letters, groups, ordered.notes)
+        sorted_inbox = inbox.sort()
+        groups = find_groups(sorted_inbox)
+        note_unfit_messages(sorted_inbox, groups, ordered.notes)
         for group in groups:
             is_matched = group.is_matched(is_cut) and not is_open
             if not is_matched or (is_cut and group.is_from_any):
@@ -113,7 +113,7 @@ def order_pairs(
     source, target = group.source, group.target
     sent, own = source.recording.messages, target.recording.messages
     if source is target:
-        asked = map(group.letters.asked.__getitem__, group.match.asked)
+        asked = map(group.inbox.asked.__getitem__, group.match.asked)
         ordered.left_to_luck += sum(map(own.is_left_to_luck, asked))
         return
     is_all, useless = group.is_all, 0
@@ -135,10 +135,10 @@ def order_pairs(
 def choose_pairs(group: Group, is_strict: bool, ordered: Ordered) -> Iterator[tuple[int, int]]:
     """The pairs of a group that order something, and counts them and those left to luck. Behind a
     message whose peer may have been chosen by another all are."""
-    letters, own, is_chosen = group.letters, group.target.recording.messages, False
+    inbox, own, is_chosen = group.inbox, group.target.recording.messages, False
     for send, index in zip(group.match.sends, group.match.asked):
-        number = letters.asked[index]
-        is_chosen = is_chosen or letters.is_chosen(index, send)
+        number = inbox.asked[index]
+        is_chosen = is_chosen or inbox.is_chosen(index, send)
         is_luck = is_chosen or own.is_left_to_luck(number)
         ordered.left_to_luck += is_luck
         if not (is_luck and is_strict):

@@ -12,7 +12,7 @@ from wire_up_tools.record.meetings import Sets
 from wire_up_tools.record.mpi_order import MpiOrder, order_by_mpi
 from wire_up_tools.record.names import Spelling, find_spelling
 from wire_up_tools.record.notes import Notes
-from wire_up_tools.record.open_groups import note_open_groups, order_open_groups
+from wire_up_tools.record.wildcard_receives import note_open_groups, order_open_groups
 from wire_up_tools.record.overlaps import note_overlaps
 from wire_up_tools.record.pmix_calls import make_lines
 from wire_up_tools.record.pmix_fences import PmixFences, make_fences

@@ -4,7 +4,7 @@ import re
 from collections.abc import Sequence
 
 from wire_up_tools.record.calls import Call, Collective
-from wire_up_tools.record.groups import Group, Letters
+from wire_up_tools.record.groups import Group, SortedInbox
 from wire_up_tools.record.notes import Notes
 from wire_up_tools.record.processes import Process, Processes
 from wire_up_tools.record.recordings import Recording
@@ -42,10 +42,10 @@ def has_unknown_sends(recording: Recording) -> bool:
     return any(map(SENDS.fullmatch, recording.others))
 
 
-def has_all_messages(letters: Letters) -> bool:
+def has_all_messages(inbox: SortedInbox) -> bool:
     """Whether recordings have all that was sent to a process in a communicator, and all that it
     received there, unless calls weren't seen."""
-    recordings = [letters.target.recording, *(it.recording for it in letters.peers)]
+    recordings = [inbox.target.recording, *(it.recording for it in inbox.peers)]
     return all(it.has_finalized for it in recordings) and not any(
         pattern.fullmatch(name)
         for it in recordings
@@ -54,12 +54,12 @@ def has_all_messages(letters: Letters) -> bool:
     )
 
 
-def note_unfit_messages(letters: Letters, groups: Sequence[Group], notes: Notes) -> None:
+def note_unfit_messages(inbox: SortedInbox, groups: Sequence[Group], notes: Notes) -> None:
     """Notes where messages to a process, which are in groups, and its receives don't fit."""
     asked_count = sum(len(it.streams) for it in groups)
-    is_any_left = MISSED not in letters.got and asked_count < len(letters.streams)
+    is_any_left = MISSED not in inbox.got and asked_count < len(inbox.streams)
     is_unfit = is_any_left or any(it.match.is_unfit for it in groups)
-    if is_unfit and has_all_messages(letters):
+    if is_unfit and has_all_messages(inbox):
         notes.more_ordered[MISFIT] += 1
 
 

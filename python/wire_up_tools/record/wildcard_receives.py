@@ -32,7 +32,7 @@ AFTER_NOTHING = -1
 
 
 @dataclass(eq=False)
-class Got:
+class PostedReceive:
     """A receive or a probe that got a message. A receive took it, and a probe left it there."""
 
     __slots__ = ("ask", "call", "is_receive")
@@ -51,7 +51,7 @@ class OpenGroup:
     __slots__ = ("streams", "asked", "has_chosen", "target", "peers")
 
     streams: Mapping[Stream, Sequence[Call]]
-    asked: Sequence[Got]
+    asked: Sequence[PostedReceive]
     has_chosen: bool
     target: Process
     peers: Side
@@ -59,22 +59,22 @@ class OpenGroup:
 
 def open_group(group: Group) -> OpenGroup:
     """A group with a call for each of its messages."""
-    letters, own, streams = group.letters, group.letters.own, dict[Stream, Sequence[Call]]()
+    inbox, own, streams = group.inbox, group.inbox.own, dict[Stream, Sequence[Call]]()
     for it in group.streams:
-        make_call = letters.find_sender(it).recording.messages.make_call
-        streams[letters.streams.name(it)] = [*map(make_call, letters.sent.of_stream(it))]
+        make_call = inbox.find_sender(it).recording.messages.make_call
+        streams[inbox.streams.name(it)] = [*map(make_call, inbox.sent.of_stream(it))]
     asked = [
-        Got(letters.find_ask(it), own.make_call(letters.asked[it]), letters.is_receive(it))
+        PostedReceive(inbox.find_ask(it), own.make_call(inbox.asked[it]), inbox.is_receive(it))
         for it in group.asked
     ]
-    return OpenGroup(streams, asked, group.has_chosen, letters.target, letters.peers)
+    return OpenGroup(streams, asked, group.has_chosen, inbox.target, inbox.peers)
 
 
 class Taken:
     """The receives that have surely got a message: those that ended, and those posted before one
     of them, or before a probe that found something, that would have got its message first."""
 
-    def __init__(self, asked: Sequence[Got]) -> None:
+    def __init__(self, asked: Sequence[PostedReceive]) -> None:
         self.count = 0
         self.index_of = {it: n for n, it in enumerate(asked)}
         self.waiting: dict[Ask, deque[int]] = {}
@@ -83,7 +83,7 @@ class Taken:
                 self.waiting.setdefault(it.ask, deque()).append(n)
         self.alike = {ask: self.find_alike(ask) for ask in {it.ask for it in asked}}
 
-    def take(self, got: Got) -> list[Ask]:
+    def take(self, got: PostedReceive) -> list[Ask]:
         """Adds a receive that ended, and those before it. Answers what the new ones asked for."""
         index, new = self.index_of[got], []
         for ask in self.alike[got.ask]:
@@ -101,7 +101,7 @@ class Taken:
         return [it for it in dict.fromkeys(alike) if it in self.waiting]
 
 
-class Coming(NamedTuple):
+class PendingSend(NamedTuple):
     """A message of a stream that comes after a line of the receiver's recording."""
 
     after: int
@@ -124,7 +124,7 @@ class Counted:
         self.own: Counter[Ask] = Counter()
         self.total = 0
         coming = [
-            Coming(after[send], stream) for stream, sends in streams.items() for send in sends
+            PendingSend(after[send], stream) for stream, sends in streams.items() for send in sends
         ]
         self.coming = deque(sorted(coming, key=lambda it: it.after))
         self.open: set[Stream] = set()
@@ -295,8 +295,8 @@ def count_left_to_luck(group: Group) -> int:
     """How many of the receives and probes of a group another run may have found open."""
     if group.has_chosen:
         return len(group.asked)
-    letters = group.letters
-    return sum(letters.own.is_left_to_luck(letters.asked[it]) for it in group.asked)
+    inbox = group.inbox
+    return sum(inbox.own.is_left_to_luck(inbox.asked[it]) for it in group.asked)
 
 
 def note_open_groups(groups: Sequence[Group]) -> Ordered:
