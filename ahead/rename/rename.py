@@ -20,10 +20,13 @@ def whole(name: str) -> "re.Pattern[str]":
 
 
 def renamed(text: str, old: str, new: str) -> str:
-    """The text with a word replaced, but where it stands behind a type's name and '::': there it is a variant."""
+    """The text with a word replaced, but where it stands behind a type's name and '::', where it is a variant, and in the
+    prose of a comment."""
     def change(found: "re.Match[str]") -> str:
         before = text[max(0, found.start() - 60):found.start()]
-        return old if re.search(r"(?<![\w:])[A-Z]\w*::$", before) else new
+        line = text[text.rfind("\n", 0, found.start()) + 1:found.start()]
+        is_prose = re.match(r"\s*(?://|--)", line) and line.count("`") % 2 == 0
+        return old if is_prose or re.search(r"(?<![\w:])[A-Z]\w*::$", before) else new
     return whole(old).sub(change, text)
 
 

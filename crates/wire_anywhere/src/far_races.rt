@@ -62,7 +62,7 @@ fn late_source(
     }
 }
 
-/// AddsPlacementFindings the far race of a get-now with the fence of an arrival, if there is one: with the first arrival that isn't
+/// Adds the far race of a get-now with the fence of an arrival, if there is one: with the first arrival that isn't
 /// before the get, shown by the first member that lacks the key.
 fn add_late(
     marked: &MarkedPlan<'_>,
@@ -90,7 +90,7 @@ fn add_late(
     add_race(plan, found, source, asked, other)
 }
 
-/// AddsPlacementFindings the far races of a get-now with fences. Where one can't come late, since the get is before an arrival at it or
+/// Adds the far races of a get-now with fences. Where one can't come late, since the get is before an arrival at it or
 /// one of these isn't live, no later one can.
 fn add_all_late(
     marked: &MarkedPlan<'_>,
@@ -142,7 +142,7 @@ fn is_far(marked: &MarkedPlan<'_>, gets: &[Event], asked: KeyRead, get: Event) -
     may_race(marked, get, asked.get_now) && lacks(marked, gets, asked, get.proc)
 }
 
-/// AddsPlacementFindings the far races of a get-now with gets that bring its key away, each shown by its own process.
+/// Adds the far races of a get-now with gets that bring its key away, each shown by its own process.
 fn add_get_races(
     marked: &MarkedPlan<'_>,
     gets: &[Event],
@@ -162,7 +162,7 @@ fn add_get_races(
     Ok(())
 }
 
-/// AddsPlacementFindings the far races of a get-now. There are none where its own process surely has the key by then.
+/// Adds the far races of a get-now. There are none where its own process surely has the key by then.
 pub(crate) fn add_far_races(
     marked: &MarkedPlan<'_>,
     table: &GetTable,

@@ -14,7 +14,7 @@ use wire_happens_before::MarkedPlan;
 use wire_races::placeless_findings;
 use wire_types::Fault;
 
-/// AddsPlacementFindings findings of every placement.
+/// Adds findings of every placement.
 fn add_placeless(found: &mut PlacedList, list: &FindingList) -> Result<(), AllocError>
     ensures { OnOk result ((plan : runs.Plan) → AddsPlacementFindings plan found.old found.new (IsOnAll plan list.now)) }
 {

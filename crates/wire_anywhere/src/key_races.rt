@@ -21,7 +21,7 @@ use wire_plan::Kind;
 use wire_races::{is_open, least_processes};
 use wire_types::{Event, Proc};
 
-/// AddsPlacementFindings the races of a get-now.
+/// Adds the races of a get-now.
 fn add_get_now(
     marked: &MarkedPlan<'_>,
     table: &GetTable,
@@ -39,7 +39,7 @@ fn add_get_now(
     add_far_races(marked, table, found, asked)
 }
 
-/// AddsPlacementFindings the races of an event of the plan, where it is a get-now.
+/// Adds the races of an event of the plan, where it is a get-now.
 fn add_event(
     marked: &MarkedPlan<'_>,
     table: &GetTable,
@@ -63,7 +63,7 @@ fn add_event(
     }
 }
 
-/// AddsPlacementFindings the races of the get-nows of a process.
+/// Adds the races of the get-nows of a process.
 fn add_process(
     marked: &MarkedPlan<'_>,
     table: &GetTable,
@@ -118,7 +118,7 @@ fn make_pieces(
         .collect::<Result<Vec<_>, AllocError>>(rt, alloc)?
 }
 
-/// AddsPlacementFindings the findings of all pieces. The one error is that memory ran out.
+/// Adds the findings of all pieces. The one error is that memory ran out.
 fn add_pieces(found: &mut PlacedList, pieces: Vec<PlacedList>) -> Result<(), AllocError>
     ensures { OnOk result ((plan : runs.Plan) → AddsPlacementFindings plan found.old found.new (IsInSome plan pieces.items)) }
 {
@@ -128,7 +128,7 @@ fn add_pieces(found: &mut PlacedList, pieces: Vec<PlacedList>) -> Result<(), All
     Ok(())
 }
 
-/// AddsPlacementFindings all races on keys of all placements. The one error is that memory ran out.
+/// Adds all races on keys of all placements. The one error is that memory ran out.
 pub(crate) fn add_key_races(
     rt: &(impl Threads + Sync),
     alloc: Global,

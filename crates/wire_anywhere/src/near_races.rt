@@ -14,7 +14,7 @@ use wire_fates::KeyRead;
 use wire_happens_before::MarkedPlan;
 use wire_races::are_unordered;
 
-/// AddsPlacementFindings the near race of a get-now, if there is one: whatever the scope of the put.
+/// Adds the near race of a get-now, if there is one: whatever the scope of the put.
 pub(crate) fn add_near_race(
     marked: &MarkedPlan<'_>,
     found: &mut PlacedList,

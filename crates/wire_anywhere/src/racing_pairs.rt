@@ -50,7 +50,7 @@ fn race_of(plan: &Plan, source: Event, asked: KeyRead) -> Finding
     }
 }
 
-/// AddsPlacementFindings the race of a get-now with an event, which its process and another show on a node of their own.
+/// Adds the race of a get-now with an event, which its process and another show on a node of their own.
 pub(crate) fn add_race(
     plan: &Plan,
     found: &mut PlacedList,

@@ -36,7 +36,7 @@ use wire_report::{
 use wire_scripts::Scripts;
 use wire_types::{CallAt, Event, Fault, Sink, Source};
 
-/// ExplainsOrder whether a chain of events leads from one call of a plan to another: reads the plan to its end, and writes
+/// Answers whether a chain of events leads from one call of a plan to another: reads the plan to its end, and writes
 /// `before` and the events of the chain, else `after` and those of the chain the other way round, else `unordered` and
 /// which of the two calls isn't live. Where a chain leads from one event to another, the first has happened in every
 /// run in which the second does. In a form with places the name of the file and the line of its call stand before each

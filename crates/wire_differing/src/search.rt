@@ -15,7 +15,7 @@ use std::alloc::{AllocError, Global};
 use wire_happens_before::MarkedPlan;
 use wire_types::{Event, Fault, Proc};
 
-/// AddsDiffering the calls of a process whose reply isn't the same on every placement.
+/// Adds the calls of a process whose reply isn't the same on every placement.
 fn add_process(
     marked: &MarkedPlan<'_>,
     found: &mut Vec<Differing>,

@@ -1,4 +1,4 @@
--- HappensBefore tell which events are live, and which are before which.
+-- Marks tell which events are live, and which are before which.
 use Rattle.std.proofs.Common.{◌≡◌, ◌⊎◌, inl, inr, sym, Bool, true, false, ltb-true, lt-ltb}
 use Rattle.std.specs.Prelude.{◌↔◌, nat_lt}
 use Rattle.std.proofs.lemmas.Bool.{true≢false}

@@ -77,7 +77,7 @@ module _ (old new : List (List Update)) (held : List (List ℕ)) where
     | inr none ↦ none
   ]
 
--- one unpublish_all after another
+-- one sweep after another
 pub swept_twice : (z : Event) (a b c : List Update) → TakesAway z a b → TakesAway z b c → TakesAway z a c
 swept_twice z a b c (inl ab) (inl bc) = inl (bc ∙ ab)
 swept_twice z a b c (inl ab) (inr (by, u, it, none, list)) =

@@ -234,7 +234,7 @@ impl Clocks {
         self.raise_root(root, event)
     }
 
-    /// MarksNext the root of the base of the next event of a process. No change of a name is noted.
+    /// Adds the root of the base of the next event of a process. No change of a name is noted.
     pub(crate) fn push(&mut self, proc: Proc, root: u32) -> Result<(), AllocError>
         requires { proc.number < length self.old.roots.items }
         ensures adds { OnOk result (MarksNext self.old self.new proc.number root) }

@@ -354,7 +354,7 @@ fn spelt_at(plan: &Plan, spelling: &Spelling, event: Event) -> Option<Spelt>
     spelling.of(plan.call_of(event))
 }
 
-/// AddsUnportable what a call of a fence breaks, at the first arrival there that spells the set alike.
+/// Adds what a call of a fence breaks, at the first arrival there that spells the set alike.
 fn add_first(
     plan: &Plan,
     spelling: &Spelling,
@@ -381,7 +381,7 @@ fn add_first(
     found.blame(plan, first, Rule::FenceSpelling, apart)
 }
 
-/// AddsUnportable what a call of a fence breaks.
+/// Adds what a call of a fence breaks.
 fn add_call(
     plan: &Plan,
     spelling: &Spelling,
@@ -405,7 +405,7 @@ fn add_call(
     }
 }
 
-/// AddsUnportable what an event breaks, if it is an arrival at a fence.
+/// Adds what an event breaks, if it is an arrival at a fence.
 fn add_arrival(
     plan: &Plan,
     spelling: &Spelling,
@@ -430,7 +430,7 @@ fn add_arrival(
     }
 }
 
-/// AddsUnportable what an event breaks, if it is a live arrival at a fence.
+/// Adds what an event breaks, if it is a live arrival at a fence.
 pub(crate) fn add_fence(
     marked: &MarkedPlan<'_>,
     spelling: &Spelling,

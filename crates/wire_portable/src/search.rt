@@ -105,7 +105,7 @@ impl Search<'_> {
         self.anywhere || !self.is_there(owner, proc)
     }
 
-    /// AddsUnportable what a get breaks on the owner's node, if its process may be there.
+    /// Adds what a get breaks on the owner's node, if its process may be there.
     fn add_near_get(
         &self,
         found: &mut UnportableList,
@@ -130,7 +130,7 @@ impl Search<'_> {
         )
     }
 
-    /// AddsUnportable what a get breaks on another node, if its process may be there.
+    /// Adds what a get breaks on another node, if its process may be there.
     fn add_far_get(
         &self,
         found: &mut UnportableList,
@@ -158,7 +158,7 @@ impl Search<'_> {
         )
     }
 
-    /// AddsUnportable what a get of another process's key breaks.
+    /// Adds what a get of another process's key breaks.
     fn add_get(&self, found: &mut UnportableList, get: Event, asked: Key) -> Result<(), AllocError>
         requires is { kind (plan_in self.now) (event_of get) ≡ Some (Get asked.owner.number asked.key) }
         requires asked { IsAsked (plan_in self.now) (event_of get) }
@@ -170,7 +170,7 @@ impl Search<'_> {
         self.add_far_get(found, get, asked)
     }
 
-    /// AddsUnportable what a get-now breaks on the owner's node, where its process may be there.
+    /// Adds what a get-now breaks on the owner's node, where its process may be there.
     fn add_near_now(
         &self,
         found: &mut UnportableList,
@@ -208,7 +208,7 @@ impl Search<'_> {
         }
     }
 
-    /// AddsUnportable what a get-now breaks on another node, where its process may be there.
+    /// Adds what a get-now breaks on another node, where its process may be there.
     fn add_far_now(
         &self,
         found: &mut UnportableList,
@@ -228,7 +228,7 @@ impl Search<'_> {
         Ok(())
     }
 
-    /// AddsUnportable what a get-now of another process's key breaks.
+    /// Adds what a get-now of another process's key breaks.
     fn add_now(&self, found: &mut UnportableList, get: Event, asked: Key) -> Result<(), AllocError>
         requires is { kind (plan_in self.now) (event_of get) ≡ Some (GetNow asked.owner.number asked.key) }
         requires other { get.proc.number ≢ asked.owner.number }
@@ -241,7 +241,7 @@ impl Search<'_> {
         Ok(())
     }
 
-    /// AddsUnportable what a put breaks.
+    /// Adds what a put breaks.
     fn add_put(&self, found: &mut UnportableList, put: Event, key: u32) -> Result<(), AllocError>
         requires { (scope : Scope) × (kind (plan_in self.now) (event_of put) ≡ Some (Put key scope)) }
         ensures { OnOk result (AddsUnportable found.old found.new (λ library. IsNoRewrite (plan_in self.now) (event_of put))) }
@@ -251,7 +251,7 @@ impl Search<'_> {
         found.blame(plan, put, Rule::Rewrite, again)
     }
 
-    /// AddsUnportable what a call of a reserved key breaks that libraries don't answer as the plan says.
+    /// Adds what a call of a reserved key breaks that libraries don't answer as the plan says.
     fn add_untold(&self, found: &mut UnportableList, event: Event) -> Result<(), AllocError>
         requires { event.at < event_count (plan_in self.now) event.proc.number }
         ensures { OnOk result (AddsUnportable found.old found.new (λ library. (words_in self.now library).known (event_of event) ≡ true)) }
@@ -263,7 +263,7 @@ impl Search<'_> {
         found.blame(plan, event, Rule::Reserved, Libraries::all())
     }
 
-    /// AddsUnportable what a call of a reserved key or name breaks.
+    /// Adds what a call of a reserved key or name breaks.
     fn add_fixed(&self, found: &mut UnportableList, event: Event) -> Result<(), AllocError>
         requires { event.at < event_count (plan_in self.now) event.proc.number }
         ensures { OnOk result (AddsUnportable found.old found.new (λ library. (words_in self.now library).known (event_of event) ≡ true)) }
@@ -276,7 +276,7 @@ impl Search<'_> {
         found.blame(plan, event, Rule::Unpublished, Libraries::all())
     }
 
-    /// AddsUnportable what a publish breaks.
+    /// Adds what a publish breaks.
     fn add_publish(
         &self,
         found: &mut UnportableList,
@@ -294,7 +294,7 @@ impl Search<'_> {
         found.blame(plan, event, Rule::Published, Libraries::all())
     }
 
-    /// AddsUnportable what an unpublish breaks.
+    /// Adds what an unpublish breaks.
     fn add_unpublish(&self, found: &mut UnportableList, event: Event) -> Result<(), AllocError>
         requires { event.at < event_count (plan_in self.now) event.proc.number }
         ensures { OnOk result (AddsUnportable found.old found.new (λ library. (name : ℕ) → kind (plan_in self.now) (event_of event) ≡ Some (Unpublish name) →
@@ -307,7 +307,7 @@ impl Search<'_> {
         found.blame(plan, event, Rule::Unpublished, Libraries::all())
     }
 
-    /// AddsUnportable what a call breaks that takes away all names of its process.
+    /// Adds what a call breaks that takes away all names of its process.
     fn add_sweep(&self, found: &mut UnportableList, event: Event) -> Result<(), AllocError>
         requires { event.at < event_count (plan_in self.now) event.proc.number }
         ensures { OnOk result (AddsUnportable found.old found.new (λ library. (family_of library).star ≡ true)) }
@@ -316,7 +316,7 @@ impl Search<'_> {
         found.blame(plan, event, Rule::UnpublishAll, Libraries::all())
     }
 
-    /// AddsUnportable what a get breaks, if it is of another process's key.
+    /// Adds what a get breaks, if it is of another process's key.
     fn add_read(&self, found: &mut UnportableList, get: Event, asked: Key) -> Result<(), AllocError>
         requires is { kind (plan_in self.now) (event_of get) ≡ Some (Get asked.owner.number asked.key) }
         requires asked { IsAsked (plan_in self.now) (event_of get) }
@@ -331,7 +331,7 @@ impl Search<'_> {
         self.add_get(found, get, asked)
     }
 
-    /// AddsUnportable what a get-now breaks, if it is of another process's key.
+    /// Adds what a get-now breaks, if it is of another process's key.
     fn add_read_now(
         &self,
         found: &mut UnportableList,
@@ -351,7 +351,7 @@ impl Search<'_> {
         self.add_now(found, get, asked)
     }
 
-    /// AddsUnportable what a call that comes to be made breaks.
+    /// Adds what a call that comes to be made breaks.
     fn add_asked(&self, found: &mut UnportableList, event: Event) -> Result<(), AllocError>
         requires there { event.at < event_count (plan_in self.now) event.proc.number }
         requires asked { IsAsked (plan_in self.now) (event_of event) }
@@ -370,7 +370,7 @@ impl Search<'_> {
         }
     }
 
-    /// AddsUnportable what a call breaks, if it comes to be made.
+    /// Adds what a call breaks, if it comes to be made.
     fn add_call(&self, found: &mut UnportableList, event: Event) -> Result<(), AllocError>
         requires { event.at < event_count (plan_in self.now) event.proc.number }
         ensures { OnOk result (AddsUnportable found.old found.new (λ library. IsAsked (plan_in self.now) (event_of event) →
@@ -382,7 +382,7 @@ impl Search<'_> {
         self.add_asked(found, event)
     }
 
-    /// AddsUnportable what an event breaks, if it is a put.
+    /// Adds what an event breaks, if it is a put.
     fn add_again(&self, found: &mut UnportableList, event: Event) -> Result<(), AllocError>
         requires { event.at < event_count (plan_in self.now) event.proc.number }
         ensures { OnOk result (AddsUnportable found.old found.new (λ library. (x : runs.Event) → IsRewrite (plan_in self.now) x (event_of event) → ⊥)) }
@@ -396,7 +396,7 @@ impl Search<'_> {
         }
     }
 
-    /// AddsUnportable what an event of the plan breaks.
+    /// Adds what an event of the plan breaks.
     fn add_event(&self, found: &mut UnportableList, event: Event) -> Result<(), AllocError>
         requires { event.at < event_count (plan_in self.now) event.proc.number }
         ensures { OnOk result (AddsUnportable found.old found.new (λ library. IsEventFine self.now library (event_of event))) }
@@ -406,7 +406,7 @@ impl Search<'_> {
         self.add_call(found, event)
     }
 
-    /// AddsUnportable what the events of a process break.
+    /// Adds what the events of a process break.
     fn add_process(&self, found: &mut UnportableList, proc: Proc) -> Result<(), AllocError>
         ensures { OnOk result (AddsUnportable found.old found.new (λ library.
             AreFineTo self.now library proc.number (event_count (plan_in self.now) proc.number))) }
@@ -417,7 +417,7 @@ impl Search<'_> {
         Ok(())
     }
 
-    /// AddsUnportable what all events break.
+    /// Adds what all events break.
     fn add_all(&self, found: &mut UnportableList) -> Result<(), AllocError>
         ensures { OnOk result (AddsUnportable found.old found.new (AreAllFine self.now)) }
     {

@@ -93,7 +93,7 @@ pub(crate) fn find_unordered<'a>(marked: &MarkedPlan<'_>, x: Event, run: &'a [Ev
     }
 }
 
-/// AddsFindings the races of a call with these, each of which races with it.
+/// Adds the races of a call with these, each of which races with it.
 pub(crate) fn add_races(
     plan: &Plan,
     found: &mut FindingsBuilder,

@@ -23,7 +23,7 @@ fn may_race(marked: &MarkedPlan<'_>, get: Event, get_now: Event) -> bool
     marked.live(get) && !marked.before(get_now, get)
 }
 
-/// AddsFindings the races of a get with the gets that bring its key to its node, none of which comes surely before
+/// Adds the races of a get with the gets that bring its key to its node, none of which comes surely before
 /// it. Of the gets of a process those that may race are the first ones.
 pub(crate) fn add_get_races(
     marked: &MarkedPlan<'_>,

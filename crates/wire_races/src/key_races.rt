@@ -56,7 +56,7 @@ fn race_of(plan: &Plan, source: Event, asked: KeyRead) -> Finding
     }
 }
 
-/// AddsFindings the race of a get with an event.
+/// Adds the race of a get with an event.
 pub(crate) fn add_race(
     plan: &Plan,
     found: &mut FindingsBuilder,
@@ -70,7 +70,7 @@ pub(crate) fn add_race(
     found.add(race_of(plan, source, asked))
 }
 
-/// AddsFindings the race of a get with the commit that stores its key on the same node, if they race.
+/// Adds the race of a get with the commit that stores its key on the same node, if they race.
 fn add_node_race(
     marked: &MarkedPlan<'_>,
     found: &mut FindingsBuilder,
@@ -92,7 +92,7 @@ fn add_node_race(
     }
 }
 
-/// AddsFindings the race of a get with the delivery of an arrival, if they race.
+/// Adds the race of a get with the delivery of an arrival, if they race.
 fn add_late(
     marked: &MarkedPlan<'_>,
     found: &mut FindingsBuilder,
@@ -113,7 +113,7 @@ fn add_late(
     }
 }
 
-/// AddsFindings the races of a get with the deliveries of its key by fences, none of which comes surely before it. Where
+/// Adds the races of a get with the deliveries of its key by fences, none of which comes surely before it. Where
 /// one can't come late, since the get is before an arrival at its fence or one of these isn't live, no
 /// later one can.
 fn add_all_late(
@@ -145,7 +145,7 @@ fn add_all_late(
     Ok(())
 }
 
-/// AddsFindings the races of a get with the deliveries of its key from another node.
+/// Adds the races of a get with the deliveries of its key from another node.
 fn add_delivery_races(
     marked: &MarkedPlan<'_>,
     found: &mut FindingsBuilder,
@@ -174,7 +174,7 @@ pub fn is_open(marked: &MarkedPlan<'_>, asked: KeyRead) -> bool
         && marked.live(asked.get_now)
 }
 
-/// AddsFindings the races of a get that is answered at once.
+/// Adds the races of a get that is answered at once.
 fn add_get_now(
     marked: &MarkedPlan<'_>,
     found: &mut FindingsBuilder,
@@ -197,7 +197,7 @@ fn add_get_now(
     }
 }
 
-/// AddsFindings the races of an event of the plan, where it is a get that is answered at once.
+/// Adds the races of an event of the plan, where it is a get that is answered at once.
 pub(crate) fn add_event(
     marked: &MarkedPlan<'_>,
     found: &mut FindingsBuilder,
@@ -220,7 +220,7 @@ pub(crate) fn add_event(
     }
 }
 
-/// AddsFindings the races of the gets of a process.
+/// Adds the races of the gets of a process.
 fn add_process(
     marked: &MarkedPlan<'_>,
     found: &mut FindingsBuilder,
@@ -236,7 +236,7 @@ fn add_process(
     Ok(())
 }
 
-/// AddsFindings the races of the gets of processes that stand side by side: from one to below the end.
+/// Adds the races of the gets of processes that stand side by side: from one to below the end.
 fn add_processes(
     marked: &MarkedPlan<'_>,
     found: &mut FindingsBuilder,
@@ -331,7 +331,7 @@ fn make_pieces(
         .collect::<Result<Vec<_>, AllocError>>(rt, alloc)?
 }
 
-/// AddsFindings all races on keys: of each get that is answered at once, with the commit that stores the
+/// Adds all races on keys: of each get that is answered at once, with the commit that stores the
 /// key on its node, or with the fences, and the gets whose values are kept, that bring it to its node (PMIx
 /// Standard 5.0, PMIx_Get with PMIX_IMMEDIATE, PMIx_Commit, and PMIx_Fence with PMIX_COLLECT_DATA). The one error is
 /// that memory ran out.

@@ -46,7 +46,7 @@ pub(crate) fn is_write(plan: &Plan, x: NameCall) -> bool
     }
 }
 
-/// AddsFindings the races of a live call with calls of another process. The one publish of a name and a
+/// Adds the races of a live call with calls of another process. The one publish of a name and a
 /// lookup that waits for it are in order where both are live, so the one isn't among those that no chain
 /// orders with the other.
 fn add_between(
@@ -86,7 +86,7 @@ fn stretch_length(calls: &[Event], proc: Proc) -> usize
     count_upto(calls, proc)
 }
 
-/// AddsFindings the races of a live call with higher calls, which are cut into stretches of one process each.
+/// Adds the races of a live call with higher calls, which are cut into stretches of one process each.
 fn add_rivals(
     marked: &MarkedPlan<'_>,
     found: &mut FindingsBuilder,
@@ -109,7 +109,7 @@ fn add_rivals(
     Ok(())
 }
 
-/// AddsFindings the races of a call with all higher ones.
+/// Adds the races of a call with all higher ones.
 fn add_call(
     marked: &MarkedPlan<'_>,
     found: &mut FindingsBuilder,
@@ -170,7 +170,7 @@ fn writers_of(alloc: Global, plan: &Plan, name: u32) -> Result<Vec<Event>, Alloc
     Ok(writers)
 }
 
-/// AddsFindings the races between calls on a name alone, from the lower call of each.
+/// Adds the races between calls on a name alone, from the lower call of each.
 fn add_races_on(
     marked: &MarkedPlan<'_>,
     found: &mut FindingsBuilder,
@@ -204,7 +204,7 @@ fn find_facing<'a>(plan: &'a Plan, x: Event, proc: Proc) -> &'a [Event]
     }
 }
 
-/// AddsFindings the races of a call on one name with those calls of these processes that take away all their names.
+/// Adds the races of a call on one name with those calls of these processes that take away all their names.
 fn add_swept(
     marked: &MarkedPlan<'_>,
     found: &mut FindingsBuilder,
@@ -226,7 +226,7 @@ fn add_swept(
     Ok(())
 }
 
-/// AddsFindings the races on a name of the calls on it alone with those calls of these processes that take away all their
+/// Adds the races on a name of the calls on it alone with those calls of these processes that take away all their
 /// names.
 fn add_races_swept(
     marked: &MarkedPlan<'_>,
@@ -286,7 +286,7 @@ fn make_pieces(
         .collect::<Result<Vec<_>, AllocError>>(rt, alloc)?
 }
 
-/// AddsFindings the races on names: for each name the pairs of live calls of different processes on it, one
+/// Adds the races on names: for each name the pairs of live calls of different processes on it, one
 /// of which can change it, that no chain orders (PMIx Standard 5.0, PMIx_Publish,
 /// PMIx_Lookup, PMIx_Unpublish). The only error is that memory ran out.
 ///

@@ -30,7 +30,7 @@ fn first_put_before(plan: &Plan, event: Event) -> Option<Event>
     }
 }
 
-/// AddsFindings the rewrite that an event of the plan is, if it is one.
+/// Adds the rewrite that an event of the plan is, if it is one.
 fn add_rewrite(plan: &Plan, found: &mut FindingsBuilder, event: Event) -> Result<(), AllocError>
     requires there { event.at < event_count (plan_of plan.now) event.proc.number }
     requires found { AreFound (plan_of plan.now) found.old }
@@ -45,7 +45,7 @@ fn add_rewrite(plan: &Plan, found: &mut FindingsBuilder, event: Event) -> Result
     }
 }
 
-/// AddsFindings the rewrites of a process.
+/// Adds the rewrites of a process.
 fn add_process(plan: &Plan, found: &mut FindingsBuilder, proc: Proc) -> Result<(), AllocError>
     requires { AreFound (plan_of plan.now) found.old }
     ensures { OnOk result (AddsFindings (plan_of plan.now) found.old found.new
@@ -57,7 +57,7 @@ fn add_process(plan: &Plan, found: &mut FindingsBuilder, proc: Proc) -> Result<(
     Ok(())
 }
 
-/// AddsFindings all rewrites of the plan: each put of a key that isn't its process's first put of it (PMIx
+/// Adds all rewrites of the plan: each put of a key that isn't its process's first put of it (PMIx
 /// Standard 5.0, PMIx_Put). The one error is that memory ran out.
 pub(crate) fn add_rewrites(plan: &Plan, found: &mut FindingsBuilder) -> Result<(), AllocError>
     requires { AreFound (plan_of plan.now) found.old }

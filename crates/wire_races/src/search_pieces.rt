@@ -10,7 +10,7 @@ ghost use Rattle.wire_races.specs.Pieces.{IsInSome, AreAllFound};
 use std::alloc::AllocError;
 use wire_findings::FindingsBuilder;
 
-/// AddsFindings the findings of all pieces. The one error is that memory ran out.
+/// Adds the findings of all pieces. The one error is that memory ran out.
 pub(crate) fn add_pieces(
     found: &mut FindingsBuilder,
     pieces: Vec<FindingsBuilder>,

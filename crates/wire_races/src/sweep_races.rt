@@ -106,7 +106,7 @@ pub(crate) fn names_of(alloc: Global, plan: &Plan, proc: Proc) -> Result<Vec<u32
     Ok(names)
 }
 
-/// AddsFindings the shares in a name of those of these processes that are higher than this one.
+/// Adds the shares in a name of those of these processes that are higher than this one.
 fn add_shares(
     shares: &mut Vec<Share>,
     proc: Proc,
@@ -145,7 +145,7 @@ fn shares_of(
     Ok(shares)
 }
 
-/// AddsFindings the races of a call with these on the name of each of these shares.
+/// Adds the races of a call with these on the name of each of these shares.
 fn add_on_names(
     plan: &Plan,
     found: &mut FindingsBuilder,
@@ -167,7 +167,7 @@ fn add_on_names(
     Ok(())
 }
 
-/// AddsFindings the races of a sweep with those of a higher process, on the names that both publish. Which of those race
+/// Adds the races of a sweep with those of a higher process, on the names that both publish. Which of those race
 /// with it depends on no name, so that names are looked at only where there are such.
 fn add_sweep(
     marked: &MarkedPlan<'_>,
@@ -193,7 +193,7 @@ fn add_sweep(
     add_on_names(plan, found, x, those, shares)
 }
 
-/// AddsFindings the races of the sweeps of one process with those of a higher one, on the names that both publish.
+/// Adds the races of the sweeps of one process with those of a higher one, on the names that both publish.
 fn add_stretch(
     marked: &MarkedPlan<'_>,
     found: &mut FindingsBuilder,
@@ -227,7 +227,7 @@ fn stretch_size(shares: &[Share], proc: Proc) -> usize
     shares.len()
 }
 
-/// AddsFindings the races of the sweeps of a process with those of higher ones, on the names that it shares with them. The
+/// Adds the races of the sweeps of a process with those of higher ones, on the names that it shares with them. The
 /// shares are cut into stretches of one process each.
 fn add_shared(
     marked: &MarkedPlan<'_>,
@@ -248,7 +248,7 @@ fn add_shared(
     Ok(())
 }
 
-/// AddsFindings the races of the sweeps of a process with those of higher ones.
+/// Adds the races of the sweeps of a process with those of higher ones.
 fn add_process(
     alloc: Global,
     marked: &MarkedPlan<'_>,
@@ -267,7 +267,7 @@ fn add_process(
     add_shared(marked, found, proc, shares.as_slice())
 }
 
-/// AddsFindings the races between sweeps. The one error is that memory ran out.
+/// Adds the races between sweeps. The one error is that memory ran out.
 ///
 /// The sweeps of two processes race on each name that both publish, where no chain orders them. So each is compared
 /// once with those of a higher process, by bisection, whatever number of names the two share.

@@ -184,7 +184,7 @@ pub fn follow<R: Source, O: Source, W: Sink>(
     follow_plan(alloc, IN_LINES, reader, order_reader, writer)
 }
 
-/// ExplainsOrder whether a chain of events leads from one call of a plan to another, as [`explain_order`] says.
+/// Answers whether a chain of events leads from one call of a plan to another, as [`explain_order`] says.
 pub fn why<R: Source, W: Sink>(
     alloc: Global,
     reader: &mut R,
