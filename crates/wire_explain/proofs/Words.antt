@@ -6,7 +6,7 @@ use Rattle.std.proofs.lemmas.List.Elements.{All-from_recursion}
 use Rattle.std.proofs.lemmas.Slice.Eq.{bytes_eq-Decides}
 use Rattle.wire_types.specs.declared.Scope.TheVariants.{Local, Remote, Global}
 use Rattle.wire_types.specs.declared.Version.TheVariants.{One}
-use Rattle.wire_lines.specs.Said.{Said, IsLawful, first_word, Own, Header, Keep, Node, Job, Rank, Calls, Put, Commit, Fence, Get, GetNow, Publish, Lookup, LookupWait, UnpublishAll}
+use Rattle.wire_lines.specs.Said.{Said, IsLawfulLine, first_word, Own, Header, Keep, Node, Job, Rank, Calls, Put, Commit, Fence, Get, GetNow, Publish, Lookup, LookupWait, UnpublishAll}
 use Rattle.wire_lines.specs.Said.{collect_words}
 use Rattle.wire_explain.specs.declared.language.Language.TheVariants.{Plan}
 use Rattle.wire_explain.specs.Format.{IsOfFormat, UsagesAreLines, ChoicesAreWords, format_words, scopes}
@@ -15,7 +15,7 @@ use Rattle.wire_explain.specs.Format.{IsOfFormat, UsagesAreLines, ChoicesAreWord
 abbrev x : List ℕ
 x = codes "x"
 
-is_first : (said : Said) → IsLawful said → (first : List ℕ) → IsOfFormat 0 first (first_word said)
+is_first : (said : Said) → IsLawfulLine said → (first : List ℕ) → IsOfFormat 0 first (first_word said)
 is_first said lawful first = record { said = said; lawful = lawful; begins = inl refl; there = refl }
 
 first_words : (first : List ℕ → List ℕ) → AllByRecursion (λ word. IsOfFormat 0 (first word) word) (format_words Plan)

@@ -4,7 +4,7 @@ use Rattle.std.specs.Prelude.{slice_get, if◌then◌else◌}
 use Rattle.std.specs.List.{All}
 use Rattle.std.specs.Str.{bytes_eq}
 use Rattle.wire_types.specs.declared.Scope.TheVariants.{Local, Remote, Global}
-use Rattle.wire_lines.specs.Said.{Said, IsLawful, first_word, other_words, begins_with, spelled_scope, collect_words}
+use Rattle.wire_lines.specs.Said.{Said, IsLawfulLine, first_word, other_words, begins_with, spelled_scope, collect_words}
 use Rattle.wire_pattern_lines.specs.Said as pattern
 use Rattle.wire_explain.specs.declared.language.Language.{Language}
 use Rattle.wire_explain.specs.declared.language.Language.TheVariants.{Plan, Pattern}
@@ -112,7 +112,7 @@ choices language first =
 -- a line of a plan has this word at this place, where the word is the first or comes after this first one
 pub record IsOfFormat (place : ℕ) (first word : List ℕ) : Type 0 where
   pub said : Said
-  pub lawful : IsLawful said
+  pub lawful : IsLawfulLine said
   pub begins : (place ≡ 0) ⊎ (first_word said ≡ first)
   pub there : slice_get (first_word said ∷ other_words said) place ≡ Some word
 

@@ -8,7 +8,7 @@ use Rattle.std.proofs.lemmas.List.{length-map, map-append}
 use borrow.Author.Tests.{ltb-true}
 use Rattle.wire_types.specs.declared.Fault.{Fault}
 use Rattle.wire_types.specs.declared.Fault.TheVariants.{TooLong, BadLine, UnknownName, Twice, TooMany}
-use Rattle.wire_lines.specs.Said.{Call, Said, Header, Keep, Node, Job, Rank, Calls, IsLawful, IsLawfulCall}
+use Rattle.wire_lines.specs.Said.{Call, Said, Header, Keep, Node, Job, Rank, Calls, IsLawfulLine, IsLawfulCall}
 use Rattle.wire_reader.specs.declared.limits.Size.{Size}
 use Rattle.wire_reader.specs.Statements.{Statement}
 use Rattle.wire_reader.specs.FirstPass.{Started, Declared, number_or_count, after, judged, is_in_place, is_short, is_short_call}
@@ -90,7 +90,7 @@ FitsLine f d (Job name) = ⊤
 FitsLine f d (Rank node) = ⊤
 FitsLine f d (Calls c) = IsFitFor c (f (last_job d.processes) c)
 
-changed_lawful : (f : Change) (d : Declared) (a : Said) → FitsLine f d a → IsLawful a → IsLawful (changed_line f d a)
+changed_lawful : (f : Change) (d : Declared) (a : Said) → FitsLine f d a → IsLawfulLine a → IsLawfulLine (changed_line f d a)
 changed_lawful f d (Header version) h l = l
 changed_lawful f d Keep h l = l
 changed_lawful f d (Node name) h l = l
@@ -110,12 +110,12 @@ changed_taken f d (Calls c) h t = record { place = ap (λ b. nat_lt 0 d.ranks &&
 -- lines, with their numbers, lead from one declaration to another
 abbrev pub Runs : List (ℕ × Said) → Declared → Declared → Type 0
 Runs [] d e = d ≡ e
-Runs (l ∷ ls) d e = IsLawful l.1 × IsTaken d l.1 × Runs ls (after d l.0 l.1) e
+Runs (l ∷ ls) d e = IsLawfulLine l.1 × IsTaken d l.1 × Runs ls (after d l.0 l.1) e
 
 -- the same, where no line has a number
 abbrev pub Takes : List Said → Declared → Declared → Type 0
 Takes [] d e = d ≡ e
-Takes (a ∷ xs) d e = IsLawful a × IsTaken d a × Takes xs (after d 0 a) e
+Takes (a ∷ xs) d e = IsLawfulLine a × IsTaken d a × Takes xs (after d 0 a) e
 
 tests_passed : (a b c f g : Bool) (d e : Declared) (n : ℕ)
     → Ok e ≡ (if not a then Err (BadLine n) else if not b then Err (TooLong n) else if not c then Err (UnknownName n) else if f then Err (Twice n) else if not g then Err (TooMany n) else Ok d)
@@ -127,7 +127,7 @@ tests_passed true true true true g d e n h = absurd (cc)
 tests_passed true true true false false d e n h = absurd (cc)
 tests_passed true true true false true d e n h = (refl, refl, refl, refl, refl, cc)
 
-line_taken : (d e : Declared) (line : Statement) → Judges d line (Ok e) → (a : Said) × IsLawful a × IsTaken d a × (e ≡ after d line.0 a)
+line_taken : (d e : Declared) (line : Statement) → Judges d line (Ok e) → (a : Said) × IsLawfulLine a × IsTaken d a × (e ≡ after d line.0 a)
 line_taken d e line (inl j) = absurd (let h = j.1 in cc)
 line_taken d e line (inr j) =
     let t = tests_passed (is_in_place d j.0) (is_short j.0) (is_known d j.0) (is_again d j.0) (has_room d j.0) (after d line.0 j.0) e line.0 j.2 in

@@ -8,7 +8,7 @@ use Rattle.std.proofs.lemmas.Slice.Eq.{bytes_eq-Decides}
 use Rattle.std.proofs.lemmas.Bool.{or_from, or_parts}
 use borrow.Author.Tests.{ltb-true, eqb-true, eq-eqb, ne_eqb}
 use Rattle.wire_types.specs.declared.Version.{Version}
-use Rattle.wire_lines.specs.Said.{Call, Said, Header, Keep, Node, Job, Rank, Calls, IsLawful, is_name}
+use Rattle.wire_lines.specs.Said.{Call, Said, Header, Keep, Node, Job, Rank, Calls, IsLawfulLine, is_name}
 use Rattle.wire_scripts.specs.Scripts.{text_at}
 use Rattle.wire_reader.specs.declared.limits.Size.{Size}
 use Rattle.wire_reader.specs.Limits.{largest}
@@ -140,7 +140,7 @@ pub record IsGood (d : Declared) : Type 0 where
   pub few : length d.processes ≤ largest.processes
   pub low : d.limits.processes ≤ largest.processes
 
-good_kept : (d : Declared) (n : ℕ) (a : Said) → IsLawful a → IsTaken d a → IsGood d → IsGood (after d n a)
+good_kept : (d : Declared) (n : ℕ) (a : Said) → IsLawfulLine a → IsTaken d a → IsGood d → IsGood (after d n a)
 good_kept d n (Header version) l t g = g
 good_kept d n Keep l t g = record { names = g.names; apart = g.apart; below = g.below; together = g.together; ranked = g.ranked; last = g.last; few = g.few; low = g.low }
 good_kept d n (Node name) l t g = record { names = g.names; apart = g.apart; below = g.below; together = g.together; ranked = g.ranked; last = g.last; few = g.few; low = g.low }

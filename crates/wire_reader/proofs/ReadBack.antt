@@ -4,7 +4,7 @@ use Rattle.std.specs.List.{flat_map}
 use Rattle.wire_types.specs.declared.Fault.{Fault}
 use Rattle.wire_types.specs.declared.Version.{Version}
 use Rattle.wire_lines.specs.Text.{lines_of}
-use Rattle.wire_lines.specs.Said.{Call, Said, Header, Keep, Node, Job, Rank, Calls, IsLawful}
+use Rattle.wire_lines.specs.Said.{Call, Said, Header, Keep, Node, Job, Rank, Calls, IsLawfulLine}
 use Rattle.wire_scripts.specs.Scripts.{Scripts}
 use Rattle.wire_reader.specs.declared.limits.Size.{Size}
 use Rattle.wire_scripts.specs.Canonical.{line_text, lines_said, canonical}
@@ -34,7 +34,7 @@ fit_push : (ps : List Started) (p : Started) → AllCalls (λ j b. IsFit b) ps �
 fit_push [] p h f = (f, tt)
 fit_push (q ∷ ps) p h f = (h.0, fit_push ps p h.1 f)
 
-fit_kept : (d : Declared) (n : ℕ) (a : Said) → IsLawful a → IsTaken d a → AllCalls (λ j b. IsFit b) d.processes → AllCalls (λ j b. IsFit b) (after d n a).processes
+fit_kept : (d : Declared) (n : ℕ) (a : Said) → IsLawfulLine a → IsTaken d a → AllCalls (λ j b. IsFit b) d.processes → AllCalls (λ j b. IsFit b) (after d n a).processes
 fit_kept d n (Header version) l t h = h
 fit_kept d n Keep l t h = h
 fit_kept d n (Node name) l t h = h

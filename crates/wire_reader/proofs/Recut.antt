@@ -13,7 +13,7 @@ use Rattle.wire_runs.proofs.Lists.{list_all_weaker}
 use Rattle.wire_types.specs.declared.Version.TheVariants as version
 use Rattle.wire_lines.specs.Text.{pieces_of, lines_of, is_blank, words_of}
 use Rattle.wire_lines.specs.Said.{Item, One, Every, Set, Own, Listed, Put, Commit, Fence, Get, GetNow, Publish, Lookup, LookupWait, Unpublish, UnpublishAll}
-use Rattle.wire_lines.specs.Said.{Said, Header, Keep, Node, Job, Rank, Calls, IsLawfulItem, AreLawful, IsLawfulSet, IsLawful, first_word, other_words, is_word_byte, is_name_byte, is_word, is_name}
+use Rattle.wire_lines.specs.Said.{Said, Header, Keep, Node, Job, Rank, Calls, IsLawfulItem, AreLawful, IsLawfulSet, IsLawfulLine, first_word, other_words, is_word_byte, is_name_byte, is_word, is_name}
 use Rattle.wire_lines.specs.Said.{spelled_proc, spelled_scope, spelled_item, spelled_set, collect_words}
 use Rattle.wire_lines.proofs.Colon.{and_left, and_right}
 use Rattle.wire_reader.specs.Statements.{Statement, is_skipped, statements_from, statements}
@@ -159,7 +159,7 @@ collect_word true = (refl, tt)
 collect_word false = tt
 
 -- what may be said is said in words
-words_said : (a : Said) → IsLawful a → AreWords (first_word a ∷ other_words a)
+words_said : (a : Said) → IsLawfulLine a → AreWords (first_word a ∷ other_words a)
 words_said (Header version.One) h = (refl, (refl, h))
 words_said (Header version.Two) h = (refl, (refl, h))
 words_said Keep h = (refl, tt)
@@ -196,7 +196,7 @@ said_counts (Calls (GetNow job rank key)) = refl
 
 abbrev pub AllLawful : List Said → Type 0
 AllLawful [] = ⊤
-AllLawful (a ∷ xs) = IsLawful a × AllLawful xs
+AllLawful (a ∷ xs) = IsLawfulLine a × AllLawful xs
 
 -- a line without its line feed
 abbrev pub line_of : Said → List ℕ

@@ -7,7 +7,7 @@ use Rattle.std.proofs.lemmas.List.{map-append}
 use borrow.Author.Tests.{leb-true, lt-ltb}
 use Rattle.wire_types.specs.declared.Version.{Version}
 use Rattle.wire_lines.specs.Said.{Call, Put, Commit, Fence, Get, GetNow, Publish, Lookup, LookupWait, Unpublish, UnpublishAll}
-use Rattle.wire_lines.specs.Said.{Said, Header, Keep, Node, Job, Rank, Calls, IsLawful, IsLawfulCall, is_word_byte}
+use Rattle.wire_lines.specs.Said.{Said, Header, Keep, Node, Job, Rank, Calls, IsLawfulLine, IsLawfulCall, is_word_byte}
 use Rattle.wire_lines.specs.Said.{is_word, is_name, is_key}
 use Rattle.wire_lines.proofs.Colon.{and_left, and_right}
 use Rattle.wire_scripts.specs.Scripts.{Scripts, text_at}
@@ -84,7 +84,7 @@ record AreLawful (d : Declared) : Type 0 where
   nodes : Each IsPrintedWhole d.nodes
   calls : AllLawful d.processes
 
-after_lawful : (d : Declared) (n : ℕ) (a : Said) → IsLawful a → AreLawful d → AreLawful (after d n a)
+after_lawful : (d : Declared) (n : ℕ) (a : Said) → IsLawfulLine a → AreLawful d → AreLawful (after d n a)
 after_lawful d n (Header version) l h = h
 after_lawful d n Keep l h = record { nodes = h.nodes; calls = h.calls }
 after_lawful d n (Node name) l h = record { nodes = each_both IsPrintedWhole d.nodes (name ∷ []) h.nodes (name_kept name l, tt); calls = h.calls }
