@@ -4,7 +4,7 @@ use Rattle.wire_runs.specs.Plan.{Plan, Event}
 use Rattle.wire_runs.specs.Findings.{Finding}
 use Rattle.wire_runs.specs.FindingsAnywhere.{PlacementFinding, OnAll, HasPlacementFinding, IsFoundSomewhere}
 use Rattle.wire_findings.specs.declared.finding.Finding.{Finding as Told}
-use Rattle.wire_findings.specs.Collected.{TellsPlacementFinding as TellsUnplaced}
+use Rattle.wire_findings.specs.Collected.{TellsFinding as TellsUnplaced}
 use Rattle.wire_anywhere.specs.declared.placed.PlacedFinding.{PlacedFinding}
 use Rattle.wire_anywhere.specs.Anywhere.{all_placed}
 

@@ -8,7 +8,7 @@ use Rattle.wire_types.specs.Front.{WritesFront}
 use Rattle.wire_scripts.specs.Scripts.{Scripts}
 use Rattle.wire_scripts.specs.Planned.{plan_of}
 use Rattle.wire_reader.specs.declared.Size.{Size}
-use Rattle.wire_reader.specs.Question.{QuestionReads, QuestionNames as AsksBoth, First, Second, Third, Fourth, IsCallNamed}
+use Rattle.wire_reader.specs.Question.{QuestionReads, Asks as AsksBoth, First, Second, Third, Fourth, IsCallNamed}
 use Rattle.wire_runs.specs.Ends.{calls_of}
 use Rattle.wire_scripts.proofs.PlannedCalls.{as_many_planned}
 use Rattle.wire_commands.specs.Plain.{ReadAs, Refuses}

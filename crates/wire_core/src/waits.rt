@@ -6,7 +6,7 @@ ghost use Rattle.wire_runs.specs.Plan.{event_of, kind as kind_in};
 ghost use Rattle.wire_scripts.specs.Planned.{plan_of};
 ghost use Rattle.wire_fence.specs.FenceTable.{AreFencesOf};
 ghost use Rattle.wire_plan.specs.Kinds.{kind_of};
-ghost use Rattle.wire_core.specs.Waiting.{is_known as is_known_wait, is_same_thing as is_same, after as after_it};
+ghost use Rattle.wire_core.specs.Waiting.{is_known_wait, is_same_thing as is_same, after as after_it};
 ghost use Rattle.wire_core.specs.Waiting.{coming, Awaits, IsFirst, AreUnknown};
 
 use std::alloc::Global;

@@ -20,7 +20,7 @@ use Rattle.wire_instances.specs.Views.{cast_by, choice_by}
 use Rattle.wire_cutoff_laws.specs.Sizes.{total_of}
 use Rattle.wire_pattern_waits.specs.declared.lines.CallLine.{CallLine}
 use Rattle.wire_pattern_waits.specs.LineSets.{has_line}
-use Rattle.wire_pattern_waits.specs.StuckAt.{StuckAt}
+use Rattle.wire_pattern_waits.specs.Stops.{StuckAt}
 use Rattle.wire_reader.specs.Limits.{file_bytes}
 use Rattle.wire_reader.proofs.Limited.{reads_limited}
 use Rattle.wire_pattern_later.specs.Later.{sizes_with, grown, StopsWith, IsReadWith, AreWaitingWith, AreLater, NoneBelow, IsNoneLater, IsPastLimits}

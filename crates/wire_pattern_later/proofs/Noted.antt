@@ -14,7 +14,7 @@ use Rattle.wire_scripts.specs.Scripts.{Scripts}
 use Rattle.wire_core.specs.EndsAfter.{plain_ends}
 use Rattle.wire_instances.proofs.Texts.{opened_list}
 use Rattle.wire_pattern_waits.specs.Places.{steps_places}
-use Rattle.wire_pattern_waits.specs.StuckAt.{StuckAt, ends_waiting, is_at, is_noted, process_stops, stops_from}
+use Rattle.wire_pattern_waits.specs.Stops.{StuckAt, ends_waiting, is_at, is_noted, process_stops, stops_from}
 use Rattle.wire_pattern_waits.proofs.Noted.{stops_told}
 
 or_apart : (a b c : Bool) → ((a || b) || c) ≡ (a || (b || c))

@@ -11,7 +11,7 @@ use Rattle.wire_pattern.specs.Instances.{Cast, instance_text}
 use Rattle.wire_cutoff_laws.specs.Sizes.{total_of}
 use Rattle.wire_pattern_waits.specs.declared.lines.CallLine.{CallLine}
 use Rattle.wire_pattern_waits.specs.Lines.{call_lines, name_in}
-use Rattle.wire_pattern_waits.specs.StuckAt.{StuckAt}
+use Rattle.wire_pattern_waits.specs.Stops.{StuckAt}
 use Rattle.wire_pattern_later.specs.Through.{first_size, last_size}
 
 -- n processes of each group, and one of each single role

@@ -13,7 +13,7 @@ use Rattle.wire_pattern.specs.Planned.{steps_in}
 use Rattle.wire_pattern.specs.Instances.{Cast, cast_of}
 use Rattle.wire_pattern_waits.specs.declared.stops.Stop.{Stop}
 use Rattle.wire_pattern_waits.specs.Places.{steps_places}
-use Rattle.wire_pattern_waits.specs.StuckAt.{StuckAt, is_at, is_noted, process_stops, stops_from}
+use Rattle.wire_pattern_waits.specs.Stops.{StuckAt, is_at, is_noted, process_stops, stops_from}
 
 pub or_either : (a b : Bool) → (a || b) ≡ true → (a ≡ true) ⊎ (b ≡ true)
 or_either true b h = inl refl

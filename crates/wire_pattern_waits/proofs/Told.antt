@@ -16,7 +16,7 @@ use Rattle.wire_cutoff_laws.specs.Sizes.{total_of}
 use Rattle.wire_cutoff.specs.Judged.{IsFewCast}
 use Rattle.wire_cutoff.specs.Selections.{Selection, IsCastFor}
 use Rattle.wire_pattern_waits.specs.declared.stops.Stop.{Stop}
-use Rattle.wire_pattern_waits.specs.StuckAt.{StuckAt, is_noted}
+use Rattle.wire_pattern_waits.specs.Stops.{StuckAt, is_noted}
 use Rattle.wire_pattern_waits.specs.Waits.{alone, StopsIn}
 
 counted : (xs : List ℕ) (a n : ℕ) → length xs ≡ n → ((v : ℕ) → v < n → slice_index_or xs v 0 ≡ a + v) → xs ≡ range_with_len a n

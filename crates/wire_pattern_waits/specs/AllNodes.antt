@@ -7,7 +7,7 @@ use Rattle.wire_reader.specs.Reads.{Reads}
 use Rattle.wire_pattern.specs.Pattern.{Pattern}
 use Rattle.wire_pattern.specs.Instances.{Cast, instance_text}
 use Rattle.wire_cutoff.specs.Selections.{Selection, selections}
-use Rattle.wire_pattern_waits.specs.StuckAt.{StuckAt}
+use Rattle.wire_pattern_waits.specs.Stops.{StuckAt}
 use Rattle.wire_pattern_waits.specs.Waits.{alone, StopsIn, Waits}
 
 -- on whatever nodes the processes of scripts are, they wait at the same call lines

@@ -16,7 +16,7 @@ use Rattle.wire_cutoff_laws.specs.Choices.{optional_turns, chosen_by}
 use Rattle.wire_cutoff.specs.Selections.{Selection, selections}
 use Rattle.wire_pattern_waits.specs.declared.lines.CallLine.{CallLine}
 use Rattle.wire_pattern_waits.specs.Lines.{call_lines}
-use Rattle.wire_pattern_waits.specs.StuckAt.{StuckAt}
+use Rattle.wire_pattern_waits.specs.Stops.{StuckAt}
 
 -- the processes and the turns of a selection, each process on a node of its own
 abbrev pub alone : Pattern → Selection → Cast

@@ -10,8 +10,8 @@ ghost use Rattle.wire_pattern.specs.Planned.{steps_in};
 ghost use Rattle.wire_instances.specs.Views.{cast_by};
 ghost use Rattle.wire_pattern_waits.specs.LineSets.{has_line};
 ghost use Rattle.wire_pattern_waits.specs.Places.{steps_places};
-ghost use Rattle.wire_pattern_waits.specs.StuckAt as spec;
-ghost use Rattle.wire_pattern_waits.specs.StuckAt.{StuckAt};
+ghost use Rattle.wire_pattern_waits.specs.Stops as spec;
+ghost use Rattle.wire_pattern_waits.specs.Stops.{StuckAt};
 
 use crate::line_set::LineSet;
 use crate::places::{Caller, places_of};

@@ -4,8 +4,8 @@ use Rattle.std.specs.Borrow.{Bor}
 use Rattle.std.specs.declared.alloc.Global.{Global}
 use Rattle.wire_portable.specs.Spelling.{SaidOfCalls, SpelledSet, CallRows}
 use Rattle.wire_portable.specs.Spelling as spec
-use Rattle.wire_portable.specs.declared.spelled.SaidOfCalls.{SaidOfCalls as CodeSaid}
-use Rattle.wire_portable.specs.declared.spelled.SaidOfCalls.TheVariants.{Nothing, Rank, Job, Call}
+use Rattle.wire_portable.specs.declared.spelled.Said.{Said as CodeSaid}
+use Rattle.wire_portable.specs.declared.spelled.Said.TheVariants.{Nothing, Rank, Job, Call}
 use Rattle.wire_portable.specs.declared.spelled.SpelledSet.{SpelledSet as CodeSet}
 
 abbrev pub word_by : Option (Bor (List ℕ)) → Option (List ℕ)

@@ -11,7 +11,7 @@ use Rattle.wire_types.specs.declared.Version.{Version}
 use Rattle.wire_runs.proofs.Lists.{one_longer, slice_get_push_cases}
 use Rattle.wire_types.specs.declared.Call.{Call as Written}
 use Rattle.wire_types.specs.declared.Call.TheVariants as written
-use Rattle.wire_types.specs.SaidOfCalls as said
+use Rattle.wire_types.specs.Said as said
 use Rattle.wire_lines.specs.Text.{lines_of, words_of}
 use Rattle.wire_scripts.specs.Map.{job_at, job_in as job_of}
 use Rattle.wire_scripts.specs.Process.{Process}

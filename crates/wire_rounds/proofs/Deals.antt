@@ -3,7 +3,7 @@ use Rattle.std.proofs.Common.{◌≡◌, ◌≢◌, ℕ, zero, suc, ◌+◌, ◌
 use mathlib.Core.Option.{some, some-ne-none, some-injective}
 use lib.ListN.{get_elem?}
 use lib.Seq.{drop-append_seam}
-use Rattle.crossbeam_deque.specs.Tasks.{Pushes, Takes as TakesAt, TookAll as FindsAt, FindsFew, Forks, Merges}
+use Rattle.crossbeam_deque.specs.Tasks.{Pushes, Takes as TakesAt, Finds as FindsAt, FindsFew, Forks, Merges}
 use Rattle.crossbeam_deque.proofs.Lists.{at_set, at_snoc}
 use Rattle.wire_rounds.specs.declared.rule.Piece.{Piece}
 use Rattle.wire_rounds.specs.declared.rule.DequeView.{DequeView}
