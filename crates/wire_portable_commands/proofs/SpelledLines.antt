@@ -39,7 +39,7 @@ set_said (said.LookupWait name) = None
 set_said (said.Unpublish name) = None
 set_said said.UnpublishAll = None
 
-abbrev spelling_said : said.SaidOfCalls → SaidOfCalls
+abbrev spelling_said : said.Said → SaidOfCalls
 spelling_said (said.Header version) = Nothing
 spelling_said said.Keep = Nothing
 spelling_said (said.Node name) = Nothing
@@ -59,7 +59,7 @@ call_words (said.LookupWait name) = refl
 call_words (said.Unpublish name) = refl
 call_words said.UnpublishAll = refl
 
-line_words : (line : said.SaidOfCalls) → said_of (said.first_word line ∷ said.other_words line) ≡ spelling_said line
+line_words : (line : said.Said) → said_of (said.first_word line ∷ said.other_words line) ≡ spelling_said line
 line_words (said.Header version) = refl
 line_words said.Keep = refl
 line_words (said.Node name) = refl
@@ -67,7 +67,7 @@ line_words (said.Job name) = refl
 line_words (said.Rank node) = refl
 line_words (said.Calls call) = call_words call
 
-words_said : (words : List (List ℕ)) (line : said.SaidOfCalls) → said.Says words line → said_of words ≡ spelling_said line
+words_said : (words : List (List ℕ)) (line : said.Said) → said.Says words line → said_of words ≡ spelling_said line
 words_said words line says = ap said_of says.0 ∙ line_words line
 
 -- lines that are skipped say nothing
@@ -186,7 +186,7 @@ at_last [] p = refl
 at_last (x ∷ ps) p = at_last ps p
 
 -- one line more
-record IsStep (d : Declared) (line : said.SaidOfCalls) (new : Declared) : Type 0 where
+record IsStep (d : Declared) (line : said.Said) (new : Declared) : Type 0 where
   now : IsNow new
   job : last_job new.jobs ≡ job_after (last_job d.jobs) (spelling_said line)
   rows : (behind : CallRows) → extend (rows_of new) behind ≡ extend (rows_of d) (calls_with (last_job d.jobs) (spelling_said line) behind)
@@ -195,7 +195,7 @@ and_first : (a b : Bool) → (a && b) ≡ true → a ≡ true
 and_first true b h = refl
 and_first false b h = absurd (true≢false (sym h))
 
-step : (d : Declared) (n : ℕ) (line : said.SaidOfCalls) → is_in_place d line ≡ true → IsNow d → IsStep d line (after d n line)
+step : (d : Declared) (n : ℕ) (line : said.Said) → is_in_place d line ≡ true → IsNow d → IsStep d line (after d n line)
 step d n (said.Header version) placed now = absurd (true≢false (sym placed))
 step d n said.Keep placed now = record { now = record { within = now.within; last = now.last }; job = refl; rows = λ behind. refl }
 step d n (said.Node name) placed now = record { now = record { within = now.within; last = now.last }; job = refl; rows = λ behind. refl }
@@ -258,7 +258,7 @@ same_ok : {A : Type 0} {a b : A} → ◌≡◌ {A = Result A Fault} (Ok a) (Ok b
 same_ok e = cc
 
 -- a line that is judged without a fault
-judged_ok : (d : Declared) (n : ℕ) (line : said.SaidOfCalls) (new : Declared) → ◌≡◌ {A = Result Declared Fault} (Ok new) (judged d n line) → (is_in_place d line ≡ true) × (new ≡ after d n line)
+judged_ok : (d : Declared) (n : ℕ) (line : said.Said) (new : Declared) → ◌≡◌ {A = Result Declared Fault} (Ok new) (judged d n line) → (is_in_place d line ≡ true) × (new ≡ after d n line)
 judged_ok d n line new e = place (is_in_place d line) refl e
   where
     room : (b : Bool) → ◌≡◌ {A = Result Declared Fault} (Ok new) (cond (not b) (Err (TooMany n)) (Ok (after d n line))) → new ≡ after d n line
@@ -293,7 +293,7 @@ module _ (e : Declared) where
   all_said [] d now judges = ap rows_of (same_ok judges) ∙ sym (extend_none (rows_of d))
   all_said (line ∷ lines) d now judges = go judges.0 judges.1 judges.2 (all_said lines)
     where
-      taken : (said_line : said.SaidOfCalls) (new : Declared) → said.Says line.1 said_line → is_in_place d said_line ≡ true → new ≡ after d line.0 said_line → JudgesAll new lines (Ok e) →
+      taken : (said_line : said.Said) (new : Declared) → said.Says line.1 said_line → is_in_place d said_line ≡ true → new ≡ after d line.0 said_line → JudgesAll new lines (Ok e) →
           ((d : Declared) → IsNow d → JudgesAll d lines (Ok e) → rows_of e ≡ extend (rows_of d) (calls_in (last_job d.jobs) (map (λ (l : Statement). l.1) lines))) →
           rows_of e ≡ extend (rows_of d) (calls_in (last_job d.jobs) (map (λ (l : Statement). l.1) (line ∷ lines)))
       taken said_line new says placed is rest ih =
