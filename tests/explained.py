@@ -182,7 +182,7 @@ REFUSED_PATTERNS = (
         "a word misspelt behind a loop",
         b"pattern 1\njob app\nmany w\nfor w\nend\nfr w\n",
         (
-            b"fault 4 BadLine 6\n  6 | fr w\n  expected: a call, 'for GROUP', 'one NAME', "
+            b"fault 4 BadLine 6\n  6 | fr w\n  expected: a call, 'for ROLES', 'one NAME', "
             b"'many NAME' or 'job NAME'\n  nearest word: for\n"
         ),
     ),
@@ -253,11 +253,30 @@ REFUSED_PATTERNS = (
         ),
     ),
     (
+        "a fence over the group of its loop",
+        b"pattern 1\njob app\nmany w\nfor w\nfence self,each,w\nend\n",
+        (
+            b"fault 4 BadLine 5\n  5 | fence self,each,w\n  expected: 'fence all' or 'fence "
+            b"ITEM,ITEM,..', then nothing or 'collect', below a role, not in 'for some'; ITEM is a "
+            b"role, JOB:*, self or each; in a loop one is each, and none has the loop's whole "
+            b"role\n"
+        ),
+    ),
+    (
+        "a role twice in a list",
+        b"pattern 1\njob app\nmany w\nfor w,w\n",
+        (
+            b"fault 6 Twice 4\n  4 | for w,w\n  expected: a name that no earlier line of this kind "
+            b"has, and in a list each role once\n"
+        ),
+    ),
+    (
         "too many jobs",
         b"pattern 1\n" + b"".join(b"job j%d\n" % it for it in range(17)),
         (
-            b"fault 8 TooMany 18\n  18 | job j16\n  expected: no more jobs, roles, groups or turns "
-            b"of 'for some' than a pattern may have, and instances within the limits of plans\n"
+            b"fault 8 TooMany 18\n  18 | job j16\n  expected: no more jobs, roles, groups, roles "
+            b"in a list or turns of 'for some' than a pattern may have, and instances within the "
+            b"limits of plans\n"
         ),
     ),
 )

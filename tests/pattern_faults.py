@@ -66,6 +66,8 @@ def loops() -> Iterator[Refusal]:
     yield Refusal(f"{TWO}for root,w cyclic / end", "BadLine", 5)
     yield Refusal(f"{TWO}for root,w,root / end", "Twice", 5)
     yield Refusal(f"{TWO}for some w,w / end", "Twice", 5)
+    yield Refusal(f"{TWO}for w,a,b,c,d,e,f,g,w / end", "Twice", 5)
+    yield Refusal(f"{TWO}for w,a,b,c,d,e,f,g,h,w / end", "TooMany", 5)
     for line in ("for w", "job srv", "one root", "many v", "keep"):
         yield Refusal(f"{GROUP}for w / {line} / end", "BadLine", 5)
     yield Refusal(f"{GROUP}end", "BadLine", 4)
@@ -107,7 +109,7 @@ def unknown() -> Iterator[Refusal]:
     yield Refusal(f"{GROUP}fence self,srv:*", "UnknownName", 4)
     yield Refusal(f"{GROUP}for v / end", "UnknownName", 4)
     yield Refusal(f"{TWO}for root,v / end", "UnknownName", 5)
-    yield Refusal(f"{TWO}for root,v / get no k[each] / end", "UnknownName", 6)
+    yield Refusal(f"{TWO}for root,v / get no k[each] / end", "UnknownName", 5)
     yield Refusal(f"{GROUP}for v / lookup x[each,root] / end", "UnknownName", 4)
     yield Refusal(f"{TWO}get w k[root]", "BadLine", 5)
     yield Refusal(f"{TWO}get root k[w]", "BadLine", 5)
@@ -146,7 +148,7 @@ def limits() -> Iterator[Refusal]:
     yield Refusal(f"{GROUP}for {name} / end", "TooLong", 4)
     yield Refusal(f"{GROUP}for w,{name} / end", "TooLong", 4)
     yield Refusal(f"{GROUP}for {','.join(f'w{it}' for it in range(9))} / end", "TooMany", 4)
-    yield Refusal(f"{GROUP}for {','.join(['w'] * 9)} / end", "TooMany", 4)
+    yield Refusal(f"{GROUP}for {','.join(['w'] * 9)} / end", "Twice", 4)
     for line in (f"get {name} k", f"lookup {long}", f"lookup {long}[self]", f"lookup k[{name}]"):
         yield Refusal(f"{GROUP}{line}", "TooLong", 4)
     for line in (f"publish k {value}", f"put local k {value}", f"fence self,{name}"):

@@ -288,7 +288,8 @@ class FirstPass:
         self.judge(at, is_well and self.is_in_role() and not self.loop)
         if any(len(it) > NAME_BYTES for it in self.listed):
             raise Refused("TooLong", at)
-        if len(self.listed) <= LISTED and len({*self.listed}) < len(self.listed):
+        front = self.listed[: LISTED + 1]
+        if len({*front}) < len(front):
             raise Refused("Twice", at)
         if len(self.listed) > LISTED:
             raise Refused("TooMany", at)
@@ -338,8 +339,8 @@ class SecondPass:
                     self.judge_line(role, step, None)
 
     def judge_loop(self, role: Role, loop: Loop) -> None:
-        group = self.pattern.role(loop.group)
-        if not group:
+        loops = [it for it in role.steps if isinstance(it, Loop) and it.at == loop.at]
+        if not all(self.pattern.role(it.group) for it in loops):
             raise Refused("UnknownName", loop.at)
         for line in loop.lines:
             self.judge_line(role, line, loop)

@@ -97,9 +97,9 @@ def explained_patterns() -> Runs:
         group,
         status=2,
         said=(
-            b"wire_up: fault 8 TooMany 3\n  3 | many w\n  expected: no more jobs, roles, groups or "
-            b"turns of 'for some' than a pattern may have, and instances within the limits of "
-            b"plans\n"
+            b"wire_up: fault 8 TooMany 3\n  3 | many w\n  expected: no more jobs, roles, groups, "
+            b"roles in a list or turns of 'for some' than a pattern may have, and instances within "
+            b"the limits of plans\n"
         ),
     )
 

@@ -37,7 +37,7 @@ expected_in_plan InLoop = codes "a call of this rank, 'rank NODE' or 'job NAME'"
 abbrev pub expected_in_pattern : Place → List ℕ
 expected_in_pattern Opening = codes "'job NAME', or 'keep' right below 'pattern 1'"
 expected_in_pattern InJob = codes "'one NAME', 'many NAME' or 'job NAME'"
-expected_in_pattern InRank = codes "a call, 'for GROUP', 'one NAME', 'many NAME' or 'job NAME'"
+expected_in_pattern InRank = codes "a call, 'for ROLES', 'one NAME', 'many NAME' or 'job NAME'"
 expected_in_pattern InLoop = codes "a call that a loop may have, or 'end'"
 
 abbrev pub expected_at : Language → Place → List ℕ
@@ -70,13 +70,19 @@ expected_lengths language = by_language language
 abbrev pub expected_limits : Language → List ℕ
 expected_limits language = by_language language
     (codes "no more nodes, jobs, ranks or calls than the limits (with --large, which 'witness' doesn't take, they are larger)")
-    (codes "no more jobs, roles, groups or turns of 'for some' than a pattern may have, and instances within the limits of plans")
+    (codes "no more jobs, roles, groups, roles in a list or turns of 'for some' than a pattern may have, and instances within the limits of plans")
 
 -- how the first line is written
 abbrev pub expected_header : Language → List ℕ
 expected_header language = by_language language
     (codes "'rehearsal 1' or 'rehearsal 2', before all other lines")
     (codes "'pattern 1', before all other lines")
+
+-- which names may stand once
+abbrev pub expected_once : Language → List ℕ
+expected_once language = by_language language
+    (codes "a name that no earlier line of this kind has")
+    (codes "a name that no earlier line of this kind has, and in a list each role once")
 
 -- which names may be told of
 abbrev pub expected_names : Language → List ℕ
@@ -91,7 +97,7 @@ expected language bytes (TooLong line) = expected_lengths language
 expected language bytes (BadHeader line) = expected_header language
 expected language bytes (BadLine line) = expected_line language bytes line
 expected language bytes (UnknownName line) = expected_names language
-expected language bytes (Twice line) = codes "a name that no earlier line of this kind has"
+expected language bytes (Twice line) = expected_once language
 expected language bytes (NotMember line) = codes "a set with the rank that calls the fence"
 expected language bytes (TooMany line) = expected_limits language
 expected language bytes Workers = codes "1 to 64 workers"

@@ -45,7 +45,7 @@ pattern_usages =
     ∷ (
       codes "fence",
       codes "'fence all' or 'fence ITEM,ITEM,..', then nothing or 'collect', below a role, not in 'for some';"
-          ++ codes " ITEM is a role, JOB:*, self or each; in a loop one is each, and none has the whole group",
+          ++ codes " ITEM is a role, JOB:*, self or each; in a loop one is each, and none has the loop's whole role",
     )
     ∷ (
       codes "get",

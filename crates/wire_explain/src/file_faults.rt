@@ -50,7 +50,7 @@ fn expected_in_pattern(place: Place) -> &'static str
     match place {
         Place::Opening => "'job NAME', or 'keep' right below 'pattern 1'",
         Place::InJob => "'one NAME', 'many NAME' or 'job NAME'",
-        Place::InRank => "a call, 'for GROUP', 'one NAME', 'many NAME' or 'job NAME'",
+        Place::InRank => "a call, 'for ROLES', 'one NAME', 'many NAME' or 'job NAME'",
         Place::InLoop => "a call that a loop may have, or 'end'",
     }
 }
@@ -140,8 +140,8 @@ fn expected_limits(language: Language) -> &'static str
         language,
         "no more nodes, jobs, ranks or calls than the limits (with --large, which 'witness' doesn't take, they are \
          larger)",
-        "no more jobs, roles, groups or turns of 'for some' than a pattern may have, and instances within the \
-         limits of plans",
+        "no more jobs, roles, groups, roles in a list or turns of 'for some' than a pattern may have, and instances \
+         within the limits of plans",
     )
 }
 
@@ -153,6 +153,17 @@ fn expected_header(language: Language) -> &'static str
         language,
         "'rehearsal 1' or 'rehearsal 2', before all other lines",
         "'pattern 1', before all other lines",
+    )
+}
+
+/// Which names may stand once.
+fn expected_once(language: Language) -> &'static str
+    ensures { result.now ≡ spec.expected_once language }
+{
+    by_language(
+        language,
+        "a name that no earlier line of this kind has",
+        "a name that no earlier line of this kind has, and in a list each role once",
     )
 }
 
@@ -182,8 +193,8 @@ fn expected_text(
         Fault::BadHeader(_) => return Ok(expected_header(language)),
         Fault::UnknownName(_) => return Ok(expected_names(language)),
         Fault::TooMany(_) => return Ok(expected_limits(language)),
+        Fault::Twice(_) => return Ok(expected_once(language)),
         Fault::Memory => "more memory",
-        Fault::Twice(_) => "a name that no earlier line of this kind has",
         Fault::NotMember(_) => "a set with the rank that calls the fence",
         Fault::Workers => "1 to 64 workers",
         Fault::Read => "a file that can be opened and read",

@@ -91,7 +91,7 @@ static PATTERN_USAGES: [(&str, &str); 16] = [
     (
         "fence",
         "'fence all' or 'fence ITEM,ITEM,..', then nothing or 'collect', below a role, not in 'for some'; ITEM is \
-         a role, JOB:*, self or each; in a loop one is each, and none has the whole group",
+         a role, JOB:*, self or each; in a loop one is each, and none has the loop's whole role",
     ),
     (
         "get",

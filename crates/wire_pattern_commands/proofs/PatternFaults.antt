@@ -11,7 +11,7 @@ use Rattle.wire_pattern.specs.Pattern.{Line, Step, Once, Loop, Role, Pattern}
 use Rattle.wire_pattern_lines.specs.Said.{Said}
 use Rattle.wire_pattern_script.specs.FirstPass.{Declared, FirstPass, Judges, JudgesAll, after, has_room, is_again, is_in_place, is_short, judged, nothing}
 use Rattle.wire_pattern_script.specs.Faults as faults
-use Rattle.wire_pattern_script.specs.Faults.{bad_if, commit_fault, commit_line, commits_fault, first_fault, group_fault, line_fault, scripts_fault, step_fault, turn_fault, fits_loop}
+use Rattle.wire_pattern_script.specs.Faults.{bad_if, commit_fault, commit_line, commits_fault, first_fault, role_fault, line_fault, list_fault, listed_fault, names_fault, role_listed, scripts_fault, step_fault, steps_fault, turn_fault, fits_loop}
 use Rattle.wire_pattern_script.specs.Numbers.{pattern_of}
 use Rattle.wire_pattern_script.specs.Reads.{ReadsPattern, ReadsShort, unless_fault}
 use Rattle.wire_instances.specs.Faults.{fault_by}
@@ -82,20 +82,38 @@ one_test : (a : Bool) (n : ℕ) → NoneRead (if a then None else Some (UnknownN
 one_test true n = tt
 one_test false n = refl
 
-group_no_read : (roles : List Role) (number group : ℕ) → NoneRead (group_fault roles number group)
-group_no_read roles number group = one_test _ number
+role_no_read : (roles : List Role) (number role : ℕ) → NoneRead (role_fault roles number role)
+role_no_read roles number role = one_test _ number
 
 step_no_read : (jobs : ℕ) (roles : List Role) (caller : ℕ) (step : Step) → NoneRead (step_fault jobs roles caller step)
 step_no_read jobs roles caller (Once line) = line_no_read jobs roles caller true line
-step_no_read jobs roles caller (Loop number group turns lines) =
-    both_no_read (group_fault roles number group) _ (group_no_read roles number group)
-    (each_no_read (turn_fault jobs roles caller group turns) (λ line. line_no_read jobs roles caller (fits_loop roles group turns line.call) line) lines)
+step_no_read jobs roles caller (Loop number role turns lines) =
+    both_no_read (role_fault roles number role) _ (role_no_read roles number role)
+    (each_no_read (turn_fault jobs roles caller role turns) (λ line. line_no_read jobs roles caller (fits_loop roles role turns line.call) line) lines)
+
+list_no_read : (roles : List Role) (number : ℕ) (steps : List Step) → NoneRead (list_fault roles number steps)
+list_no_read roles number [] = tt
+list_no_read roles number (step ∷ steps) = go (role_listed number step) (list_no_read roles number steps)
+  where
+    go : (o : Option ℕ) → NoneRead (list_fault roles number steps) → NoneRead (listed_fault roles number o (list_fault roles number steps))
+    go None rest = tt
+    go (Some role) rest = both_no_read (role_fault roles number role) (list_fault roles number steps) (role_no_read roles number role) rest
+
+names_no_read : (roles : List Role) (step : Step) (steps : List Step) → NoneRead (names_fault roles step steps)
+names_no_read roles (Once line) steps = tt
+names_no_read roles (Loop number role turns lines) steps = list_no_read roles number steps
+
+steps_no_read : (jobs : ℕ) (roles : List Role) (caller : ℕ) (steps : List Step) → NoneRead (steps_fault jobs roles caller steps)
+steps_no_read jobs roles caller [] = tt
+steps_no_read jobs roles caller (step ∷ steps) =
+    both_no_read (names_fault roles step steps) (first_of (step_fault jobs roles caller step) (steps_fault jobs roles caller steps)) (names_no_read roles step steps)
+    (both_no_read (step_fault jobs roles caller step) (steps_fault jobs roles caller steps) (step_no_read jobs roles caller step) (steps_no_read jobs roles caller steps))
 
 scripts_no_read : (jobs : ℕ) (roles : List Role) (n : ℕ) (others : List Role) → NoneRead (scripts_fault jobs roles n others)
 scripts_no_read jobs roles n [] = tt
 scripts_no_read jobs roles n (role ∷ others) =
-    both_no_read (first_fault (step_fault jobs roles n) role.steps) (scripts_fault jobs roles (n + 1) others)
-    (each_no_read (step_fault jobs roles n) (step_no_read jobs roles n) role.steps) (scripts_no_read jobs roles (n + 1) others)
+    both_no_read (steps_fault jobs roles n role.steps) (scripts_fault jobs roles (n + 1) others) (steps_no_read jobs roles n role.steps)
+    (scripts_no_read jobs roles (n + 1) others)
 
 bad_no_read : (bad : Bool) (line : Option ℕ) → NoneRead (bad_if bad line)
 bad_no_read bad None = tt
@@ -104,7 +122,7 @@ bad_no_read false (Some number) = tt
 
 commit_no_read : (waits : Bool) (step : Step) → NoneRead (commit_fault waits step)
 commit_no_read waits (Once line) = tt
-commit_no_read waits (Loop number group turns lines) = bad_no_read (waits || waits_after_all false lines) (commit_line lines)
+commit_no_read waits (Loop number role turns lines) = bad_no_read (waits || waits_after_all false lines) (commit_line lines)
 
 commits_no_read : (waits : Bool) (steps : List Step) → NoneRead (commits_fault waits steps)
 commits_no_read waits [] = tt

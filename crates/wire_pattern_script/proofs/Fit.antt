@@ -236,7 +236,7 @@ fit_after d line (Single name) lawful place short new room f =
 fit_after d line (Many name least) lawful place short new room f =
     let few : nat_le least 9 ≡ true = and_right _ _ lawful in
     fit_role d line name false least f (ltb-true 0 (length d.jobs) (and_left _ _ place)) (ltb-true (length d.roles) role_limit (and_left _ _ room)) (and_left _ _ lawful) short new (rw few refl)
-fit_after d line (Begin turns group) lawful place short new room f = record {
+fit_after d line (Begin turns roles) lawful place short new room f = record {
   few_jobs = f.few_jobs;
   few_roles = f.few_roles;
   named_jobs = f.named_jobs;

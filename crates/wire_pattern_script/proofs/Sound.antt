@@ -22,7 +22,7 @@ use Rattle.wire_pattern_lines.specs.Said as said
 use Rattle.wire_pattern_script.specs.FirstPass.{LocatedCall, LoopLines, StepLines, OnceLine, LoopOf, RoleLines, Declared}
 use Rattle.wire_pattern_script.specs.Numbers.{who_of, is_single_lines, role_number, item_of, call_of, line_of, loop_of, steps_of, role_of, pattern_of}
 use Rattle.wire_pattern_script.specs.Fit.{is_fit_line, is_fit_turn, is_fit_step, has_fit_steps, has_least, are_rising, IsFit}
-use Rattle.wire_pattern_script.specs.Faults.{first_fault, is_declared, fits_loop, line_fault, turn_fault, step_fault, scripts_fault, commit_line, bad_if, commit_fault, commits_fault, third_fault, roles_fault, pattern_fault}
+use Rattle.wire_pattern_script.specs.Faults.{first_fault, is_declared, fits_loop, line_fault, turn_fault, step_fault, steps_fault, scripts_fault, commit_line, bad_if, commit_fault, commits_fault, third_fault, roles_fault, pattern_fault}
 use Rattle.wire_pattern_script.proofs.Mapped.{all_of}
 
 both : (a b : Bool) → a ≡ true → b ≡ true → (a && b) ≡ true
@@ -39,7 +39,7 @@ is_turn_of_loop line = has_words line.call && (is_commit line.call || names_each
 
 abbrev has_fit_words : Step → Bool
 has_fit_words (Once line) = has_words line.call && not (names_each line.call)
-has_fit_words (Loop number group turns lines) = list_all is_turn_of_loop lines
+has_fit_words (Loop number role turns lines) = list_all is_turn_of_loop lines
 
 module _ (d : Declared) where
   whos_each : (ps : List said.Proc) → list_any is_each (map (who_of d) ps) ≡ list_any said.is_each ps
@@ -151,20 +151,20 @@ module _ (jobs : ℕ) (roles : List Role) (caller : ℕ) where
   call_sound : (c : Call) → has_words c ≡ true → names_known jobs roles c ≡ true → is_member_call roles caller c ≡ true → is_sound_call jobs roles caller c ≡ true
   call_sound c w k m = both (has_words c) _ w (both (names_known jobs roles c) _ k m)
 
-  turn_sound : (group : ℕ) (turns : Turns) (line : Line) → is_turn_of_loop line ≡ true → turn_fault jobs roles caller group turns line ≡ None
-      → (is_sound_call jobs roles caller line.call && is_loop_call roles group turns line.call) ≡ true
-  turn_sound group turns line fit none =
-      let n = line_none (fits_loop roles group turns line.call) line none in
+  turn_sound : (role : ℕ) (turns : Turns) (line : Line) → is_turn_of_loop line ≡ true → turn_fault jobs roles caller role turns line ≡ None
+      → (is_sound_call jobs roles caller line.call && is_loop_call roles role turns line.call) ≡ true
+  turn_sound role turns line fit none =
+      let n = line_none (fits_loop roles role turns line.call) line none in
       both (is_sound_call jobs roles caller line.call) _ (call_sound line.call (and_left _ _ fit) n.0 n.2)
       (both (is_commit line.call || names_each line.call) _ (and_right (has_words line.call) _ fit) n.1)
 
-  turns_sound : (group : ℕ) (turns : Turns) (lines : List Line) → list_all is_turn_of_loop lines ≡ true → first_fault (turn_fault jobs roles caller group turns) lines ≡ None
-      → list_all (λ l. is_sound_call jobs roles caller l.call && is_loop_call roles group turns l.call) lines ≡ true
-  turns_sound group turns [] fit none = refl
-  turns_sound group turns (line ∷ lines) fit none =
+  turns_sound : (role : ℕ) (turns : Turns) (lines : List Line) → list_all is_turn_of_loop lines ≡ true → first_fault (turn_fault jobs roles caller role turns) lines ≡ None
+      → list_all (λ l. is_sound_call jobs roles caller l.call && is_loop_call roles role turns l.call) lines ≡ true
+  turns_sound role turns [] fit none = refl
+  turns_sound role turns (line ∷ lines) fit none =
       let n = first_none _ _ none in
-      both (is_sound_call jobs roles caller line.call && is_loop_call roles group turns line.call) _
-      (turn_sound group turns line (and_left _ _ fit) n.0) (turns_sound group turns lines (and_right _ _ fit) n.1)
+      both (is_sound_call jobs roles caller line.call && is_loop_call roles role turns line.call) _
+      (turn_sound role turns line (and_left _ _ fit) n.0) (turns_sound role turns lines (and_right _ _ fit) n.1)
 
   not_bad : (bad : Bool) (n : ℕ) → (if bad then Some (BadLine n) else None) ≡ None → bad ≡ false
   not_bad true n h = absurd (cc)
@@ -184,40 +184,40 @@ module _ (jobs : ℕ) (roles : List Role) (caller : ℕ) where
   commit_right true false true h = absurd (true≢false (h refl))
   commit_right true false false h = refl
 
-  no_group_fault : (a : Bool) (n : ℕ) → (if a then None else Some (UnknownName n)) ≡ None → a ≡ true
-  no_group_fault false n h = absurd (cc)
-  no_group_fault true n h = refl
+  no_role_fault : (a : Bool) (n : ℕ) → (if a then None else Some (UnknownName n)) ≡ None → a ≡ true
+  no_role_fault false n h = absurd (cc)
+  no_role_fault true n h = refl
 
   step_sound : (w : Bool) (s : Step) → has_fit_words s ≡ true → step_fault jobs roles caller s ≡ None → commit_fault w s ≡ None → is_sound_step jobs roles caller w s ≡ true
   step_sound w (Once line) fit none commit =
       let n = line_none true line none in
       both (is_sound_call jobs roles caller line.call) _ (call_sound line.call (and_left _ _ fit) n.0 n.2) (and_right (has_words line.call) _ fit)
-  step_sound w (Loop number group turns lines) fit none commit =
+  step_sound w (Loop number role turns lines) fit none commit =
       let n = first_none _ _ none in
-      both (nat_lt group (length roles)) _ (no_group_fault (nat_lt group (length roles)) number n.0)
-      (both (list_all (λ x. is_sound_call jobs roles caller x.call && is_loop_call roles group turns x.call) lines) _ (turns_sound group turns lines fit n.1)
+      both (nat_lt role (length roles)) _ (no_role_fault (nat_lt role (length roles)) number n.0)
+      (both (list_all (λ x. is_sound_call jobs roles caller x.call && is_loop_call roles role turns x.call) lines) _ (turns_sound role turns lines fit n.1)
       (commit_right (has_commit lines) w (waits_after_all false lines) (no_bad_commit (w || waits_after_all false lines) lines commit)))
 
-  steps_sound : (w : Bool) (ss : List Step) → list_all has_fit_words ss ≡ true → first_fault (step_fault jobs roles caller) ss ≡ None
+  steps_sound : (w : Bool) (ss : List Step) → list_all has_fit_words ss ≡ true → steps_fault jobs roles caller ss ≡ None
       → commits_fault w ss ≡ None → are_sound_steps jobs roles caller w ss ≡ true
   steps_sound w [] fit none commit = refl
   steps_sound w (s ∷ ss) fit none commit =
-      let n = first_none _ _ none in
+      let n = first_none _ _ (first_none _ _ none).1 in
       let c = first_none _ _ commit in
       both (is_sound_step jobs roles caller w s) _ (step_sound w s (and_left _ _ fit) n.0 c.0)
       (steps_sound (waits_after_step w s) ss (and_right _ _ fit) n.1 c.1)
 
 -- the script of one role of many
 script_none : (jobs : ℕ) (all : List Role) (n : ℕ) (rs : List Role) (k : ℕ) (role : Role) → scripts_fault jobs all n rs ≡ None → slice_get rs k ≡ Some role
-    → first_fault (step_fault jobs all (n + k)) role.steps ≡ None
+    → steps_fault jobs all (n + k) role.steps ≡ None
 script_none jobs all n [] k role h e = absurd (cc)
 script_none jobs all n (r ∷ rs) zero role h e =
     let here : n ≡ n + 0 = omega arith in
     let same : r ≡ role = cc in
-    subst (λ (x : Role). first_fault (step_fault jobs all (n + 0)) x.steps ≡ None) same (subst (λ m. first_fault (step_fault jobs all m) r.steps ≡ None) here (first_none _ _ h).0)
+    subst (λ (x : Role). steps_fault jobs all (n + 0) x.steps ≡ None) same (subst (λ m. steps_fault jobs all m r.steps ≡ None) here (first_none _ _ h).0)
 script_none jobs all n (r ∷ rs) (suc k) role h e =
     let there : n + 1 + k ≡ n + suc k = omega arith in
-    subst (λ m. first_fault (step_fault jobs all m) role.steps ≡ None) there (script_none jobs all (n + 1) rs k role (first_none _ _ h).1 e)
+    subst (λ m. steps_fault jobs all m role.steps ≡ None) there (script_none jobs all (n + 1) rs k role (first_none _ _ h).1 e)
 
 loops_none : (rs : List Role) (k : ℕ) (role : Role) → third_fault rs ≡ None → slice_get rs k ≡ Some role → commits_fault false role.steps ≡ None
 loops_none [] k role h e = absurd (cc)
@@ -277,11 +277,11 @@ declared_sound d f none =
       steps = λ r role e. (let got = got_mapped (role_of d) d.roles r role e in
           let fit = all_get has_fit_steps d.roles r got.0 f.steps got.1 in
           let here : 0 + r ≡ r = omega arith in
-          let second : first_fault (step_fault (length d.jobs) p.roles r) role.steps ≡ None = subst (λ m. first_fault (step_fault (length d.jobs) p.roles m) role.steps ≡ None) here (script_none (length d.jobs) p.roles 0 p.roles r role n.0 e) in
+          let second : steps_fault (length d.jobs) p.roles r role.steps ≡ None = subst (λ m. steps_fault (length d.jobs) p.roles m role.steps ≡ None) here (script_none (length d.jobs) p.roles 0 p.roles r role n.0 e) in
           let third = loops_none p.roles r role n.1 e in
           subst (λ (x : Role). are_sound_steps (length d.jobs) p.roles r false x.steps ≡ true) (sym got.2)
           (steps_sound (length d.jobs) p.roles r false (flat_map (steps_of d got.0.job) got.0.steps) (steps_fit d got.0.job got.0.steps fit)
-          (subst (λ (x : Role). first_fault (step_fault (length d.jobs) p.roles r) x.steps ≡ None) got.2 second)
+          (subst (λ (x : Role). steps_fault (length d.jobs) p.roles r x.steps ≡ None) got.2 second)
           (subst (λ (x : Role). commits_fault false x.steps ≡ None) got.2 third)));
       few_jobs = (let h = f.few_jobs in omega arith);
       few_roles = (let h = f.few_roles in let e = length-map d.roles (role_of d) in omega arith);

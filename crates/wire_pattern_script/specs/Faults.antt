@@ -1,5 +1,5 @@
 -- The first fault of a pattern with numbers for its names: that of the second pass over all lines, else that of the third.
-use Rattle.std.specs.Prelude.{ℕ, ◌+◌, ◌&&◌, ◌||◌, Bool, true, false, not, nat_lt, List, [], ◌∷◌, length}
+use Rattle.std.specs.Prelude.{ℕ, ◌+◌, ◌==◌, ◌&&◌, ◌||◌, Bool, true, false, not, nat_lt, List, [], ◌∷◌, length}
 use Rattle.std.specs.Prelude.{Option, Some, None, if◌then◌else◌}
 use Rattle.std.specs.List.{list_all, list_any}
 use Rattle.wire_types.specs.declared.Fault.{Fault}
@@ -30,10 +30,10 @@ abbrev pub is_declared : ℕ → ℕ → Call → Bool
 is_declared jobs roles call =
     list_all (is_declared_who roles) (whos_in call) && list_all (is_declared_item jobs roles) (items_in call)
 
--- whether a call may stand in a loop over this group: its set has no item with the whole group, and in a loop of
+-- whether a call may stand in a loop over this role: its set has no item with the whole role, and in a loop of
 -- `for some` it reads, puts or commits
 abbrev pub fits_loop : List Role → ℕ → Turns → Call → Bool
-fits_loop roles group turns call = not (list_any (has_role roles group) (items_in call)) && is_turn_call turns call
+fits_loop roles role turns call = not (list_any (has_role roles role) (items_in call)) && is_turn_call turns call
 
 -- the fault of a line of the script of the role `caller`, where there are so many jobs, and `fits` says whether the line may
 -- stand where it stands: a name isn't declared; a group stands for a process, or the line doesn't fit; the caller isn't in
@@ -46,23 +46,50 @@ line_fault jobs roles caller fits line =
     else None
 
 -- the fault of the first line of a loop: its role isn't declared
-abbrev pub group_fault : List Role → ℕ → ℕ → Option Fault
-group_fault roles number group = if nat_lt group (length roles) then None else Some (UnknownName number)
+abbrev pub role_fault : List Role → ℕ → ℕ → Option Fault
+role_fault roles number role = if nat_lt role (length roles) then None else Some (UnknownName number)
 
--- the fault of a line in a loop over this group
+-- the role of this step, where it is a loop that the line of this number begins
+abbrev pub role_listed : ℕ → Step → Option ℕ
+role_listed number (Once line) = None
+role_listed number (Loop own role turns lines) = if own == number then Some role else None
+
+-- the first fault of this role and of the rest of its list
+abbrev pub listed_fault : List Role → ℕ → Option ℕ → Option Fault → Option Fault
+listed_fault roles number None rest = None
+listed_fault roles number (Some role) rest = first_of (role_fault roles number role) rest
+
+-- a line that lists several roles begins a loop over each, one behind the other: the fault of this line, of which the first
+-- of these steps are loops
+abbrev pub list_fault : List Role → ℕ → List Step → Option Fault
+list_fault roles number [] = None
+list_fault roles number (step ∷ steps) = listed_fault roles number (role_listed number step) (list_fault roles number steps)
+
+-- the fault of the line that begins a step: these steps follow it, and with them the roles that the line lists behind its first
+abbrev pub names_fault : List Role → Step → List Step → Option Fault
+names_fault roles (Once line) steps = None
+names_fault roles (Loop number role turns lines) steps = list_fault roles number steps
+
+-- the fault of a line in a loop over this role
 abbrev pub turn_fault : ℕ → List Role → ℕ → ℕ → Turns → Line → Option Fault
-turn_fault jobs roles caller group turns line = line_fault jobs roles caller (fits_loop roles group turns line.call) line
+turn_fault jobs roles caller role turns line = line_fault jobs roles caller (fits_loop roles role turns line.call) line
 
 abbrev pub step_fault : ℕ → List Role → ℕ → Step → Option Fault
 step_fault jobs roles caller (Once line) = line_fault jobs roles caller true line
-step_fault jobs roles caller (Loop number group turns lines) =
-    first_of (group_fault roles number group) (first_fault (turn_fault jobs roles caller group turns) lines)
+step_fault jobs roles caller (Loop number role turns lines) =
+    first_of (role_fault roles number role) (first_fault (turn_fault jobs roles caller role turns) lines)
+
+-- the first fault of these steps: all roles that a line lists are judged before the lines of its loop
+abbrev pub steps_fault : ℕ → List Role → ℕ → List Step → Option Fault
+steps_fault jobs roles caller [] = None
+steps_fault jobs roles caller (step ∷ steps) =
+    first_of (names_fault roles step steps) (first_of (step_fault jobs roles caller step) (steps_fault jobs roles caller steps))
 
 -- the first fault of the scripts of these roles, the first of them with the number n
 abbrev pub scripts_fault : ℕ → List Role → ℕ → List Role → Option Fault
 scripts_fault jobs roles n [] = None
 scripts_fault jobs roles n (role ∷ others) =
-    first_of (first_fault (step_fault jobs roles n) role.steps) (scripts_fault jobs roles (n + 1) others)
+    first_of (steps_fault jobs roles n role.steps) (scripts_fault jobs roles (n + 1) others)
 
 abbrev pub second_fault : ℕ → List Role → Option Fault
 second_fault jobs roles = scripts_fault jobs roles 0 roles
@@ -79,7 +106,7 @@ bad_if bad (Some number) = if bad then Some (BadLine number) else None
 -- the fault of a loop that commits: a put waits for the commit when the loop begins, or when a turn ends
 abbrev pub commit_fault : Bool → Step → Option Fault
 commit_fault waits (Once line) = None
-commit_fault waits (Loop number group turns lines) = bad_if (waits || waits_after_all false lines) (commit_line lines)
+commit_fault waits (Loop number role turns lines) = bad_if (waits || waits_after_all false lines) (commit_line lines)
 
 -- the first fault of these steps, where a put waits before them or doesn't
 abbrev pub commits_fault : Bool → List Step → Option Fault

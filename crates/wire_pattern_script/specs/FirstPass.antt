@@ -1,6 +1,6 @@
 -- What the lines of a pattern's file declare, line by line, and which fault is the first.
 use Rattle.std.specs.Prelude.{◌≡◌, ℕ, ◌+◌, ◌-◌, ◌==◌, ◌&&◌, ◌||◌, Bool, true, false, not, nat_lt, nat_le, List, [], ◌∷◌, ◌++◌}
-use Rattle.std.specs.Prelude.{length, map, count_by, Option, Some, None, is_some, is_none, Result, Ok, Err, MatchResult}
+use Rattle.std.specs.Prelude.{suc, length, take, map, count_by, Option, Some, None, is_some, is_none, Result, Ok, Err, MatchResult}
 use Rattle.std.specs.Prelude.{◌⊎◌, if◌then◌else◌}
 use Rattle.std.specs.List.{list_all}
 use Rattle.std.specs.Str.{bytes_eq}
@@ -132,9 +132,9 @@ is_short (Calls call) = is_short_call call
 abbrev pub are_once : List Name → Bool
 are_once names = list_all (λ name. count_by (bytes_eq name) names == 1) names
 
--- whether a list that isn't too long has a name twice
+-- whether a list has a name twice, as far as it is read: to the first name that is too much
 abbrev pub lists_twice : List Name → Bool
-lists_twice names = nat_le (length names) list_limit && not (are_once names)
+lists_twice names = not (are_once (take (suc list_limit) names))
 
 -- whether a line declared the name before, jobs among jobs, roles among roles, or the line lists a role twice
 abbrev pub is_again : Declared → Said → Bool

@@ -219,9 +219,9 @@ fn is_turn_call(turns: Turns, call: &Call) -> bool
     }
 }
 
-/// Whether a call may stand in a loop of these turns over this group.
-pub fn fits_loop(roles: &[Role], group: u32, turns: Turns, call: &Call) -> bool
-    ensures { result ≡ spec.fits_loop (map role_by roles.now) group (turns_by turns) (view_call call.now) }
+/// Whether a call may stand in a loop of these turns over this role.
+pub fn fits_loop(roles: &[Role], role: u32, turns: Turns, call: &Call) -> bool
+    ensures { result ≡ spec.fits_loop (map role_by roles.now) role (turns_by turns) (view_call call.now) }
 {
-    !has_whole(roles, group, call) && is_turn_call(turns, call)
+    !has_whole(roles, role, call) && is_turn_call(turns, call)
 }

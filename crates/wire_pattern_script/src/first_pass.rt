@@ -295,11 +295,15 @@ fn are_once(names: &[&[u8]]) -> bool
     are_each_once(names)
 }
 
-/// Whether a loop lists a role twice, where it doesn't list too many.
+/// Whether a loop lists a role twice, as far as its list is read: to the first role that is too much.
 fn lists_twice(roles: &[&[u8]]) -> bool
     ensures { result ≡ spec.lists_twice (texts_of roles.now) }
 {
-    roles.len() <= LISTED && !are_once(roles)
+    if roles.len() <= LISTED {
+        !are_once(roles)
+    } else {
+        !are_once(&roles[..LISTED + 1])
+    }
 }
 
 /// Whether a line declares what is declared already, or lists a role twice.

@@ -16,6 +16,21 @@ struct Script<'a> {
     caller: u32,
 }
 
+/// The role of a step, where it is a loop that the line of this number begins.
+fn role_listed(number: u64, step: &Step) -> Option<u32>
+    ensures { result ≡ spec.role_listed number (step_by step.now) }
+{
+    match step {
+        Step::Once(_) => None,
+        Step::Loop {
+            number: own,
+            group: role,
+            turns: _,
+            lines: _,
+        } => (*own == number).then_some(*role),
+    }
+}
+
 impl Script<'_> {
     /// The fault of a line, where `fits` says whether it may stand where it stands.
     fn line_fault(&self, fits: bool, line: &Line) -> Option<Fault>
@@ -35,32 +50,57 @@ impl Script<'_> {
     }
 
     /// The fault of the first line of a loop.
-    fn group_fault(&self, number: u64, group: u32) -> Option<Fault>
-        ensures { result ≡ spec.group_fault (map role_by self.now.roles.now) number group }
+    fn role_fault(&self, number: u64, role: u32) -> Option<Fault>
+        ensures { result ≡ spec.role_fault (map role_by self.now.roles.now) number role }
     {
-        if (group as usize) < self.roles.len() {
+        if (role as usize) < self.roles.len() {
             None
         } else {
             Some(Fault::UnknownName(number))
         }
     }
 
-    /// The fault of a line in a loop over this group.
-    fn turn_fault(&self, group: u32, turns: Turns, line: &Line) -> Option<Fault>
-        ensures { result
-            ≡ spec.turn_fault self.now.jobs (map role_by self.now.roles.now) self.now.caller group (turns_by turns) (line_by line.now) }
+    /// The fault of the line of this number, where it lists several roles: the first of these steps are its loops.
+    fn list_fault(&self, number: u64, steps: &[Step]) -> Option<Fault>
+        ensures { result ≡ spec.list_fault (map role_by self.now.roles.now) number (map step_by steps.now) }
     {
-        let fits = fits_loop(self.roles, group, turns, &line.call);
+        for step in steps {
+            let Some(role) = role_listed(number, step) else {
+                return None;
+            };
+            if let Some(fault) = self.role_fault(number, role) {
+                return Some(fault);
+            }
+        }
+        None
+    }
+
+    /// The fault of the line that begins a step, by the roles that it lists behind its first: these steps follow.
+    fn names_fault(&self, step: &Step, steps: &[Step]) -> Option<Fault>
+        ensures { result ≡ spec.names_fault (map role_by self.now.roles.now) (step_by step.now) (map step_by steps.now) }
+    {
+        match step {
+            Step::Once(_) => None,
+            Step::Loop { number, .. } => self.list_fault(*number, steps),
+        }
+    }
+
+    /// The fault of a line in a loop over this role.
+    fn turn_fault(&self, role: u32, turns: Turns, line: &Line) -> Option<Fault>
+        ensures { result
+            ≡ spec.turn_fault self.now.jobs (map role_by self.now.roles.now) self.now.caller role (turns_by turns) (line_by line.now) }
+    {
+        let fits = fits_loop(self.roles, role, turns, &line.call);
         self.line_fault(fits, line)
     }
 
     /// The first fault of the lines of a loop.
-    fn lines_fault(&self, group: u32, turns: Turns, lines: &[Line]) -> Option<Fault>
-        ensures { result ≡ spec.first_fault (spec.turn_fault self.now.jobs (map role_by self.now.roles.now) self.now.caller group (turns_by turns))
+    fn lines_fault(&self, role: u32, turns: Turns, lines: &[Line]) -> Option<Fault>
+        ensures { result ≡ spec.first_fault (spec.turn_fault self.now.jobs (map role_by self.now.roles.now) self.now.caller role (turns_by turns))
             (map line_by lines.now) }
     {
         for line in lines {
-            if let Some(fault) = self.turn_fault(group, turns, line) {
+            if let Some(fault) = self.turn_fault(role, turns, line) {
                 return Some(fault);
             }
         }
@@ -75,21 +115,24 @@ impl Script<'_> {
             Step::Once(line) => self.line_fault(true, line),
             Step::Loop {
                 number,
-                group,
+                group: role,
                 turns,
                 lines,
-            } => match self.group_fault(*number, *group) {
+            } => match self.role_fault(*number, *role) {
                 Some(fault) => Some(fault),
-                None => self.lines_fault(*group, *turns, lines),
+                None => self.lines_fault(*role, *turns, lines),
             },
         }
     }
 
-    /// The first fault of these steps.
+    /// The first fault of these steps: all roles that a line lists are judged before the lines of its loop.
     fn steps_fault(&self, steps: &[Step]) -> Option<Fault>
-        ensures { result ≡ spec.first_fault (spec.step_fault self.now.jobs (map role_by self.now.roles.now) self.now.caller) (map step_by steps.now) }
+        ensures { result ≡ spec.steps_fault self.now.jobs (map role_by self.now.roles.now) self.now.caller (map step_by steps.now) }
     {
-        for step in steps {
+        for (index, step) in steps.iter().enumerate() {
+            if let Some(fault) = self.names_fault(step, &steps[index + 1..]) {
+                return Some(fault);
+            }
             if let Some(fault) = self.step_fault(step) {
                 return Some(fault);
             }

@@ -5,5 +5,5 @@ use Rattle.wire_pattern_script.proofs.second_pass.Script.lines_fault.Given as go
 
 abbrev pub invariant-loop-line : goal.invariant-loop-line
 invariant-loop-line l = record {
-  same : first_fault (turn_fault l.self.jobs (map role_by l.self.roles.now) l.self.caller l.group (turns_by l.turns)) (map line_by l.lines) ≡ first_fault (turn_fault l.self.jobs (map role_by l.self.roles.now) l.self.caller l.group (turns_by l.turns)) (map line_by (drop l.line-index l.lines));
+  same : first_fault (turn_fault l.self.jobs (map role_by l.self.roles.now) l.self.caller l.role (turns_by l.turns)) (map line_by l.lines) ≡ first_fault (turn_fault l.self.jobs (map role_by l.self.roles.now) l.self.caller l.role (turns_by l.turns)) (map line_by (drop l.line-index l.lines));
 }
