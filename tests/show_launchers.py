@@ -7,7 +7,6 @@ root. A line for each program says what came of it. What isn't as it must be is 
 stays so, the status is 1.
 """
 import concurrent.futures
-import itertools
 import os
 import re
 import subprocess
@@ -49,8 +48,8 @@ HOLD = "4"
 @dataclass(frozen=True)
 class Case:
     """A program with its words, on so many processes; what it is asked for, the words that its
-    races or orders must have, and the launchers under which they have them; and the words where a
-    library refuses a name that is there, as OpenPMIx 7 does."""
+    races or orders must have, and the launchers under which they have them; the words where a
+    library refuses a name that is there, as OpenPMIx 7 does; and on how many nodes it is tried."""
 
     processes: int
     words: Sequence[str]
@@ -58,6 +57,7 @@ class Case:
     expected: Sequence[str]
     kinds: Sequence[Kind] = WITH_NAMES
     refused: Sequence[str] = ()
+    nodes: Sequence[int] = (1, 2)
 
 
 CASES = (
@@ -73,6 +73,8 @@ CASES = (
     Case(3, ("cards", "at-once"), SHOW, ["shown"], EVERY),
     Case(4, ("cards", "carried"), SHOW, ["shown"], OPEN_MPI_4),
     Case(2, ("cards", "fenced"), TURN, ["kept"], EVERY),
+    Case(2, ("cards", "own-store"), TURN, ["turned", "kept"], OPEN_MPI_4, (), (2,)),
+    Case(2, ("cards", "late"), TURN, ["turned"], OPEN_MPI_4, (), (2,)),
 )
 
 
@@ -108,7 +110,8 @@ def hold_launcher(folder: str, name: str, least: str) -> int:
     status."""
     launcher, status = find_launcher(name), 0
     cases = [it for it in CASES if launcher.kind in it.kinds]
-    every = list(itertools.product(range(int(least), len(NODES) + 1), cases))
+    counts = range(int(least), len(NODES) + 1)
+    every = [(count, case) for count in counts for case in cases if count in case.nodes]
     with concurrent.futures.ThreadPoolExecutor(AT_A_TIME) as pool:
         found = pool.map(lambda it: hold(Place(launcher, it[0], folder), it[1]), every)
         for (nodes, case), tries in zip(every, found):

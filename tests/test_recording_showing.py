@@ -17,7 +17,7 @@ import threading
 import time
 import unittest
 
-from live import ENVIRONMENT, LiveTest, Ran, find_python, mpirun, small_disk
+from live import ENVIRONMENT, LiveTest, Ran, find_python, mpirun, run_plainly, small_disk
 from live_runs import read_words
 from show_launchers import find_words
 from support import TOP
@@ -25,11 +25,12 @@ from tapes import COMMAND, PATIENCE, PROGRAMS, read_file, run_recorder
 from wire_up_tools.record.running import find_libraries, make_environment
 
 COMPILED_WITH_LIBRARY = {"hidden": "liblookups.so"}
-# How long a hold lasts where nothing moves, in seconds: longer than on a slow machine a process
-# takes between two calls; and than a program polls.
-HOLD, LONG_HOLD = "4", "30"
+# How long a hold lasts where nothing moves, in seconds, and in multiples of what two processes take
+# that do nothing: longer than on a slow machine a process takes between two calls. And longer than
+# a program polls: so long where it most likely isn't held in vain.
+LEAST_HOLD, HOLD_TIMES, LONG_HOLD = 4.0, 6.0, 30.0
 # How long a signal may take to end all, in seconds.
-SOON = 20
+SOON = 45
 
 
 def find_processes(path: str) -> list[int]:
@@ -45,11 +46,17 @@ def find_processes(path: str) -> list[int]:
 class ShowingCase(LiveTest):
     """Tests with programs that run again, of which nothing stays."""
 
+    usual_hold: float
+
     @classmethod
     def setUpClass(cls) -> None:
         super().setUpClass()
         if cls.program is None:
             raise unittest.SkipTest("no race is shown: there is no wire_up")
+        began = time.monotonic()
+        run_plainly(mpirun(2, "true"))
+        hold = HOLD_TIMES * (time.monotonic() - began)
+        cls.usual_hold = min(LONG_HOLD, max(LEAST_HOLD, hold))
 
     def words(self, processes: int, name: str, *words: str) -> list[str]:
         """The words that start a program."""
@@ -57,15 +64,21 @@ class ShowingCase(LiveTest):
             self.compile(COMPILED_WITH_LIBRARY[name])
         return mpirun(processes, self.compile(name), *words)
 
-    def options(self, hold: str = HOLD) -> list[str]:
-        """The options that all runs have."""
+    def options(self, hold: float | None = None) -> list[str]:
+        """The options that all runs have, with how long a hold lasts, if not as usual."""
         assert self.program is not None
-        return ["--checker", self.program, "--hold", hold]
+        return ["--checker", self.program, "--hold", f"{hold or self.usual_hold:.1f}"]
 
-    def show(self, task: list[str], words: list[str], hold: str = HOLD) -> Ran:
+    def show(
+        self,
+        task: list[str],
+        words: list[str],
+        hold: float | None = None,
+        environment: dict[str, str] = ENVIRONMENT,
+    ) -> Ran:
         """Runs the recorder. Nothing is left beside the plan."""
         options = self.options(hold)
-        ran = run_recorder("-o", self.plan, *options, *task, *words, environment=ENVIRONMENT)
+        ran = run_recorder("-o", self.plan, *options, *task, *words, environment=environment)
         self.assertEqual([], glob.glob(os.path.join(self.room, "wire_up-record-*")))
         return ran
 
@@ -78,11 +91,12 @@ class ShownTest(ShowingCase):
     """Races that are shown by programs that other tests record too, and by some made for it."""
 
     def hold(
-        self, expected: list[str], said: str, processes: int, name: str, *words: str
+        self, expected: list[str], said: str, processes: int, *words: str, is_in_vain: bool = False
     ) -> str:
         """Fails where a program's races don't have these words, or nothing of the form is said.
-        Answers what was said."""
-        ran = self.show(["--show"], self.words(processes, name, *words))
+        `is_in_vain`: some call is held in vain. Answers what was said."""
+        hold = None if is_in_vain else LONG_HOLD
+        ran = self.show(["--show"], self.words(processes, *words), hold)
         self.assertEqual(expected, self.find_words(ran), ran.stderr)
         self.assertRegex(ran.stderr, said)
         self.assertEqual(0, ran.returncode)
@@ -90,7 +104,7 @@ class ShownTest(ShowingCase):
 
     def test_messages_of_any_source(self) -> None:
         for word in ("wild1", "wild2"):
-            self.hold(["shown"], "PMIX_ERR_NOT_FOUND", 3, "cases", word)
+            self.hold(["shown"], "PMIX_ERR_NOT_FOUND", 3, "cases", word, is_in_vain=True)
 
     def test_a_collective_of_nothing(self) -> None:
         self.hold(["shown"], "and they end alike", 2, "cases", "scattered")
@@ -137,12 +151,13 @@ class ShownTest(ShowingCase):
     def test_an_order_that_is_not_recorded(self) -> None:
         flag = os.path.join(self.room, "flag")
         said = r"app:1 had left MPI_Barrier for \d+\.\d s: ordered by what isn't recorded"
-        self.hold(["not-made"], said, 2, "shown", "file", flag)
+        self.hold(["not-made"], said, 2, "shown", "file", flag, is_in_vain=True)
 
     def test_the_orders_of_the_witness(self) -> None:
-        self.hold(["shown", "shown-later"], "two orders of `wire_up witness`", 3, "shown", "third")
+        said = "two orders of `wire_up witness`"
+        self.hold(["shown", "shown-later"], said, 3, "shown", "third", is_in_vain=True)
         three = ["shown", "shown-later", "shown"]
-        self.hold(three, "two orders of `wire_up witness`", 3, "shown", "unpublished")
+        self.hold(three, said, 3, "shown", "unpublished", is_in_vain=True)
 
     def test_a_job_that_another_started(self) -> None:
         """Both processes have the rank 0."""
@@ -174,7 +189,7 @@ class TurnedTest(ShowingCase):
 
     def hold(self, expected: str, said: str, processes: int, *words: str) -> None:
         """Fails where what came of all pairs isn't this, or nothing of the form is said."""
-        hold = LONG_HOLD if expected == "turned" else HOLD
+        hold = LONG_HOLD if expected == "turned" else None
         ran = self.show(["--turn"], self.words(processes, *words), hold)
         self.assertEqual({expected}, set(self.find_words(ran)), ran.stderr)
         self.assertRegex(ran.stderr, said)
@@ -202,6 +217,14 @@ class TurnedTest(ShowingCase):
         self.assertIn(self.find_words(ran), (["gave-up"], ["kept"]), ran.stderr)
         said = r"gave-up app:0 2 commit, app:1 1 get: the library ended the wait with PMIX_ERR_"
         self.assertRegex(ran.stderr, f"{said}|stood in get 0 card")
+
+    def test_what_an_earlier_get_brought(self) -> None:
+        """In a store of the process's own, in which the library may have all that others have."""
+        environment = {**ENVIRONMENT, "PMIX_MCA_gds": "hash"}
+        ran = self.show(["--turn"], self.words(2, "cards", "own-store"), None, environment)
+        expected = (["turned", "kept"], ["turned-alike", "kept"])
+        self.assertIn(self.find_words(ran), expected, ran.stderr)
+        self.assertIn("app:1 1 get, app:0 4 commit: the second was over first", ran.stderr)
 
     def test_a_get_with_a_limit(self) -> None:
         said = r"app:1 1 get: PMIX_SUCCESS address \| PMIX_ERR_TIMEOUT"
@@ -322,7 +345,8 @@ class CommandTest(ShowingCase):
             self.assertIn("rehearsal 1", read_file(self.plan))
 
     def test_a_program_that_never_ends(self) -> None:
-        ran = self.show(["--show", "--limit", "8"], self.words(2, "shown", "hang"))
+        limit = f"{2 * self.usual_hold:.1f}"
+        ran = self.show(["--show", "--limit", limit], self.words(2, "shown", "hang"))
         self.assertRegex(ran.stderr, r"ended status 0 \| no end")
 
     def test_input_that_all_runs_read(self) -> None:
@@ -344,7 +368,8 @@ class CommandTest(ShowingCase):
     def begin(
         self, task: list[str], words: list[str], source: int | None = None
     ) -> "subprocess.Popen[str]":
-        """Begins the recorder, in a group of its own."""
+        """Begins the recorder, in a group of its own. Signals end it, also where the tests run in
+        the background of a shell that ignores them there."""
         return subprocess.Popen(
             [sys.executable, COMMAND, "-o", self.plan, *self.options(), *task, *words],
             env=ENVIRONMENT,
@@ -353,6 +378,7 @@ class CommandTest(ShowingCase):
             stderr=subprocess.PIPE,
             text=True,
             start_new_session=True,
+            preexec_fn=lambda: signal.signal(signal.SIGINT, signal.SIG_DFL),
         )
 
     def end(self, running: "subprocess.Popen[str]", number: int) -> str:
@@ -370,7 +396,7 @@ class CommandTest(ShowingCase):
         for number in (signal.SIGINT, signal.SIGTERM):
             words = self.words(2, "shown", "hang")
             running = self.begin(["--show", "--limit", "60"], words)
-            until = time.monotonic() + PATIENCE
+            until = time.monotonic() + 4 * PATIENCE
             pattern = os.path.join(self.room, "wire_up-record-*", "race-1-second", "*.recording")
             while len(glob.glob(pattern)) < 2 and time.monotonic() < until:
                 time.sleep(0.1)
@@ -388,11 +414,11 @@ class CommandTest(ShowingCase):
         # Each run leaves a line, and the first waits for the signal.
         script = f"trap 'exit 3' INT; {first}; echo >>{begun}; while :; do sleep 0.1; done"
         running = self.begin(["--show"], ["sh", "-c", script])
-        until = time.monotonic() + PATIENCE
+        until = time.monotonic() + 4 * PATIENCE
         while not os.path.exists(begun) and time.monotonic() < until:
             time.sleep(0.1)
         running.send_signal(signal.SIGINT)
-        _, said = running.communicate(timeout=SOON)
+        _, said = running.communicate(timeout=PATIENCE)
         self.assertEqual(3, running.returncode, said)
         self.assertIn("wire_up-record: a signal came: the command doesn't run again\n", said)
         self.assertEqual("\n", read_file(begun))

@@ -9,7 +9,7 @@ import unittest
 from collections.abc import Sequence
 
 from running import ProgramCase
-from tapes import SHIPPED, Recorded, Tape, run_recorder
+from tapes import PATIENCE, SHIPPED, Recorded, Tape, run_recorder
 from wire_up_tools.checker import Checker
 from wire_up_tools.failures import Refused
 from wire_up_tools.plan_reading import read_plan
@@ -173,6 +173,17 @@ class DifferencesTest(unittest.TestCase):
         self.assertTrue(compared.ends_otherwise)
         self.assertFalse(compared.writes_otherwise)
         self.assertFalse(compared.is_alike)
+
+    def test_endings(self) -> None:
+        for status, said in (
+            (0, "status 0"),
+            (1, "status 1"),
+            (139, "status 139 (SIGSEGV)"),
+            (200, "status 200"),
+            (-9, "signal 9"),
+            (None, "no end"),
+        ):
+            self.assertEqual(said, make_run([], status).ending)
 
     def test_alike(self) -> None:
         runs = [make_run([[self.published], [self.look_up("0 port=text:a")]])] * 2
@@ -401,27 +412,31 @@ class ServerTest(unittest.TestCase):
         self.addCleanup(folder.cleanup)
         self.folder = folder.name
 
-    def serve(self, holds: Holds, hold: float, seconds: float = 3.0) -> Server:
-        """Begins to serve for a time."""
+    def make_server(self, holds: Holds, hold: float) -> Server:
+        """A server, whose hall is open until the test is over."""
         halls = open_hall_for(None)
         hall = halls.__enter__()
-        server = Server(hall, holds, Motion(self.folder), Patience(hold, 60))
+        self.addCleanup(halls.__exit__, None, None, None)
+        return Server(hall, holds, Motion(self.folder), Patience(hold, PATIENCE))
+
+    def serve(self, holds: Holds, hold: float) -> Server:
+        """Begins to serve, until the test is over."""
+        server, is_over = self.make_server(holds, hold), threading.Event()
 
         def run() -> None:
-            until = time.monotonic() + seconds
-            while time.monotonic() < until:
+            while not is_over.is_set():
                 server.serve(0.01)
 
         thread = threading.Thread(target=run)
         thread.start()
-        self.addCleanup(halls.__exit__, None, None, None)
         self.addCleanup(thread.join)
+        self.addCleanup(is_over.set)
         return server
 
     def say(self, server: Server, what: str, which: int, word: str = "") -> socket.socket:
         """Says something of a call, over a connection of its own."""
         made = socket.socket(socket.AF_UNIX)
-        made.settimeout(10)
+        made.settimeout(PATIENCE)
         made.connect(server.hall.address)
         made.sendall(f"{word or server.hall.word} {what} {which}\n".encode())
         self.addCleanup(made.close)
@@ -436,7 +451,7 @@ class ServerTest(unittest.TestCase):
         with self.assertRaises(TimeoutError):
             second.recv(9)
         self.say(server, "over", 1)
-        second.settimeout(10)
+        second.settimeout(PATIENCE)
         self.assertEqual(b"go\n", second.recv(9))
         self.assertIsNone(server.courses[2].late)
 
@@ -445,12 +460,12 @@ class ServerTest(unittest.TestCase):
         began = time.monotonic()
         self.assertEqual(b"go\n", self.say(server, "came", 2).recv(9))
         self.assertIsNotNone(server.courses[2].late)
-        self.assertLess(time.monotonic() - began, 3)
+        self.assertLess(time.monotonic() - began, server.patience.limit)
 
     def test_where_a_run_is_ended_a_hold_was_in_vain(self) -> None:
         server = self.serve(Holds(BOTH, {2: [Wait(1)]}), hold=60)
         self.say(server, "came", 2)
-        until = time.monotonic() + 10
+        until = time.monotonic() + PATIENCE
         while not server.waiting and time.monotonic() < until:
             time.sleep(0.01)
         server.end_holds()
@@ -458,18 +473,18 @@ class ServerTest(unittest.TestCase):
         self.assertIsNotNone(server.courses[2].late)
 
     def test_where_a_recording_grows_a_hold_lasts(self) -> None:
-        server = self.serve(Holds(BOTH, {2: [Wait(1)]}), hold=3, seconds=12)
-        second = self.say(server, "came", 2)
-        second.settimeout(0.01)
-        until = time.monotonic() + 5
+        """By the seconds that the server is told."""
+        server = self.make_server(Holds(BOTH, {2: [Wait(1)]}), hold=3)
+        course, server.moved = server.courses[2], 100.0
+        course.came = 100.0
         with open(os.path.join(self.folder, "job.0.n0.1.recording"), "ab", 0) as to:
-            while time.monotonic() < until:
+            for now in range(101, 120):
                 to.write(b"= 0 1 0.000001 other more\n")
-                time.sleep(0.1)
-        with self.assertRaises(TimeoutError):
-            second.recv(9)
-        second.settimeout(10)
-        self.assertEqual(b"go\n", second.recv(9))
+                server.look(now)
+                self.assertFalse(server.is_in_vain(course, now))
+        server.look(120)
+        self.assertFalse(server.is_in_vain(course, 122))
+        self.assertTrue(server.is_in_vain(course, 124))
 
     def test_one_of_several_is_enough_and_one_that_has_come(self) -> None:
         targets = [*BOTH, LOOKUP]
@@ -507,6 +522,7 @@ class CommandTest(unittest.TestCase):
         for words, said in (
             (("--show-race", "app:0 1 app:1"), "needs two calls"),
             (("--show-race", "app:0 1 app:1 x"), "needs two calls"),
+            (("--show-race", "race app:0 1 app:1 2 name"), "needs two calls"),
             (("--show-race", "app:0 1 app:1 0"), "needs two calls"),
             (("--show-race", "app:0 1 app:0 2"), "both calls are of app:0"),
             ((*show, "--hold", "0"), "needs a number of seconds above 0"),

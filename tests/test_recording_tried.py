@@ -2,6 +2,7 @@
 orders of calls that the plan leaves out, which orders come first, and how long all may take."""
 import os
 import tempfile
+import time
 import unittest
 from collections.abc import Sequence
 
@@ -9,8 +10,12 @@ from running import ProgramCase
 from tapes import Recorded, run_recorder
 from test_recording_shown import BOTH, make_run
 from wire_up_tools.checker import Checker
+from wire_up_tools.failures import Refused
 from wire_up_tools.plan_reading import read_plan
+from wire_up_tools.record.showing.asking import Asked, read_race
+from wire_up_tools.record.showing.by_time import find_by_time
 from wire_up_tools.record.showing.comparing import compare
+from wire_up_tools.record.showing.earlier import find_earlier, follow_race
 from wire_up_tools.record.showing.held_runs import HeldRun, OutOfTime, Session, run_held
 from wire_up_tools.record.showing.holds import Holds
 from wire_up_tools.record.showing.naming import Naming
@@ -20,6 +25,7 @@ from wire_up_tools.record.showing.pairs import ASK, Pair, find_pairs, list_limit
 from wire_up_tools.record.showing.plain_runs import PlainRuns
 from wire_up_tools.record.showing.saying import say_unseen
 from wire_up_tools.record.showing.server import Patience
+from wire_up_tools.record.showing.showing import search
 from wire_up_tools.record.showing.traces import say_value
 from wire_up_tools.record.showing.unplanned import find_unplanned
 
@@ -121,6 +127,87 @@ class UnplannedTest(unittest.TestCase):
         self.assertEqual([[], []], self.find(body, [PUBLISHED], [look_up]))
 
 
+class ByTimeTest(unittest.TestCase):
+    """Orders that no rule gives, but by which a library may go."""
+
+    puts: Sequence[Recorded] = [("put global a text:1", "0"), ("commit", "0")]
+    second: Sequence[Recorded] = [("put global b text:2", "0"), ("commit", "0")]
+
+    def find(
+        self, get: str, nodes: Sequence[str], *own: Sequence[Recorded]
+    ) -> list[list[tuple[str, str]]]:
+        """The pairs of a plan whose second process, on another node or not, gets so, and of a run
+        with these calls."""
+        puts = "put global a 1\ncommit\nput global b 2\ncommit\n"
+        text = (
+            "rehearsal 1\nnode n0\nnode n1\njob app\n"
+            f"rank {nodes[0]}\n{puts}rank {nodes[1]}\nget app:0 a\n{get} app:0 b\n"
+        )
+        plan, session = read_plan(text.encode()), make_session()
+        trial = Trial(session, None, plan, text, Naming(plan), {}, PlainRuns(session))
+        return [name_pairs(found) for found in find_by_time(trial, make_run(own).traces)]
+
+    def test_own_store(self) -> None:
+        """What isn't there had not come along with the get before it; else the times tell."""
+        before = ("get blocks job:0 :a -", "0 text:1")
+        get_first = [[("app:1 1 get", "app:0 4 commit")], []]
+        commit_first = [[("app:0 4 commit", "app:1 1 get")], []]
+        later: Sequence[Recorded] = [("fence nb all -", "0")] * 5
+        for fences, end, expected in (
+            ([], "-46", get_first),
+            ([], "0 text:2", get_first),
+            (later, "-46", get_first),
+            (later, "0 text:2", commit_first),
+        ):
+            get = ("get blocks job:0 :b pmix.optional=number:1:1", end)
+            calls = [*fences, before, get]
+            found = self.find("get-now", ("n0", "n0"), [*self.puts, *self.second], calls)
+            self.assertEqual(expected, found)
+        get = ("get blocks job:0 :b pmix.immediate=number:1:1", "-46")
+        found = self.find("get-now", ("n0", "n0"), [*self.puts, *self.second], [before, get])
+        self.assertEqual([[], []], found)
+
+    def test_gets_that_do_not_wait(self) -> None:
+        """From another node alone, and of keys that are for it."""
+        get = ("get blocks job:0 :b -", "-46")
+        before = ("get blocks job:0 :a -", "0 text:1")
+        pair = [[("app:1 2 get-now", "app:0 4 commit")], []]
+        for nodes, puts, end, expected in (
+            (("n0", "n1"), self.second, "-46", pair),
+            (("n0", "n0"), self.second, "-46", [[], []]),
+            (("n0", "n1"), self.second, "0 text:2", [[], []]),
+            (("n0", "n1"), [("put local b text:2", "0"), ("commit", "0")], "-46", [[], []]),
+        ):
+            calls = [before, (get[0], end)]
+            self.assertEqual(expected, self.find("get-now", nodes, [*self.puts, *puts], calls))
+
+
+class SearchTest(ProgramCase):
+    """How long orders are looked for."""
+
+    def find(self, until: float, most: int) -> tuple[int, bool, list[str]]:
+        """How many of three orders are found, whether these are said to be all, and what is
+        said."""
+        text = f"{HEAD}rank n0\npublish a v\nfence all\nrank n0\nfence all\n"
+        text += "lookup a\n" * 3
+        plan, said = read_plan(text.encode()), list[str]()
+        session = make_session(until)
+        trial = Trial(
+            session, Checker(self.program), plan, text, Naming(plan), {}, PlainRuns(session)
+        )
+        found, are_all = search(find_pairs(trial, ASK), most, trial, said.append)
+        return len(found), are_all, said
+
+    def test_all_and_some(self) -> None:
+        self.assertEqual((3, True, []), self.find(float("inf"), 3))
+        self.assertEqual((2, False), self.find(float("inf"), 2)[:2])
+
+    def test_no_time_is_left(self) -> None:
+        found = "with 0 found: give more by --within"
+        said = f"the search for orders ended after half of 300 s, {found}"
+        self.assertEqual((0, False, [said]), self.find(time.monotonic() + 100, 3))
+
+
 class KindsTest(ProgramCase):
     """Which orders are taken, and which come first."""
 
@@ -180,8 +267,9 @@ class PaceTest(unittest.TestCase):
 
     def test_what_is_said(self) -> None:
         pace, said = self.begin(20.0)
-        self.assertIn("2 orders: the command runs 2 times more at least (about 44 s; no ", said[0])
-        self.assertIn("no run begins after 300 s, see --within), and does again what it", said[0])
+        self.assertIn("2 orders: the command runs 2 times more at least (about 44 s; a ", said[0])
+        self.assertIn("doesn't end is ended after 60 s, see --limit; none begins", said[0])
+        self.assertIn("none begins after 300 s, see --within), and does again what it", said[0])
         pace.say_next(0, 2)
         pace.say_next(1, 2)
         self.assertRegex(said[1], r"^1 of 2 done, after \d s$")
@@ -225,6 +313,41 @@ class RefusedRaceTest(unittest.TestCase):
         self.assertTrue(self.try_race(head + body, "app:0 1 app:1 1")[2])
         self.assertTrue(self.try_race(body, "app:0 2 app:1 1")[2], "another file isn't read")
         self.assertTrue(self.try_race(f"{head}nonsense\nrank\n", "app:0 2 app:1 1")[2])
+
+
+class EarlierRaceTest(unittest.TestCase):
+    """Calls that are named by the numbers of an earlier plan."""
+
+    def follow(self, more: str, name: str = "a") -> tuple[object, list[str]]:
+        """The race that is taken in a run's plan, which has more calls before those of the earlier
+        one, and what is said."""
+        head, said = "# Recorded by wire_up-record on 2026-12-01: 2 processes\n", list[str]()
+        first, second = (f"rank n0\n{more}publish {name} v\n", "rank n0\nlookup a\n")
+        race = read_race("race app:0 1 app:1 1 name a")
+        with tempfile.TemporaryDirectory() as room:
+            path = os.path.join(room, "plan")
+            with open(path, "w", encoding="ascii") as to:
+                to.write(f"{head}{HEAD}rank n0\npublish a v\n{second}")
+            earlier = find_earlier(race, path)
+        asked = Asked(False, race, False, 0, None, 8, None, None, 300.0, None, None)
+        return follow_race(asked, earlier, f"{head}{HEAD}{first}{second}", said.append).race, said
+
+    def test_the_same_numbers(self) -> None:
+        self.assertEqual((("app:0", 1, "app:1", 1), []), self.follow(""))
+
+    def test_other_numbers(self) -> None:
+        said = "app:0 1 of the plan that was there is app:0 3 in that of this run"
+        race = ("app:0", 3, "app:1", 1)
+        self.assertEqual((race, [said]), self.follow("put local k v\ncommit\n"))
+
+    def test_a_call_that_is_no_more(self) -> None:
+        with self.assertRaisesRegex(Refused, r"app:0 1 publish \(publish a\) of the plan that was"):
+            self.follow("", "b")
+
+    def test_no_earlier_plan(self) -> None:
+        asked = Asked(False, ("a:0", 1, "a:1", 1), False, 0, None, 8, None, None, 300.0, None, None)
+        self.assertEqual((), find_earlier(asked.race, os.devnull))
+        self.assertEqual(asked, follow_race(asked, (), "", self.fail))
 
 
 if __name__ == "__main__":

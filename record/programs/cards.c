@@ -5,6 +5,10 @@
  *   fenced    all meet before, so that it is there: no race
  *   brief     process 1 waits for it for a second at most; waits: as long as the library does
  *   every     the last process gets every key at once, a little later: a plan has no such get
+ *   late      process 0 puts it a little later, and the last process, which waits for it, may be told that it isn't there; then
+ *             all meet
+ *   own-store the last process gets it, then all meet, and the last looks in its own store for another key, which process 0
+ *             committed a little after the first: with the get it came along or not
  *   reserved  process 0 also publishes a name that a plan doesn't take, and the last process looks it up a little later
  */
 #include <pmix.h>
@@ -14,13 +18,14 @@
 
 #define MILLISECONDS 1000
 #define KEY "card"
+#define OTHER_KEY "other"
 #define RESERVED "pmix-name"
 static pmix_proc_t me;
 
-static void put(void)
+static void put(const char *key)
 {
     pmix_value_t value = {.type = PMIX_STRING, .data.string = "address"};
-    PMIx_Put(PMIX_GLOBAL, KEY, &value);
+    PMIx_Put(PMIX_GLOBAL, key, &value);
     PMIx_Commit();
 }
 
@@ -55,16 +60,48 @@ static void look_up(void)
     printf("%d\n", PMIx_Lookup(&found, 1, NULL, 0));
 }
 
-/* Meets the first processes, so many, or all: what they have put comes along. */
-static void meet(size_t count)
+/* Meets the first processes, so many, or all; what they have put comes along, or doesn't. */
+static void meet(size_t count, bool collects)
 {
     pmix_proc_t members[2] = {me, me};
     pmix_info_t info;
-    bool is_true = true;
     members[0].rank = 0;
     members[1].rank = 1;
-    PMIX_INFO_LOAD(&info, PMIX_COLLECT_DATA, &is_true, PMIX_BOOL);
+    PMIX_INFO_LOAD(&info, PMIX_COLLECT_DATA, &collects, PMIX_BOOL);
     PMIx_Fence(count ? members : NULL, count, &info, 1);
+}
+
+/* The last process gets the key between two commits of process 0. */
+static int bring_another(unsigned last)
+{
+    if (me.rank == 0) {
+        usleep(800 * MILLISECONDS);
+        put(OTHER_KEY);
+    }
+    if (me.rank == last) {
+        usleep(400 * MILLISECONDS);
+        get(KEY, NULL, 0);
+    }
+    meet(0, false);
+    if (me.rank == last)
+        get(OTHER_KEY, PMIX_OPTIONAL, 0);
+    return PMIx_Finalize(NULL, 0) != PMIX_SUCCESS;
+}
+
+/* The last process gets the key before process 0 has put it, but has committed another. */
+static int put_late(unsigned last)
+{
+    if (me.rank == 0) {
+        put(OTHER_KEY);
+        usleep(800 * MILLISECONDS);
+        put(KEY);
+    }
+    if (me.rank == last) {
+        usleep(400 * MILLISECONDS);
+        get(KEY, NULL, 0);
+    }
+    meet(0, false);
+    return PMIx_Finalize(NULL, 0) != PMIX_SUCCESS;
 }
 
 int main(int count, char **words)
@@ -79,12 +116,16 @@ int main(int count, char **words)
         return 1;
     unsigned last = size->data.uint32 - 1;
     int is_fenced = !strcmp(word, "fenced"), is_carried = !strcmp(word, "carried");
+    if (!strcmp(word, "late"))
+        return put_late(last);
     if (me.rank == 0)
-        put();
+        put(KEY);
+    if (!strcmp(word, "own-store"))
+        return bring_another(last);
     if (is_fenced)
-        meet(0);
+        meet(0, true);
     if (is_carried && me.rank < 2)
-        meet(2);
+        meet(2, true);
     int is_brief = !strcmp(word, "brief"), is_reserved = !strcmp(word, "reserved");
     if (is_reserved && me.rank == 0)
         publish();

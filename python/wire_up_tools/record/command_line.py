@@ -179,7 +179,8 @@ def read_request(words: Sequence[str]) -> Request:
     asked = read_asked(found)
     plan = found.o or (asked.of if asked else None)
     if plan is None:
-        raise Unusable("-o PLAN says where the plan goes")
+        of_earlier = ", and --of PLAN takes one that is there" if asked else ""
+        raise Unusable(f"-o PLAN says where the plan goes{of_earlier}")
     output = Output(
         plan=plan,
         answers=found.answers,

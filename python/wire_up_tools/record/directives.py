@@ -30,8 +30,9 @@ UNTIL_UNPUBLISHED, FIRST_READ, OF_PROCESS, OF_APPLICATION, OF_SESSION = range(5)
 # namespace, the session (the standard's default), all, those of a list, or the process alone. In a
 # plan it is for all.
 RANGES, OF_NAMESPACE, USUAL_RANGES = range(1, 8), 3, (4, 5)
-# Directives of a get that doesn't wait.
-AT_ONCE = (b"pmix.immediate", b"pmix.optional")
+# Directives of a get that doesn't wait; with the first one it looks into the caller's own store.
+OPTIONAL = b"pmix.optional"
+AT_ONCE = (b"pmix.immediate", OPTIONAL)
 KNOWN = (COLLECT, WAIT, *AT_ONCE)
 # Directives of a group with which all its processes still wait for all.
 OF_GROUPS = (

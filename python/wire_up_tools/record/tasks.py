@@ -38,9 +38,9 @@ from wire_up_tools.record.running import (
     run,
 )
 from wire_up_tools.record.showing.asking import Asked
+from wire_up_tools.record.showing.earlier import find_earlier, follow_race
 from wire_up_tools.record.showing.holds import mark_compared
 from wire_up_tools.record.showing.material import First, Material
-from wire_up_tools.record.showing.naming import Naming
 from wire_up_tools.record.showing.showing import show
 from wire_up_tools.record.showing.traces import read_traces
 from wire_up_tools.record.sizes.asking import SizesRequest
@@ -55,7 +55,7 @@ from wire_up_tools.record.verdicts import (
 )
 from wire_up_tools.record.writing import is_by_mpi_alone, write_answers, write_plan
 from wire_up_tools.report.singular import say_counted
-from wire_up_tools.words import AWAITED, EACH_RUN, LEFT_TO_LUCK, RECORDED_BY
+from wire_up_tools.words import AWAITED, EACH_RUN, LEFT_TO_LUCK
 
 # What is said of verdicts over plans that are known to be more ordered than the program.
 IN_PART = "holds only in part"
@@ -377,37 +377,13 @@ def show_of_plan(asked: ShowRequest, folder: str) -> int:
     return 0
 
 
-def refuse_race(asked: CommandRequest) -> None:
-    """Refuses calls for --show-race that a plan doesn't have which stands where that of the run
-    will: they are numbered by an earlier run, and this one would be made in vain. Raises Refused,
-    OSError."""
-    race, path = asked.asked.race if asked.asked else None, asked.output.plan
-    if race is None or not os.path.isfile(path):
-        return
-    with open(path, "rb") as it:
-        data = it.read()
-    if not data.startswith(f"# {RECORDED_BY}".encode()):
-        return
-    try:
-        naming = Naming(read_plan(data))
-        for process, number in (race[:2], race[2:]):
-            naming.find(process, number)
-    except (ValueError, LookupError):
-        return
-    except Refused as why:
-        raise Refused(
-            f"{why}: so {path} says, and the command didn't run. If that is of another program, "
-            "name another file with -o"
-        ) from None
-
-
 def record(asked: CommandRequest, folder: str) -> int:
     """Runs a command, makes the plan, and answers the command's status. `folder` is that of the
     recorder. Recordings that make no plan are left. Raises Refused, NotRun, OSError."""
     output = asked.output
     libraries = find_libraries(folder, output.with_mpi)
     hold_writable(output)
-    refuse_race(asked)
+    earlier = find_earlier(asked.asked.race if asked.asked else None, output.plan)
     recordings, is_made = make_folder(output.plan, output.kept), False
     if asked.asked:
         mark_compared(recordings)
@@ -427,6 +403,7 @@ def record(asked: CommandRequest, folder: str) -> int:
         if shows:
             material = find_material(asked, text, recordings, folder)
             first = First(seconds, status, read_traces(recordings))
+            shows = follow_race(shows, earlier, text, say)
             show(shows, replace(material, first=first), say)
         elif asked.asked:
             say("a signal came: the command doesn't run again")

@@ -20,6 +20,10 @@ MOST, HOLD, HOLD_TIMES, LIMIT, LIMIT_TIMES = 8, 2.0, 2.0, 10.0, 5.0
 LIMIT_OF_PLAN = 60.0
 # How long all runs may take together.
 WITHIN = 300.0
+# Two calls, as a line of `check` names them, with what it says besides or without that.
+RACE = re.compile(
+    r"(?:race )?(\S+) ([1-9]\d{0,8}) (\S+) ([1-9]\d{0,8})(?: (?:name \S+|key \S+ \S+))?"
+)
 
 OPTIONS = (
     Option(
@@ -116,13 +120,17 @@ class Asked:
 
 
 def read_race(text: str) -> tuple[str, int, str, int]:
-    """Two calls. Raises Unusable."""
-    words = text.split()
-    if len(words) != 4 or not all(re.fullmatch(r"[1-9]\d{0,8}", it) for it in words[1::2]):
-        raise Unusable(f"--show-race {text!r}: needs two calls, such as 'app:0 2 app:1 1'")
-    if words[0] == words[2]:
-        raise Unusable(f"--show-race {text!r}: both calls are of {words[0]}")
-    return words[0], int(words[1]), words[2], int(words[3])
+    """Two calls, which can stand in the line of `check` about them. Raises Unusable."""
+    read = RACE.fullmatch(" ".join(text.split()))
+    if not read:
+        raise Unusable(
+            f"--show-race {text!r}: needs two calls in one word, such as 'app:0 2 app:1 1', or the "
+            "line of `wire_up check` that names them"
+        )
+    first, number, second, other = read.groups()
+    if first == second:
+        raise Unusable(f"--show-race {text!r}: both calls are of {first}")
+    return first, int(number), second, int(other)
 
 
 def read_seconds(name: str, text: str | None) -> float | None:
@@ -149,7 +157,7 @@ def is_asked(found: argparse.Namespace) -> bool:
 def read_asked(found: argparse.Namespace) -> Asked | None:
     """What a command line asks to be shown; None if nothing. Raises Unusable."""
     if not is_asked(found):
-        given = [it for it in OF_SHOWING if getattr(found, it) is not None]
+        given = [name for name in OF_SHOWING if getattr(found, name) is not None]
         if given:
             named = given[0].replace("_", "-")
             raise Unusable(f"--{named} goes with --show, --show-race or --turn")

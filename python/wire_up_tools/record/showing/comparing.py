@@ -8,6 +8,8 @@ from wire_up_tools.record.showing.traces import TracedCall
 
 NOTHING_MORE = "nothing more"
 NEVER_CAME = "didn't come"
+# How what stands before a place begins where calls part.
+AFTER, FROM_START = "after ", "from the start"
 # How many calls are named after which two runs part.
 NAMED_NEXT = 3
 
@@ -74,9 +76,9 @@ def say_last(calls: Sequence[TracedCall]) -> str:
     """Behind which call something stands: the last of some calls, and the how-manieth of its name
     it is, if others came before."""
     if not calls:
-        return "from the start"
+        return FROM_START
     name, ordinal = calls[-1].told, calls[-1].keys[0][1]
-    return f"after {name}" if ordinal == 1 else f"after {name}, number {ordinal}"
+    return f"{AFTER}{name}" if ordinal == 1 else f"{AFTER}{name}, number {ordinal}"
 
 
 def find_parting(

@@ -9,7 +9,7 @@ from collections.abc import Mapping, Sequence
 from dataclasses import dataclass, field
 
 from wire_up_tools.failures import Refused
-from wire_up_tools.record.running import HANDED_ON, NOT_RUN, NotRun, make_environment
+from wire_up_tools.record.running import BY_SIGNAL, HANDED_ON, NOT_RUN, NotRun, make_environment
 from wire_up_tools.record.showing.holds import Course, Holds, write_holds
 from wire_up_tools.record.showing.motion import Motion
 from wire_up_tools.record.showing.naming import Target
@@ -41,9 +41,24 @@ class Session:
     within: float = math.inf
     until: float = math.inf
 
+    @property
+    def search_until(self) -> float:
+        """Until when orders are looked for: half of the time is left to turn them round."""
+        return self.until - self.within / 2 if math.isfinite(self.within) else self.until
+
 
 class OutOfTime(Exception):
     """The runs have taken as long as they may together: no other begins."""
+
+
+def say_status(status: int) -> str:
+    """A status in words, with the signal that a shell, or a launcher, tells so of a process."""
+    if status < 0:
+        return f"signal {-status}"
+    number = status - BY_SIGNAL
+    is_of_signal = number in set(signal.Signals)
+    named = f" ({signal.Signals(number).name})" if is_of_signal else ""
+    return f"status {status}{named}"
 
 
 @dataclass(eq=False)
@@ -71,7 +86,7 @@ class HeldRun:
         """How it ended, in words."""
         if self.status is None:
             return "no end"
-        return f"status {self.status}" if self.status >= 0 else f"signal {-self.status}"
+        return say_status(self.status)
 
 
 def end_launcher(process: "subprocess.Popen[bytes]") -> None:
@@ -81,8 +96,8 @@ def end_launcher(process: "subprocess.Popen[bytes]") -> None:
         if find_status(process) is None:
             process.send_signal(signal.SIGTERM)
             ends_within(process, END_SECONDS)
-        for it in list_left(process.pid):
-            kill_one(it, process.pid)
+        for left in list_left(process.pid):
+            kill_one(left, process.pid)
         process.wait(END_SECONDS)
     except subprocess.TimeoutExpired:
         pass
@@ -150,8 +165,8 @@ def run_held(session: Session, holds: Holds, name: str) -> HeldRun:
         finally:
             end_launcher(process)
     seconds = time.monotonic() - began
-    with open(os.path.join(folder, OUTPUT), "rb") as it:
-        output = it.read()
+    with open(os.path.join(folder, OUTPUT), "rb") as written:
+        output = written.read()
     refuse_lost(folder, output)
     traces = read_traces(folder)
     return HeldRun(holds, folder, status, since, seconds, server.courses, traces, output)

@@ -45,7 +45,11 @@ def begin_pace(trial: Trial, what: str, runs: int, in_vain: int, say: Say) -> Pa
     within = trial.session.within
     about = runs * trial.plains.find()[0].seconds + in_vain * trial.session.patience.hold
     times = f"{runs} times more at least" if runs > 1 else "once more at least"
-    takes = f"about {math.ceil(about)} s; no run begins after {within:g} s, see --within"
+    longest = trial.session.patience.limit
+    takes = (
+        f"about {math.ceil(about)} s; a run that doesn't end is ended after {longest:.0f} s, see "
+        f"--limit; none begins after {within:g} s, see --within"
+    )
     say(f"{what}: the command runs {times} ({takes}), and {AGAIN}")
     return Pace(about, within, say)
 

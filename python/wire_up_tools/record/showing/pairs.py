@@ -2,6 +2,7 @@
 first."""
 import json
 import re
+import time
 from collections.abc import Iterable, Iterator, Mapping, Sequence
 from dataclasses import dataclass, field
 
@@ -12,6 +13,7 @@ from wire_up_tools.record.showing.naming import EVERY_NAME, Target
 from wire_up_tools.record.showing.orders import Trial
 from wire_up_tools.record.showing.traces import OF_LIBRARY, Traces
 from wire_up_tools.report.asking import Asker, stream_lines
+from wire_up_tools.words import TIMED
 
 # Verbs of calls on names that change something, and of those that only ask; the last ones wait.
 CHANGE, ASK, WAIT = ("publish", "unpublish"), ("lookup", "get-now"), ("lookup-wait", "get")
@@ -21,6 +23,16 @@ MOST_FINDINGS = 20_000
 Pair = tuple[Target, Target]
 # A name, or a key with its owner.
 Use = tuple[str, ...]
+
+
+class SearchEnded(Exception):
+    """Orders have been looked for as long as that may take."""
+
+
+def hold_to_time(trial: Trial) -> None:
+    """Raises SearchEnded where orders are looked for no longer."""
+    if time.monotonic() > trial.session.search_until:
+        raise SearchEnded
 
 
 @dataclass
@@ -43,18 +55,19 @@ def walk_uses(trial: Trial, rank: str) -> Iterator[tuple[Call, Use]]:
         if call.verb == "publish":
             published.append(call.about)
         is_of_all = call.verb == "unpublish" and call.about == EVERY_NAME
-        uses = [("name", it) for it in published] if is_of_all else name_uses(call, stored)
-        yield from ((call, it) for it in dict.fromkeys(uses))
+        uses = [("name", name) for name in published] if is_of_all else name_uses(call, stored)
+        yield from ((call, use) for use in dict.fromkeys(uses))
         stored = [] if call.verb == "commit" else stored
 
 
 def list_limited(trial: Trial, traces: Traces) -> frozenset[str]:
-    """The calls of a plan that wait, but in a run for a short time at most."""
-    found = set()
+    """The calls of a plan that wait, but in a run for a short time at most, or that the library
+    which was recorded is known to answer by time."""
+    found = {" ".join(line.split(" ")[:2]) for line in trial.plan.list_in_head(TIMED)}
     for process, trace in traces.items():
-        limited = {key for it in trace.compared if it.gives_up for key in it.keys}
+        limited = {key for call in trace.compared if call.gives_up for key in call.keys}
         targets = trial.naming.list_targets(process) if limited else ()
-        found |= {it.place for it in targets if it and it.verb in WAIT and it.key in limited}
+        found |= {one.place for one in targets if one and one.verb in WAIT and one.key in limited}
     return frozenset(found)
 
 
@@ -62,7 +75,7 @@ def list_uses(trial: Trial, verbs: Sequence[str], besides: frozenset[str]) -> Ma
     """The uses of each name and each key of a plan: of a key the commit that stores it counts.
     Those that ask have one of some verbs, or are some calls besides."""
     found: dict[Use, Uses] = {}
-    for call, use in (it for rank in trial.plan.ranks for it in walk_uses(trial, rank.name)):
+    for call, use in (used for rank in trial.plan.ranks for used in walk_uses(trial, rank.name)):
         uses = found.setdefault(use, Uses())
         if call.verb in verbs or call.name in besides:
             uses.asks.append(call)
@@ -77,8 +90,8 @@ def name_uses(call: Call, stored: Iterable[str]) -> Iterator[Use]:
     if call.verb in CHANGE or call.verb in ("lookup", "lookup-wait"):
         yield "name", call.about
     elif call.verb == "commit":
-        own = [it for it in dict.fromkeys(stored) if not OF_LIBRARY.match(f"put {it}")]
-        yield from (("key", call.rank.name, it) for it in own)
+        own = [key for key in dict.fromkeys(stored) if not OF_LIBRARY.match(f"put {key}")]
+        yield from (("key", call.rank.name, key) for key in own)
     elif call.verb in ("get", "get-now"):
         yield "key", call.target, call.about
 
@@ -87,13 +100,14 @@ def list_candidates(uses: Uses) -> Iterator[tuple[Call, Call]]:
     """Two calls of different ranks of which one changes what the other asks for or changes."""
     for at, one in enumerate(uses.changes):
         on_names = uses.changes[at + 1:] if one.verb in CHANGE else []
-        yield from ((one, it) for it in [*uses.asks, *on_names] if it.rank is not one.rank)
+        yield from ((one, other) for other in [*uses.asks, *on_names] if other.rank is not one.rank)
 
 
 def read_findings(trial: Trial, checker: Checker) -> set[frozenset[str]]:
-    """The pairs of calls that race."""
+    """The pairs of calls that race. Raises SearchEnded."""
     found = set()
     for number, line in enumerate(stream_lines(Asker(checker, trial.text.encode()), "check")):
+        hold_to_time(trial)
         words = line.split(" ")
         if words[0] == "race" and number < MOST_FINDINGS:
             found.add(frozenset((" ".join(words[1:3]), " ".join(words[3:5]))))
@@ -101,9 +115,11 @@ def read_findings(trial: Trial, checker: Checker) -> set[frozenset[str]]:
 
 
 def order_pair(trial: Trial, checker: Checker, calls: Sequence[Call]) -> Sequence[Target]:
-    """Two calls in the order that the plan gives them; none if it gives none. Raises Refused."""
-    pair = [trial.naming.find(it.rank.name, it.number) for it in calls]
-    words = [word for it in pair for word in (it.process, str(it.number))]
+    """Two calls in the order that the plan gives them; none if it gives none. Raises Refused,
+    SearchEnded."""
+    hold_to_time(trial)
+    pair = [trial.naming.find(call.rank.name, call.number) for call in calls]
+    words = [word for one in pair for word in (one.process, str(one.number))]
     answer = checker.ask("why", "--json", *words, plan=trial.text.encode())
     before = json.loads(answer.stdout).get("before") if answer.stdout.startswith("{") else None
     return {"first": pair, "second": pair[::-1]}.get(before, ())
@@ -112,16 +128,18 @@ def order_pair(trial: Trial, checker: Checker, calls: Sequence[Call]) -> Sequenc
 def find_kind(pair: Sequence[Call]) -> frozenset[tuple[str, str]]:
     """What two calls have in common with those that other ranks make in the same places of the
     program; where these aren't known, on names that differ by a number."""
-    return frozenset((it.verb, it.place or re.sub(r"\d+", "#", it.about)) for it in pair)
+    return frozenset((call.verb, call.place or re.sub(r"\d+", "#", call.about)) for call in pair)
 
 
 def list_raceless(
     trial: Trial, checker: Checker, uses: Iterable[Uses]
 ) -> Iterator[Sequence[Call]]:
-    """Two calls each that don't race, of which one could be answered otherwise by the other."""
+    """Two calls each that don't race, of which one could be answered otherwise by the other. Raises
+    SearchEnded."""
     known = read_findings(trial, checker)
-    for pair in (it for them in uses for it in list_candidates(them)):
-        names = frozenset(it.name for it in pair)
+    for pair in (pair for used in uses for pair in list_candidates(used)):
+        hold_to_time(trial)
+        names = frozenset(call.name for call in pair)
         if names not in known:
             known.add(names)
             yield pair
@@ -132,7 +150,7 @@ def find_pairs(
 ) -> Iterator[Pair]:
     """The pairs that the plan orders, the earlier call first, whose other one asks by one of some
     verbs, or is one of some calls: the first of each kind before the others. Raises Refused without
-    a checker."""
+    a checker, SearchEnded."""
     checker = trial.checker
     if checker is None:
         raise Refused("--turn needs the program `wire_up`, which knows the order: see --checker")

@@ -2,7 +2,13 @@
 from collections.abc import Iterator, Sequence
 from typing import Any
 
-from wire_up_tools.record.showing.comparing import NEVER_CAME, Compared, Difference
+from wire_up_tools.record.showing.comparing import (
+    AFTER,
+    FROM_START,
+    NEVER_CAME,
+    Compared,
+    Difference,
+)
 from wire_up_tools.record.showing.held_runs import HeldRun
 from wire_up_tools.record.showing.naming import Target
 from wire_up_tools.record.showing.orders import NOT_MADE, Shown
@@ -34,8 +40,8 @@ def say_reply(run: HeldRun, target: Target) -> str:
 
 def say_differences(word: str, found: Sequence[Difference]) -> Iterator[str]:
     """Lines for some differences of one kind."""
-    for it in found[:NAMED]:
-        yield f"  {word} {it}"
+    for difference in found[:NAMED]:
+        yield f"  {word} {difference}"
     if len(found) > NAMED:
         yield f"  {word} {len(found) - NAMED} more"
 
@@ -45,37 +51,44 @@ def say_doubts(compared: Compared, strikes: Sequence[str]) -> Iterator[str]:
     limits of time."""
     yield from say_differences(ANOTHER, compared.own)
     yield from say_differences(PLAIN_TOO, compared.plain)
-    yield from (f"  {STRUCK} {it}" for it in strikes)
+    yield from (f"  {STRUCK} {strike}" for strike in strikes)
 
 
 def say_unseen(compared: Compared) -> Iterator[str]:
     """Lines that say, where nothing differs, which values weren't compared whole."""
     if compared.is_alike:
-        for it in compared.unseen[:NAMED]:
-            yield f"  {UNSEEN} {it}"
+        for value in compared.unseen[:NAMED]:
+            yield f"  {UNSEEN} {value}"
         if len(compared.unseen) > NAMED:
             yield f"  {UNSEEN} {len(compared.unseen) - NAMED} more"
 
 
+def name_difference(difference: Difference) -> str:
+    """Which call was answered otherwise, or behind which the calls of its process part."""
+    is_parting = difference.what.startswith((AFTER, FROM_START))
+    goes_on = "goes on otherwise " if is_parting else ""
+    return f"{difference.process} {goes_on}{difference.what}"
+
+
 def sum_up_doubts(compared: Compared, strikes: Sequence[str]) -> str:
     """The same in a few words."""
-    doubts = [f"{ANOTHER} {it.process} {it.what}" for it in compared.own[:1]]
-    doubts += [f"{PLAIN_TOO} {it.process} {it.what}" for it in compared.plain[:1]]
-    doubts += [f"{STRUCK} {it}" for it in strikes[:1]]
-    doubts += [f"{UNSEEN} {it}" for it in compared.unseen[:1] if compared.is_alike]
-    return "".join(f"; {it}" for it in doubts)
+    doubts = [f"{ANOTHER} {name_difference(own)}" for own in compared.own[:1]]
+    doubts += [f"{PLAIN_TOO} {name_difference(plain)}" for plain in compared.plain[:1]]
+    doubts += [f"{STRUCK} {strike}" for strike in strikes[:1]]
+    doubts += [f"{UNSEEN} {value}" for value in compared.unseen[:1] if compared.is_alike]
+    return "".join(f"; {doubt}" for doubt in doubts)
 
 
 def list_strikes(shown: Shown) -> list[str]:
     """The limits of time that can have struck in the runs of a race."""
-    return list(dict.fromkeys(it for run in shown.runs for it in tell_strikes(run)))
+    return list(dict.fromkeys(strike for run in shown.runs for strike in tell_strikes(run)))
 
 
 def say_ending(shown: Shown) -> str:
     """How the runs of a race ended, where something differs."""
     compared = shown.compared
     if compared.ends_otherwise:
-        endings = " | ".join(it.ending for it in shown.runs)
+        endings = " | ".join(run.ending for run in shown.runs)
         return f"ended {endings}"
     if compared.others or compared.partings:
         return f"ended {shown.runs[0].ending} both times"
@@ -85,18 +98,18 @@ def say_ending(shown: Shown) -> str:
 
 def say_shown(shown: Shown) -> Iterator[str]:
     """The lines that say what came of a race."""
-    calls = ", ".join(it.title for it in shown.race.targets)
+    calls = ", ".join(target.title for target in shown.race.targets)
     yield f"{shown.word} {shown.race.line}: {calls}"
     for name, run, missed in zip(shown.names, shown.runs, shown.missed):
-        replies = " | ".join(say_reply(run, it) for it in shown.race.targets)
+        replies = " | ".join(say_reply(run, target) for target in shown.race.targets)
         seconds = find_held_seconds(run)
         held = f", held for {seconds:.1f} s" if seconds >= LEAST_HELD else ""
         yield f"  {name}: {replies} ({run.ending}, {run.seconds:.1f} s{held})"
         if missed:
             yield f"    not made: {missed}"
-    yield from (f"  {it}" for it in shown.means)
+    yield from (f"  {means}" for means in shown.means)
     if shown.word == NOT_MADE:
-        yield from (f"  {STRUCK} {it}" for it in list_strikes(shown))
+        yield from (f"  {STRUCK} {strike}" for strike in list_strikes(shown))
         return
     yield from say_differences(ANSWERED, shown.compared.others)
     yield from say_differences(GOES_ON, shown.compared.partings)
@@ -109,12 +122,12 @@ def say_shown(shown: Shown) -> Iterator[str]:
 def sum_up(shown: Shown) -> str:
     """What came of a race, in one line."""
     if shown.word == NOT_MADE:
-        why = "; ".join(str(it) for it in dict.fromkeys(shown.missed) if it)
-        return "".join([why, *(f"; {STRUCK} {it}" for it in list_strikes(shown)[:1])])
+        why = "; ".join(str(missed) for missed in dict.fromkeys(shown.missed) if missed)
+        return "".join([why, *(f"; {STRUCK} {strike}" for strike in list_strikes(shown)[:1])])
     compared = shown.compared
-    asking = [it for it in compared.targets if it.what.endswith(ASKING)]
+    asking = [target for target in compared.targets if target.what.endswith(ASKING)]
     told = asking or compared.targets or [*compared.others, *compared.partings]
-    replies = [f"{it.process} {it.what}: {it.first} and {it.second}" for it in told[:1]]
+    replies = [f"{one.process} {one.what}: {one.first} and {one.second}" for one in told[:1]]
     if not compared.is_alike:
         replies.append(say_ending(shown).replace(" | ", " and "))
     said = "; ".join(replies) or "both orders were made, and nothing differs"
@@ -138,8 +151,8 @@ def list_differences(compared: Compared) -> dict[str, Any]:
     }
     told: dict[str, Any] = {
         kind: [
-            {"proc": it.process, "what": it.what, "first": it.first, "second": it.second}
-            for it in found
+            {"proc": one.process, "what": one.what, "first": one.first, "second": one.second}
+            for one in found
         ]
         for kind, found in kinds.items()
     }
@@ -152,7 +165,7 @@ def make_json_of_run(
     """A run, for JSON, with the place of the call that was to be first."""
     return {
         "first": first,
-        "replies": [say_reply(run, it) for it in targets],
+        "replies": [say_reply(run, target) for target in targets],
         "status": run.status,
         "seconds": round(run.seconds, 1),
         "held": round(find_held_seconds(run), 1),
@@ -163,12 +176,12 @@ def make_json_of_run(
 def make_json(shown: Shown) -> dict[str, Any]:
     """What came of a race, for JSON."""
     targets = shown.race.targets
-    firsts = [None if shown.is_by_witness else it.place for it in targets]
+    firsts = [None if shown.is_by_witness else target.place for target in targets]
     runs = zip(shown.runs, firsts, shown.missed)
     return {
         "finding": shown.race.line,
         "word": shown.word,
-        "runs": [make_json_of_run(*it, targets) for it in runs],
+        "runs": [make_json_of_run(*run, targets) for run in runs],
         "means": list(shown.means),
         **list_differences(shown.compared),
         "limits": list_strikes(shown),

@@ -1,10 +1,11 @@
 """Shows the races of a plan in the program, and turns its orders round, as is asked for."""
 import itertools
-from collections.abc import Sequence
+from collections.abc import Iterator, Sequence
 
 from wire_up_tools.failures import Refused
 from wire_up_tools.record.running import Stopped
 from wire_up_tools.record.showing.asking import Asked
+from wire_up_tools.record.showing.by_time import find_by_time
 from wire_up_tools.record.showing.held_runs import OutOfTime
 from wire_up_tools.record.showing.material import (
     Material,
@@ -16,8 +17,16 @@ from wire_up_tools.record.showing.material import (
 )
 from wire_up_tools.record.showing.orders import NO_RACE, Race, Trial, try_race
 from wire_up_tools.record.showing.pace import begin_pace, hold_command
-from wire_up_tools.record.showing.pairs import ASK, WAIT, Pair, find_pairs, list_limited
+from wire_up_tools.record.showing.pairs import (
+    ASK,
+    WAIT,
+    Pair,
+    SearchEnded,
+    find_pairs,
+    list_limited,
+)
 from wire_up_tools.record.showing.saying import make_json, say_in_head, say_shown
+from wire_up_tools.record.showing.traces import Traces
 from wire_up_tools.record.showing.turning import (
     GAVE_UP,
     KEPT,
@@ -40,6 +49,7 @@ from wire_up_tools.words import (
     EACH_RUN,
     EACH_RUN_SENTENCE,
     LEFT_OUT,
+    MORE_ORDERED,
     TRIED_STOPPED,
     TURNED_IN_VAIN,
     TURNED_ROUND,
@@ -74,12 +84,12 @@ def find_line(trial: Trial, words: Sequence[str]) -> str:
 def find_asked_race(trial: Trial, race: tuple[str, int, str, int]) -> Race:
     """Two calls that were named. Raises Refused."""
     targets = [trial.naming.find(race[0], race[1]), trial.naming.find(race[2], race[3])]
-    return Race(find_line(trial, [str(it) for it in race]), targets, 1)
+    return Race(find_line(trial, [str(word) for word in race]), targets, 1)
 
 
 def make_race(trial: Trial, finding: Finding, number: int) -> Race:
     """The race of a finding. Raises Refused."""
-    targets = [trial.naming.find(it.rank.name, it.number) for it in finding.calls]
+    targets = [trial.naming.find(call.rank.name, call.number) for call in finding.calls]
     owner = f"{finding.owner} " if finding.kind is Kind.KEY else ""
     calls = f"{targets[0].place} {targets[1].place}"
     line = f"race {calls} {finding.kind.value} {owner}{finding.about}"
@@ -91,12 +101,13 @@ def find_races(trial: Trial, most: int, say: Say) -> list[Race]:
     if trial.checker is None:
         raise Refused("--show needs the program `wire_up`, which finds the races: see --checker")
     groups = find_groups(Asker(trial.checker, trial.text.encode()), trial.plan)
-    found = [it.first for it in find_causes(groups) if it.first.kind is not Kind.REWRITE]
+    found = [cause.first for cause in find_causes(groups)]
+    found = [finding for finding in found if finding.kind is not Kind.REWRITE]
     if not found:
         say(NOTHING_TO_SHOW if not groups else ONLY_REWRITES)
     if len(found) > most:
         say(f"{len(found)} races have causes of their own: {most} are tried (--most)")
-    return [make_race(trial, it, number) for number, it in enumerate(found[:most], 1)]
+    return [make_race(trial, one, number) for number, one in enumerate(found[:most], 1)]
 
 
 def try_races(trial: Trial, races: Sequence[Race], result: Result, say: Say) -> None:
@@ -123,30 +134,67 @@ def try_races(trial: Trial, races: Sequence[Race], result: Result, say: Say) -> 
 
 def may_turn(trial: Trial) -> bool:
     """Whether there can be an order to turn round, as far as is known before a run: the plan has
-    one, or leaves something out. Raises Refused without a checker."""
-    has_pairs = next(find_pairs(trial, (*ASK, *WAIT)), None) is not None
-    return has_pairs or bool(trial.plains.made) or LEFT_OUT in trial.plan.declared.head
+    one, leaves something out, or lacks an order. Raises Refused without a checker."""
+    head = trial.plan.declared.head
+    if trial.plains.made or LEFT_OUT in head or MORE_ORDERED in head:
+        return True
+    try:
+        return next(find_pairs(trial, (*ASK, *WAIT)), None) is not None
+    except SearchEnded:
+        return True
+
+
+def find_besides(trial: Trial, traces: Traces, say: Say) -> tuple[list[Pair], list[Pair]]:
+    """The pairs of a run of which the plan has no order, and says how many there are: the first of
+    each kind, and the others."""
+    firsts, others = list[Pair](), list[Pair]()
+    for found, what in (
+        (find_unplanned(trial, traces), "of calls that the plan leaves out"),
+        (find_by_time(trial, traces), "by which the library may go, though no rule says so,"),
+    ):
+        if found[0]:
+            count = count_of(len(found[0]) + len(found[1]), "order")
+            say(f"{count} {what} can be turned round too")
+        firsts += found[0]
+        others += found[1]
+    return firsts, others
+
+
+def search(pairs: Iterator[Pair], most: int, trial: Trial, say: Say) -> tuple[list[Pair], bool]:
+    """The first of some pairs, at most so many and as long as there is time; and whether these are
+    all. Raises Refused."""
+    found = list[Pair]()
+    try:
+        for pair in pairs:
+            if len(found) == most:
+                say(
+                    f"there are more than {most} orders: {most} are turned round, the first of "
+                    "each kind before others (--most)"
+                )
+                return found, False
+            found.append(pair)
+    except SearchEnded:
+        say(
+            f"the search for orders ended after half of {trial.session.within:g} s, with "
+            f"{len(found)} found: give more by --within"
+        )
+        return found, False
+    return found, True
 
 
 def take_pairs(trial: Trial, asked: Asked, say: Say) -> tuple[list[Pair], bool]:
     """The pairs that are turned round, at most so many; and whether these are all. Raises Refused,
     NotRun, OSError."""
     traces = trial.plains.find()[0].traces
-    firsts, others = find_unplanned(trial, traces)
-    if firsts:
-        count = count_of(len(firsts) + len(others), "order")
-        say(f"{count} of calls that the plan leaves out can be turned round too")
-    pairs = itertools.chain(firsts, find_pairs(trial, ASK, list_limited(trial, traces)), others)
-    found = list(itertools.islice(pairs, asked.most))
-    are_all = next(pairs, None) is None
-    if not are_all:
-        say(
-            f"there are more than {asked.most} orders: {asked.most} are turned round, the first of "
-            "each kind before others (--most)"
-        )
+    firsts, others = find_besides(trial, traces, say)
+    planned = find_pairs(trial, ASK, list_limited(trial, traces))
+    found, are_all = search(itertools.chain(firsts, planned, others), asked.most, trial, say)
     if asked.turn_waits:
-        waits = (it for it in find_pairs(trial, WAIT) if it[1].verb in WAIT and it not in found)
-        found += list(itertools.islice(waits, asked.turn_waits))
+        waits = (
+            pair for pair in find_pairs(trial, WAIT) if pair[1].verb in WAIT and pair not in found
+        )
+        more, _ = search(itertools.islice(waits, asked.turn_waits), asked.turn_waits, trial, say)
+        found += more
     return found, are_all
 
 
@@ -165,11 +213,13 @@ def say_kept(trial: Trial, kept: int, count: int, are_all: bool, say: Say) -> st
 def say_turns(trial: Trial, turns: Sequence[Turn], are_all: bool, say: Say) -> list[str]:
     """Says what came of all pairs, and answers the lines for the head. `are_all`: the plan orders
     no other pairs."""
-    kept = sum(it.word == KEPT for it in turns)
-    alarms = [it for it in turns if it.word == TURNED]
-    others = [it for it in turns if it.word in (TURNED_ALIKE, GAVE_UP)]
-    head = [f"# {TURNED_ROUND} {tell_day()}: {sum_up_turn(it)}" for it in alarms]
-    head += [f"# {TURNED_ROUND} {tell_day()}, {it.word}: {sum_up_turn(it)}" for it in others]
+    kept = sum(turn.word == KEPT for turn in turns)
+    alarms = [turn for turn in turns if turn.word == TURNED]
+    others = [turn for turn in turns if turn.word in (TURNED_ALIKE, GAVE_UP)]
+    head = [f"# {TURNED_ROUND} {tell_day()}: {sum_up_turn(turn)}" for turn in alarms]
+    head += [
+        f"# {TURNED_ROUND} {tell_day()}, {turn.word}: {sum_up_turn(turn)}" for turn in others
+    ]
     if kept:
         head.append(say_kept(trial, kept, len(turns), are_all, say))
     if alarms:

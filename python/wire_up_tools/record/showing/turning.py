@@ -22,12 +22,12 @@ from wire_up_tools.record.showing.saying import (
     say_unseen,
     sum_up_doubts,
 )
-from wire_up_tools.record.showing.strikes import find_held_seconds, tell_strikes
+from wire_up_tools.record.showing.strikes import TIMED_OUT, find_held_seconds, tell_strikes
 
 KEPT, TURNED, TURNED_ALIKE, NOT_TURNED = "kept", "turned", "turned-alike", "not-made"
-GAVE_UP = "gave-up"
-# Verbs of calls that the rules answer only once what they wait for is there.
-WAITING = ("get", "lookup-wait")
+# A call of these verbs, which the rules answer only once what it waits for is there, was ended by a
+# limit of time that the library has.
+GAVE_UP, WAITING = "gave-up", ("get", "lookup-wait")
 
 
 @dataclass(frozen=True, eq=False)
@@ -63,7 +63,7 @@ def find_early(run: HeldRun, others: Sequence[Target]) -> list[Target]:
     """Those of some calls that were over before the held one went on."""
     gone = run.courses[1].gone
     overs = [run.courses[n].over for n in range(2, len(others) + 2)]
-    return [it for it, over in zip(others, overs) if over and gone and over <= gone]
+    return [other for other, over in zip(others, overs) if over and gone and over <= gone]
 
 
 def judge_kept(run: HeldRun, held: Target, other: Target) -> Turn:
@@ -78,7 +78,8 @@ def judge_early(trial: Trial, run: HeldRun, held: Target, other: Target) -> Turn
     runs = [*trial.plains.find(), run]
     compared = leave_out_own(compare(runs, [held, other]), runs, [held, other], trial.plains)
     call = run.find(other)
-    if call and other.verb in WAITING and not call.gives_up:
+    is_given_up = call is not None and call.reply.startswith(TIMED_OUT) and not call.gives_up
+    if call and is_given_up and other.verb in WAITING:
         took = (call.ended or call.began) - call.began
         why = f"the library ended the wait with {call.reply} after {took:.1f} s"
         return Turn((held, other), GAVE_UP, why, compared)
@@ -106,22 +107,22 @@ def turn_round(
         course = run.courses[1]
         early = find_early(run, left)
         if course.late:
-            yield from (judge_kept(run, held, it) for it in left)
+            yield from (judge_kept(run, held, other) for other in left)
             return
         if course.gone is None or course.is_passed:
             why = f"{held.title} {tell_why_not(course)} ({run.ending})"
-            yield from (Turn((held, it), NOT_TURNED, why) for it in left)
+            yield from (Turn((held, other), NOT_TURNED, why) for other in left)
             return
-        yield from (judge_early(trial, run, held, it) for it in early)
-        left = [it for it in left if it not in early]
+        yield from (judge_early(trial, run, held, other) for other in early)
+        left = [other for other in left if other not in early]
         if not early or not left:
             return
 
 
 def group_pairs(pairs: Sequence[Pair]) -> Iterator[tuple[Target, list[Target]]]:
     """Each call that comes first in some pairs, with those that come after it."""
-    for held in dict.fromkeys(it for it, _ in pairs):
-        yield held, [other for it, other in pairs if it == held]
+    for held in dict.fromkeys(first for first, _ in pairs):
+        yield held, [other for first, other in pairs if first == held]
 
 
 def say_turn(turn: Turn) -> Iterator[str]:
