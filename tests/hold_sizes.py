@@ -2,13 +2,13 @@
 table.
 
 Usage: python3 -m tests.hold_sizes ANSWERS [--nodes 2] [--sizes 3,4,8] [--suite ROOM]
-                                   [--only WORD..]
+                                   [--only WORD..] [--most N]
 The programs are record/programs/shapes.c with each of its words, wireups.c with each of its own,
-and some others of record/programs; of `--suite`, those of MPICH's suite that `make record-suite`
-has built in ROOM. With `--nodes 2` the ranks stand on two nodes that are none, in turn, which takes
-root. ANSWERS is a file: what was answered is added to it, and what stands in it isn't asked again;
-the table is of all that stands in it. Only programs with all of WORD.. in their lines are asked.
-WIRE_UP_PROGRAM names the checker.
+and some others of record/programs; with `--suite`, those of five parts of MPICH's suite, which is
+fetched and built in ROOM as by `make record-suite`, if it isn't there. With `--nodes 2` the ranks
+stand on two nodes that are none, in turn, which takes root. ANSWERS is a file: what was answered is
+added to it, and what stands in it isn't asked again; the table is of all that stands in it. Only
+programs with all of WORD.. in their lines are asked, at most N. WIRE_UP_PROGRAM names the checker.
 """
 import argparse
 import collections
@@ -23,7 +23,9 @@ from collections.abc import Iterator, Sequence
 from typing import Any, NamedTuple
 
 import support
-from build.suite.source import SuiteProgram, find_programs
+from build.suite.source import SuiteProgram, build_common, configure, fetch, find_programs
+from build.suite.source import build as build_of_suite
+from build.suite.trying import SETTINGS
 from hold_launchers import ENVIRONMENT, PLACES, tell_daemons
 from live import COMPILED
 from tapes import COMMAND, PROGRAMS
@@ -80,20 +82,20 @@ class Asked(NamedTuple):
         said: dict[str, Any] = json.loads(self.wrote)
         notes = said["notes"]
         found = [EVERY]
-        if not any(it.startswith("no pattern fits") for it in notes):
+        if not any(note.startswith("no pattern fits") for note in notes):
             found.append(PATTERN)
-        if any("mistake of wire_up-record" in it for it in notes):
+        if any("mistake of wire_up-record" in note for note in notes):
             found.append(WRONG)
         if said["findings"]:
             return [*found, RECORDED if said["shown"] == "recording" else ALONE]
-        is_idle = any(it.startswith("no call of these runs can race") for it in notes)
+        is_idle = any(note.startswith("no call of these runs can race") for note in notes)
         return [*found, CLEAN, *([IDLE] if is_idle else [])]
 
 
 def list_words(name: str) -> Sequence[str]:
     """The words that a program takes, in its own order."""
-    with open(os.path.join(PROGRAMS, f"{name}.c"), encoding="utf-8") as it:
-        return re.findall(WORDS_OF[name], it.read().partition("[] = {")[2])
+    with open(os.path.join(PROGRAMS, f"{name}.c"), encoding="utf-8") as file:
+        return re.findall(WORDS_OF[name], file.read().partition("[] = {")[2])
 
 
 def list_cases(folder: str) -> Iterator[Case]:
@@ -108,18 +110,27 @@ def list_cases(folder: str) -> Iterator[Case]:
 
 
 def list_suite(room: str) -> Iterator[Case]:
+    """The programs of MPICH's suite that are built, one of each part in turn."""
+    parts: dict[str, list[Case]] = {}
+    for case in list_built(room):
+        parts.setdefault(case.family, []).append(case)
+    for them in itertools.zip_longest(*parts.values()):
+        yield from filter(None, them)
+
+
+def list_built(room: str) -> Iterator[Case]:
     """The programs of MPICH's suite that are built."""
     built = os.path.join(room, "built")
     programs: dict[tuple[str, str], SuiteProgram] = {}
-    for it in find_programs(built, os.path.join(room, "source"), PARTS):
-        programs.setdefault((it.part, it.name), it)
-    for it in programs.values():
-        folder = os.path.join(built, it.part)
-        path = os.path.join(folder, it.name)
+    for program in find_programs(built, os.path.join(room, "source"), PARTS):
+        programs.setdefault((program.part, program.name), program)
+    for program in programs.values():
+        folder = os.path.join(built, program.part)
+        path = os.path.join(folder, program.name)
         if os.access(path, os.X_OK):
-            settings = [f"{name}={value}" for name, value in it.variables.items()]
+            settings = [f"{name}={value}" for name, value in program.variables.items()]
             before = ["env", *settings] if settings else []
-            yield Case(f"MPICH {it.part}", folder, [*before, path, *it.words])
+            yield Case(f"MPICH/{program.part}", folder, [*before, path, *program.words])
 
 
 def build(folder: str) -> None:
@@ -133,6 +144,16 @@ def build(folder: str) -> None:
         subprocess.run([compiler, "-g", "-o", path, *words, *of_pmix], check=True)
 
 
+def build_suite(room: str) -> None:
+    """Builds the programs of MPICH's suite in a folder, those that can be."""
+    os.makedirs(room, exist_ok=True)
+    source = fetch(room)
+    built = configure(room, source)
+    build_common(built, room)
+    for program in find_programs(built, source, PARTS):
+        build_of_suite(built, program, os.path.join(room, "build.log"))
+
+
 def launch(nodes: int, room: str) -> Sequence[str]:
     """The words that start as many ranks as are asked for."""
     hosts, words = os.path.join(room, "hosts"), ["mpirun"]
@@ -143,24 +164,28 @@ def launch(nodes: int, room: str) -> Sequence[str]:
     return [*words, *([] if nodes > 1 else ["--oversubscribe"]), "-n", PLACE]
 
 
+def name_line(case: Case) -> str:
+    """A program with its words."""
+    return " ".join([os.path.basename(case.words[0]), *case.words[1:]])
+
+
 def ask(case: Case, nodes: int, sizes: str) -> Asked:
     """What is answered on a program."""
-    line = " ".join([os.path.basename(case.words[0]), *case.words[1:]])
     with tempfile.TemporaryDirectory(prefix="sizes-") as room:
         options = ["--sizes", sizes, "--json", "--checker", support.program()]
         words = [sys.executable, COMMAND, *options, "-o", os.path.join(room, "pattern")]
         words = ["timeout", "-k", "5", str(MOST_SECONDS), *words, *launch(nodes, room), *case.words]
-        # On one node messages go through memory.
-        environment = ENVIRONMENT if nodes > 1 else {
-            name: it for name, it in ENVIRONMENT.items() if name != "OMPI_MCA_btl_tcp_if_include"
-        }
+        environment = {**ENVIRONMENT, **SETTINGS}
+        if nodes == 1:
+            # Messages go through memory.
+            del environment["OMPI_MCA_btl_tcp_if_include"]
         ran = subprocess.run(
             words, cwd=case.folder, env=environment, stdin=subprocess.DEVNULL,
             capture_output=True, text=True, errors="replace", check=False,
         )
-    told = [it.removeprefix(SAID) for it in ran.stderr.splitlines() if it.startswith(SAID)]
+    told = [line.removeprefix(SAID) for line in ran.stderr.splitlines() if line.startswith(SAID)]
     said = "took too long" if ran.returncode == 124 else "".join(told[-1:])
-    return Asked(case.family, nodes, line, ran.returncode, ran.stdout, said)
+    return Asked(case.family, nodes, name_line(case), ran.returncode, ran.stdout, said)
 
 
 def read_answers(path: str) -> list[Asked]:
@@ -168,18 +193,20 @@ def read_answers(path: str) -> list[Asked]:
     if not os.path.exists(path):
         return []
     with open(path, encoding="utf-8") as lines:
-        return [Asked(*json.loads(it)) for it in lines]
+        return [Asked(*json.loads(line)) for line in lines]
 
 
 def ask_all(words: argparse.Namespace, folder: str) -> None:
-    """Asks about all programs of which nothing stands in the file of answers."""
+    """Asks about all programs of which nothing stands in the file of answers, or at most so
+    many."""
     cases = [*list_cases(folder), *(list_suite(words.suite) if words.suite else ())]
-    known = {(it.family, it.nodes, it.line) for it in read_answers(words.answers)}
-    for case in cases:
-        line = " ".join([os.path.basename(case.words[0]), *case.words[1:]])
-        is_known = (case.family, words.nodes, line) in known
-        if is_known or not all(it in f"{case.family} {line}" for it in words.only):
-            continue
+    known = {(asked.family, asked.nodes, asked.line) for asked in read_answers(words.answers)}
+    left = [
+        case for case in cases
+        if (case.family, words.nodes, name_line(case)) not in known
+        and all(word in f"{case.family} {name_line(case)}" for word in words.only)
+    ]
+    for case in left[:words.most]:
         asked = ask(case, words.nodes, words.sizes)
         with open(words.answers, "a", encoding="utf-8") as to:
             to.write(f"{json.dumps(asked)}\n")
@@ -188,7 +215,7 @@ def ask_all(words: argparse.Namespace, folder: str) -> None:
 
 def tell(asked: Asked) -> None:
     """Prints what a program counts as."""
-    counted = [it for it in asked.counts if it not in (EVERY, PATTERN)]
+    counted = [name for name in asked.counts if name not in (EVERY, PATTERN)]
     what = ", ".join(counted) or ("no pattern" if asked.counts else "no runs")
     where = "two nodes" if asked.nodes > 1 else "one node"
     print(asked.family, where, asked.line, what, asked.said, sep=" | ", flush=True)
@@ -198,11 +225,15 @@ def write_table(answers: Sequence[Asked]) -> Iterator[str]:
     """The table of all answers: a row for each family on each number of nodes, and one for all."""
     yield f"| |{'|'.join([EVERY, 'nodes', *COLUMNS[1:]])}|"
     yield f"|{'|'.join(['---'] * (len(COLUMNS) + 2))}|"
-    rows = dict.fromkeys((it.family, it.nodes) for it in answers)
-    for family, nodes in [*rows, *(("all", it) for it in sorted({it.nodes for it in answers}))]:
-        here = [it for it in answers if it.nodes == nodes and family in (it.family, "all")]
-        counted = collections.Counter(name for it in here for name in it.counts)
-        cells = [family, str(counted[EVERY]), str(nodes), *(str(counted[it]) for it in COLUMNS[1:])]
+    rows = dict.fromkeys((asked.family, asked.nodes) for asked in answers)
+    wholes = [("all", nodes) for nodes in sorted({nodes for _, nodes in rows})]
+    for family, nodes in [*rows, *wholes]:
+        counted = collections.Counter(
+            name for asked in answers for name in asked.counts
+            if asked.nodes == nodes and family in (asked.family, "all")
+        )
+        counts = [str(counted[name]) for name in COLUMNS]
+        cells = [family, counts[0], str(nodes), *counts[1:]]
         yield f"|{'|'.join(cells)}|"
 
 
@@ -214,6 +245,7 @@ def read_words() -> argparse.Namespace:
     parser.add_argument("--sizes", default="3,4,8")
     parser.add_argument("--suite")
     parser.add_argument("--only", nargs="*", default=[])
+    parser.add_argument("--most", type=int)
     parser.add_argument("--built")
     return parser.parse_args()
 
@@ -226,15 +258,18 @@ def main() -> int:
         return 0
     with tempfile.TemporaryDirectory(prefix="wire-up-") as folder:
         build(folder)
+        if words.suite:
+            build_suite(words.suite)
         again = [sys.executable, "-m", "tests.hold_sizes", *sys.argv[1:], "--built", folder]
         if words.nodes > 1:
             again = [sys.executable, "-m", "tests.two_nodes", *again]
         subprocess.run(again, cwd=support.TOP, check=True)
     answers = read_answers(words.answers)
-    lacking = [it for it in answers if it.counts and PATTERN not in it.counts]
-    print("", *(f"no pattern: {it.line}, nodes {it.nodes}: {it.said}" for it in lacking), sep="\n")
+    lacking = [asked for asked in answers if asked.counts and PATTERN not in asked.counts]
+    told = [f"no pattern: {asked.line}, nodes {asked.nodes}: {asked.said}" for asked in lacking]
+    print("", *told, sep="\n")
     print("", *write_table(answers), sep="\n")
-    return int(any(WRONG in it.counts for it in answers))
+    return int(any(WRONG in asked.counts for asked in answers))
 
 
 if __name__ == "__main__":

@@ -6,8 +6,8 @@ from wire_up_tools.record.sizes.plans import Call, SizedPlan
 def expand_plan(text: str, size: int) -> SizedPlan:
     """The plan of a pattern of one job, with so many ranks in each group."""
     roles = read_pattern(text)
-    sizes = {it.name: size for it in roles if it.is_group}
+    sizes = {role.name: size for role in roles if role.is_group}
     calls = {
-        rank: [Call(it) for it in them] for rank, them in expand(roles, sizes, {}).items()
+        rank: [Call(words) for words in them] for rank, them in expand(roles, sizes, {}).items()
     }
     return SizedPlan(f"{size} in a group", roles[0].job, calls)

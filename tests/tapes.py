@@ -126,7 +126,10 @@ def ask_program(program: str, *words: str) -> "subprocess.CompletedProcess[str]"
 
 
 def run_recorder(
-    *words: str, environment: dict[str, str] | None = None, says_libraries: bool = False
+    *words: str,
+    environment: dict[str, str] | None = None,
+    says_libraries: bool = False,
+    patience: float = 4 * PATIENCE,
 ) -> "subprocess.CompletedProcess[str]":
     """Runs `wire_up-record`. The line that says for which libraries the plan is portable is left
     out of what it says, if that isn't asked for."""
@@ -134,7 +137,7 @@ def run_recorder(
         [sys.executable, COMMAND, *words],
         capture_output=True,
         text=True,
-        timeout=4 * PATIENCE,
+        timeout=patience,
         check=False,
         env=environment,
     )

@@ -49,10 +49,10 @@ def meet(size: int) -> list[Tape]:
     """The same with a barrier in place of messages."""
     tapes = make_world(size)
     publish(tapes[0], "port")
-    for it in tapes:
-        it.call("collective barrier 1", "0 all")
-    for it in tapes[1:]:
-        look_up(it, "port")
+    for tape in tapes:
+        tape.call("collective barrier 1", "0 all")
+    for tape in tapes[1:]:
+        look_up(tape, "port")
     return tapes
 
 
@@ -60,8 +60,8 @@ def forget(size: int) -> list[Tape]:
     """The same without messages."""
     tapes = make_world(size)
     publish(tapes[0], "port")
-    for it in tapes[1:]:
-        look_up(it, "port")
+    for tape in tapes[1:]:
+        look_up(tape, "port")
     return tapes
 
 
@@ -69,12 +69,12 @@ def pass_on(size: int) -> list[Tape]:
     """Each rank publishes a name of its own; a message goes through all of them and comes back to
     the first, then round again. At the end each looks up the name of the rank before it."""
     tapes = make_world(size)
-    for rank, it in enumerate(tapes):
-        publish(it, f"port{rank}")
+    for rank, tape in enumerate(tapes):
+        publish(tape, f"port{rank}")
     for rank in (*range(size), *range(size)):
         send(tapes, rank, (rank + 1) % size)
-    for rank, it in enumerate(tapes):
-        look_up(it, f"port{(rank - 1) % size}")
+    for rank, tape in enumerate(tapes):
+        look_up(tape, f"port{(rank - 1) % size}")
     return tapes
 
 
@@ -82,15 +82,15 @@ def ask_between(size: int) -> list[Tape]:
     """Each rank publishes a name of its own. Behind a barrier rank 0 looks two of them up, and
     behind another one all publish the same name."""
     tapes = make_world(size)
-    for rank, it in enumerate(tapes):
-        publish(it, f"port{rank}")
-    for it in tapes:
-        it.call("collective barrier 1", "0 all")
+    for rank, tape in enumerate(tapes):
+        publish(tape, f"port{rank}")
+    for tape in tapes:
+        tape.call("collective barrier 1", "0 all")
     look_up(tapes[0], "port1")
     look_up(tapes[0], f"port{size - 1}")
-    for it in tapes:
-        it.call("collective barrier 1", "0 all")
-        publish(it, "port")
+    for tape in tapes:
+        tape.call("collective barrier 1", "0 all")
+        publish(tape, "port")
     return tapes
 
 
@@ -99,11 +99,11 @@ def count_rounds(size: int) -> list[Tape]:
     barrier each looks up that of the rank before it."""
     tapes = make_world(size)
     for round_of in range(2):
-        for rank, it in enumerate(tapes):
-            publish(it, f"round{round_of}of{rank}")
-            it.call("collective barrier 1", "0 all")
-        for rank, it in enumerate(tapes):
-            look_up(it, f"round{round_of}of{(rank - 1) % size}")
+        for rank, tape in enumerate(tapes):
+            publish(tape, f"round{round_of}of{rank}")
+            tape.call("collective barrier 1", "0 all")
+        for rank, tape in enumerate(tapes):
+            look_up(tape, f"round{round_of}of{(rank - 1) % size}")
     return tapes
 
 
@@ -127,8 +127,8 @@ def go_round(size: int) -> list[Tape]:
 def meet_and_go_round(size: int) -> list[Tape]:
     """The same behind a barrier, which tells nobody of the port."""
     tapes = make_world(size)
-    for it in tapes:
-        it.call("collective barrier 1", "0 all")
+    for tape in tapes:
+        tape.call("collective barrier 1", "0 all")
     return take_round(tapes)
 
 
@@ -144,25 +144,66 @@ def take_round(tapes: list[Tape]) -> list[Tape]:
             for rank in range(size):
                 source = shift(rank, sides, side, -by)
                 tapes[rank].call(f"receive 1 {source} {by + 1}", f"0 {source} {by + 1} 4")
-    for it in tapes:
-        look_up(it, "port")
+    for tape in tapes:
+        look_up(tape, "port")
     return tapes
 
 
 def put_cards(size: int) -> list[Tape]:
     """Each rank puts a card, and waits for those of all others: no call can race."""
     tapes = make_world(size)
-    for it in tapes:
-        it.call("put global card text:v").call("commit")
-        it.call("fence blocks all -")
+    for tape in tapes:
+        tape.call("put global card text:v").call("commit")
+        tape.call("fence blocks all -")
+    return tapes
+
+
+def meet_some(tapes: Sequence[Tape], ranks: Sequence[int]) -> None:
+    """Writes a fence of some ranks, which brings what they have put."""
+    members = ",".join(f"job:{rank}" for rank in ranks)
+    for rank in ranks:
+        tapes[rank].call(f"fence blocks {members} pmix.collect=number:1:1")
+
+
+def get_at_once(tape: Tape, owner: int) -> None:
+    """Writes that a rank gets a card at once and finds it."""
+    tape.call(f"get blocks job:{owner} :card pmix.optional=number:1:1", "0 text:v")
+
+
+def share_in_pairs(size: int, of_others: Sequence[int] = ()) -> list[Tape]:
+    """Each rank puts a card, and gets that of its pair behind a fence of both, and those of some
+    others besides."""
+    tapes = make_world(size)
+    for tape in tapes:
+        tape.call("put global card text:v").call("commit")
+    for rank in range(0, size - 1, 2):
+        meet_some(tapes, (rank, rank + 1))
+        get_at_once(tapes[rank], rank + 1)
+        get_at_once(tapes[rank + 1], rank)
+    for owner in of_others:
+        get_at_once(tapes[-1], owner)
+    return tapes
+
+
+def share_with_neighbours(size: int) -> list[Tape]:
+    """Each rank puts a card. It meets both neighbours in turn, and gets the card of each behind the
+    fence of both."""
+    tapes = make_world(size)
+    for tape in tapes:
+        tape.call("put global card text:v").call("commit")
+    for first in (0, 1):
+        for rank in range(first, size - 1, 2):
+            meet_some(tapes, (rank, rank + 1))
+            get_at_once(tapes[rank], rank + 1)
+            get_at_once(tapes[rank + 1], rank)
     return tapes
 
 
 def part_ways(size: int) -> list[Tape]:
     """With 4 ranks or more another call is made."""
     tapes = tell(size)
-    for rank, it in enumerate(tapes if size > 3 else []):
-        publish(it, f"more{rank}")
+    for rank, tape in enumerate(tapes if size > 3 else []):
+        publish(tape, f"more{rank}")
     return tapes
 
 
@@ -170,15 +211,15 @@ def answer_otherwise(size: int) -> list[Tape]:
     """All others get the card of rank 0, which the library hasn't with 4 ranks or more: then they
     publish a name. All put a card twice, so that calls can race."""
     tapes = make_world(size)
-    for it in tapes:
-        it.call("put global card text:v").call("commit")
-        it.call("put global card text:w").call("commit")
-        it.call("fence blocks all -")
+    for tape in tapes:
+        tape.call("put global card text:v").call("commit")
+        tape.call("put global card text:w").call("commit")
+        tape.call("fence blocks all -")
     found = "0 text:w" if size < 4 else "-46"
-    for rank, it in enumerate(tapes[1:], 1):
-        it.call("get blocks job:0 :card -", found)
+    for rank, tape in enumerate(tapes[1:], 1):
+        tape.call("get blocks job:0 :card -", found)
         if size > 3:
-            publish(it, f"more{rank}")
+            publish(tape, f"more{rank}")
     return tapes
 
 
@@ -211,8 +252,8 @@ class AnswerTest(unittest.TestCase):
     def write_run(self, tapes: Sequence[Tape], is_over: bool = True) -> str:
         """Writes the recordings of a run. Answers their folder."""
         folder = tempfile.mkdtemp(dir=self.room)
-        for n, it in enumerate(tapes):
-            write_file(os.path.join(folder, f"{n}.recording"), it.text(is_over))
+        for n, tape in enumerate(tapes):
+            write_file(os.path.join(folder, f"{n}.recording"), tape.text(is_over))
         return folder
 
     def ask(self, make: Tapes, taken: Sequence[int], held: Sequence[int]) -> Any:
@@ -230,8 +271,8 @@ class AnswerTest(unittest.TestCase):
 
     def read_pattern(self) -> str:
         """The pattern without its comments."""
-        with open(self.pattern, encoding="utf-8") as it:
-            return "".join(line for line in it if not line.startswith("#"))
+        with open(self.pattern, encoding="utf-8") as file:
+            return "".join(line for line in file if not line.startswith("#"))
 
     def test_order_that_all_know(self) -> None:
         """It stands as a name that the first rank publishes."""
@@ -250,8 +291,8 @@ class AnswerTest(unittest.TestCase):
         said = self.ask(meet, (3, 4), (8,))
         self.assertEqual((said["findings"], said["notes"]), ([], []))
         self.assertIn("many workers\nlookup-wait done.root.1\n", self.read_pattern())
-        with open(self.pattern, encoding="utf-8") as it:
-            self.assertIn("# Who waits for a name that begins with done. knows by MPI", it.read())
+        with open(self.pattern, encoding="utf-8") as file:
+            self.assertIn("# Who waits for a name that begins with done. knows by MPI", file.read())
 
     def test_a_race_that_recordings_have(self) -> None:
         said = self.ask(forget, (3, 4), (8,))
@@ -260,7 +301,7 @@ class AnswerTest(unittest.TestCase):
             ["race app:0 1 app:1 1 name port", "race app:0 1 app:2 1 name port"],
         )
         self.assertEqual((said["shown"], said["ranks"]), ("recording", 3))
-        words = [it["words"] for it in said["calls"]]
+        words = [call["words"] for call in said["calls"]]
         self.assertEqual(words, ["publish port x", "lookup port", "lookup port"])
 
     def test_names_with_the_rank(self) -> None:
@@ -306,6 +347,25 @@ class AnswerTest(unittest.TestCase):
         self.assertRegex(why, "^no call of these runs can race: ")
         self.assertEqual(self.read_pattern(), "pattern 1\njob app\nmany ranks\n")
 
+    def test_fences_of_some_that_bring(self) -> None:
+        """Where nothing is found in the runs, they are left out, and that is said."""
+        said = self.ask(share_in_pairs, (3, 4), (8,))
+        self.assertEqual(said["findings"], [])
+        self.assertRegex(said["notes"][0], "^the pattern leaves out fences of some ranks: ")
+        self.assertIn("get-now each card\n", self.read_pattern())
+        self.assertNotIn("fence", self.read_pattern())
+
+    def test_what_is_known_in_each_turn(self) -> None:
+        """Of the second neighbour it is known behind the second fence alone."""
+        said = self.ask(share_with_neighbours, (3, 4), (8,))
+        self.assertEqual(said["findings"], [])
+        self.assertIn("lookup-wait done.ranks.2[each]\nget-now each card\n", self.read_pattern())
+
+    def test_fences_of_some_that_bring_too_little(self) -> None:
+        said = self.ask(lambda size: share_in_pairs(size, [0]), (3, 4), (8,))
+        self.assertEqual((said["shown"], said["ranks"]), ("recording", 3))
+        self.assertRegex(said["notes"][0], "^no pattern fits these runs: ")
+
     def test_a_role_for_the_last_rank(self) -> None:
         self.assertEqual(self.ask(last_asks, (3, 4), (8,))["findings"], [])
         self.assertIn("one last\nlookup-wait done.root.1\n", self.read_pattern())
@@ -337,7 +397,7 @@ class AnswerTest(unittest.TestCase):
         self.assertFalse(os.path.exists(f"{self.room}/ran"))
 
     def test_the_text(self) -> None:
-        words = [it for size in (3, 4) for it in ("--from", self.write_run(tell(size)))]
+        words = [word for size in (3, 4) for word in ("--from", self.write_run(tell(size)))]
         ran = run_recorder("--sizes", "-o", self.pattern, "--checker", self.checker, *words)
         self.assertEqual(ran.returncode, 0, ran.stderr)
         first, second, *_ = ran.stdout.splitlines()
@@ -358,8 +418,8 @@ class AnswerTest(unittest.TestCase):
 
     def refuse_runs(self, *runs: Sequence[Tape], is_over: bool = True) -> str:
         """What is said of runs of which there is no pattern."""
-        folders = [self.write_run(it, is_over) for it in runs]
-        words = [it for folder in folders for it in ("--from", folder)]
+        folders = [self.write_run(tapes, is_over) for tapes in runs]
+        words = [word for folder in folders for word in ("--from", folder)]
         said = self.refuse(*words)
         for folder in folders:
             said = said.replace(folder, "RUN")
@@ -378,6 +438,11 @@ class AnswerTest(unittest.TestCase):
         ):
             self.assertEqual(self.refuse_runs(*runs), said)
 
+    def test_a_run_without_recordings(self) -> None:
+        empty = tempfile.mkdtemp(dir=self.room)
+        said = self.refuse("--from", self.write_run(tell(3)), "--from", empty)
+        self.assertRegex(said, f"^{empty}: there is no recording: ")
+
     def test_a_run_that_was_cut_off(self) -> None:
         said = self.refuse_runs(tell(3), tell(4), is_over=False)
         self.assertRegex(said, "^RUN: the run was cut off, and no pattern is made of it: 3 process")
@@ -394,12 +459,12 @@ class FencesTest(unittest.TestCase):
     def part(self, *words: str) -> list[list[bool]]:
         """Which calls stand for order, where the second of two ranks makes them the other way
         round."""
-        calls = [Call(it.split(" ")) for it in words]
+        calls = [Call(word.split(" ")) for word in words]
         order = [Call(["fence", "app:*"], is_order=True) for _ in range(2)]
         plan = SizedPlan("a run", "app", {
             "app:0": [order[0], calls[0]], "app:1": [calls[1], order[1]]
         })
-        return [[it.is_order for it in them] for them in part_fences(plan).calls.values()]
+        return [[call.is_order for call in them] for them in part_fences(plan).calls.values()]
 
     def test_none_collects(self) -> None:
         self.assertEqual(self.part("fence app:*", "fence app:*"), [[True, True], [True, True]])
@@ -467,6 +532,11 @@ class CommandLineTest(unittest.TestCase):
             ("--sizes -o p --from", "which recordings?"),
             ("--sizes -o p --keep k --from a --from b", "--keep goes with a command"),
             ("--sizes 3,4 -o p -o q mpirun -n {} a", "-o stands twice"),
+            ("--sizes 3,4 -o p --sizes 8 mpirun -n {} a", "--sizes stands twice"),
+            (
+                "--sizes 3 4 8 -o p mpirun -n {} a",
+                "the sizes are one word, with commas: --sizes 3,4",
+            ),
             (
                 "--sizes 3,4 -o p mpirun -n 4 a",
                 "no word of the command has {}, where the number of ranks goes",

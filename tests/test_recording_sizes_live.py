@@ -5,9 +5,11 @@ import unittest
 from typing import NamedTuple
 
 from live import ENVIRONMENT, LiveTest, Ran
-from tapes import ask_program, run_recorder
+from tapes import PATIENCE, ask_program, run_recorder
 
 SIZES = "3,4,8"
+# Ranks that wait leave the processor to those that they wait for.
+YIELDING = {**ENVIRONMENT, "OMPI_MCA_mpi_yield_when_idle": "1"}
 
 
 class Answered(NamedTuple):
@@ -41,7 +43,7 @@ class SizesTest(LiveTest):
         """Runs the recorder with sizes."""
         assert self.program
         options = ("--sizes", sizes, "--json", "-o", self.pattern, "--checker", self.program)
-        return run_recorder(*options, *words, environment=ENVIRONMENT)
+        return run_recorder(*options, *words, environment=YIELDING, patience=12 * PATIENCE)
 
     def test_programs(self) -> None:
         assert self.program
@@ -54,7 +56,7 @@ class SizesTest(LiveTest):
                 self.assertEqual(len(said["findings"]), wanted.findings)
                 self.assertEqual(said.get("shown"), wanted.shown)
                 self.assertEqual((said["from"], said["against"]), ([3, 4], [8]))
-                is_idle = any(it.startswith("no call of these runs") for it in said["notes"])
+                is_idle = any(note.startswith("no call of these runs") for note in said["notes"])
                 self.assertEqual(is_idle, not wanted.can_race)
                 judged = ask_program(self.program, "check", "--pattern", self.pattern)
                 self.assertEqual(judged.returncode, ran.returncode)
@@ -62,8 +64,8 @@ class SizesTest(LiveTest):
     def test_where_in_the_program(self) -> None:
         command = ("mpirun", "--oversubscribe", "-n", "{}", self.compile("early"))
         said = json.loads(self.run_sizes("3,4", *command).stdout)
-        for it in said["calls"]:
-            self.assertRegex(it["place"], r"^main \(.*early\.c:\d+\)$")
+        for call in said["calls"]:
+            self.assertRegex(call["place"], r"^main \(.*early\.c:\d+\)$")
 
     def test_a_run_that_fails(self) -> None:
         ran = self.run_sizes("3,4", "sh", "-c", "exit $1", "sh", "{}")

@@ -32,8 +32,8 @@ class RoundTripTest(unittest.TestCase):
                     pass
                 except Difference as found:
                     self.fail(str(found))
-        for it in (CLEAN, RACY):
-            self.assertGreater(counted[it], COUNT // 20, counted)
+        for what in (CLEAN, RACY):
+            self.assertGreater(counted[what], COUNT // 20, counted)
         self.assertLess(counted[LESS] + counted[NO_PATTERN], COUNT // 2, counted)
 
 

@@ -42,8 +42,9 @@ class Soak(unittest.TestCase):
         self.assertRegex(wrote, r"\d waits\b")
 
     def test_inferred(self) -> None:
-        """Patterns that are inferred again have the verdict of the first ones."""
-        wrote = self.soak("--inferred", "--seconds", "6")
+        """Patterns that are inferred again have the verdict of the first ones. The first two files
+        of this seed show both, so that a slow machine sees them too."""
+        wrote = self.soak("--inferred", "--seconds", "6", "--seed", "1")
         for kind in ("clean again", "racy again"):
             self.assertRegex(wrote, rf"\d {kind}\b")
 

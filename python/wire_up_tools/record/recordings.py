@@ -58,6 +58,10 @@ LOST = "lost\n"
 NO_RECORD = "isn't a record"
 
 
+class NoRecording(Refused):
+    """Why there is no recording."""
+
+
 @dataclass(frozen=True)
 class Address:
     """A place in the code of a program: a module and an offset in it."""
@@ -494,5 +498,5 @@ def read_recordings(paths: Sequence[str], most: Limits) -> list[Recording]:
             found.append(read_recording(path, it.read()))
     if not found:
         is_pmi = any(os.path.exists(os.path.join(it, STARTED_BY_PMI)) for it in paths)
-        raise Refused(f"there is no recording: {WITHOUT_PMIX if is_pmi else NOT_LOADED}")
+        raise NoRecording(f"there is no recording: {WITHOUT_PMIX if is_pmi else NOT_LOADED}")
     return found

@@ -16,6 +16,10 @@ from wire_up_tools.words import NO_CALL_RACES
 EVERYWHERE = "every number of ranks on every placement"
 # On what a verdict for every number rests beside the pattern.
 GUESS = "that other numbers do the same is a guess"
+LACKS_FENCES = (
+    "the pattern leaves out fences of some ranks: that they bring what is got at once, as in these "
+    "runs, is part of the guess"
+)
 # The least number of ranks with three sides of 3: in a smaller grid one of three sides has 2 at
 # most, so that its ranks are neighbours of all others along it.
 LEAST_GRID = 27
@@ -59,7 +63,7 @@ class Answer:
 
 def join_sizes(plans: Sequence[SizedPlan]) -> str:
     """Numbers of ranks in a row, such as `3, 4 and 8`."""
-    sizes = [str(it.size) for it in plans]
+    sizes = [str(plan.size) for plan in plans]
     return f"{', '.join(sizes[:-1])} and {sizes[-1]}" if len(sizes) > 1 else "".join(sizes)
 
 
@@ -76,12 +80,12 @@ def place_calls(skeleton: Skeleton, verdict: Verdict) -> Sequence[Named]:
     job = skeleton.roles[0].job
     roles = part_ranks([f"{job}:{n}" for n in range(verdict.ranks)], job, skeleton.way)
     found = []
-    for it in verdict.calls:
+    for call in verdict.calls:
         try:
-            line = Speaker(roles, it.rank).say(it.words).words
+            line = Speaker(roles, call.rank).say(call.words).words
         except NotSaid:
             line = ""
-        found.append(replace(it, place=places.get((roles.by_rank[it.rank].name, line))))
+        found.append(replace(call, place=places.get((roles.by_rank[call.rank].name, line))))
     return found
 
 
@@ -118,24 +122,31 @@ def list_notes(answer: Answer) -> list[str]:
             "the pattern leaves out order: ranks knew of all others by no more messages than with "
             f"fewer ranks, so that with more they may not; run more, such as {LEAST_GRID}"
         )
+    found += [LACKS_FENCES] if inferred.lacks_fences else []
     if inferred.needs_messages and not answer.findings:
-        found += say_rest([*answer.taken, *answer.held])
-    return [*found, *say_unanswered(answer.verdict), *answer.in_part]
+        order = "their order" if inferred.lacks_fences else "the messages of MPI"
+        found += say_rest([*answer.taken, *answer.held], order)
+    return [*found, *say_unanswered(answer.verdict, inferred), *answer.in_part]
 
 
-def say_unanswered(verdict: Verdict) -> list[str]:
-    """Which lines of a pattern wait for ever, or fail, in plans of it."""
-    return [
-        f"{what} in a plan of the pattern: {' '.join(it.split()[1:4])}"
+def say_unanswered(verdict: Verdict, inferred: Inferred) -> list[str]:
+    """Which lines of a pattern wait for ever, or fail, in plans of it, though it has what brings
+    what they get."""
+    told = (
+        (what, " ".join(line.split()[1:4]))
         for what, lines in (("waits for ever", verdict.waiting), ("may fail", verdict.failing))
-        for it in lines
+        for line in lines
+    )
+    return [
+        f"{what} in a plan of the pattern: {line}" for what, line in told
+        if not (inferred.lacks_fences and line.endswith(" get-now"))
     ]
 
 
-def say_rest(plans: Sequence[SizedPlan]) -> list[str]:
-    """That the verdict rests on the order of MPI, and which size tells more."""
-    said = "without the messages of MPI there would be a race"
-    most = max(plans, key=lambda it: it.size)
+def say_rest(plans: Sequence[SizedPlan], order: str) -> list[str]:
+    """That the verdict rests on an order of some ranks, and which size tells more."""
+    said = f"without {order} there would be a race"
+    most = max(plans, key=lambda plan: plan.size)
     if most.size >= LEAST_GRID:
         return [said]
     return [
@@ -150,8 +161,9 @@ def list_lines(answer: Answer) -> list[str]:
         first = [f"findings 0 for {EVERYWHERE}"]
     else:
         calls = [
-            f"  {it.rank} {it.number} {' '.join(it.words)}{f' at {it.place}' if it.place else ''}"
-            for it in answer.calls
+            f"  {call.rank} {call.number} {' '.join(call.words)}"
+            f"{f' at {call.place}' if call.place else ''}"
+            for call in answer.calls
         ]
         counted = f"findings {len(answer.findings)}"
         first = [*answer.findings, *calls, counted, say_shown(answer)]
@@ -163,14 +175,14 @@ def list_lines(answer: Answer) -> list[str]:
 
 def write_answer(answer: Answer) -> str:
     """The answer as text."""
-    return "".join(f"{it}\n" for it in list_lines(answer))
+    return "".join(f"{line}\n" for line in list_lines(answer))
 
 
 def write_json(answer: Answer) -> str:
     """The answer as one object of JSON."""
     said: dict[str, Any] = {
-        "from": [it.size for it in answer.taken],
-        "against": [it.size for it in answer.held],
+        "from": [plan.size for plan in answer.taken],
+        "against": [plan.size for plan in answer.held],
         "findings": list(answer.findings),
         "notes": list_notes(answer),
     }
@@ -178,8 +190,11 @@ def write_json(answer: Answer) -> str:
         said["shown"] = "recording" if answer.shown else "pattern"
         said["ranks"] = answer.shown.plan.size if answer.shown else answer.verdict.ranks
         said["calls"] = [
-            {"call": f"{it.rank} {it.number}", "words": " ".join(it.words), "place": it.place}
-            for it in answer.calls
+            {
+                "call": f"{call.rank} {call.number}", "words": " ".join(call.words),
+                "place": call.place,
+            }
+            for call in answer.calls
         ]
     else:
         said["for"] = EVERYWHERE

@@ -4,7 +4,7 @@ from collections.abc import Sequence
 from dataclasses import dataclass
 
 from wire_up_tools.failures import Refused, Unusable
-from wire_up_tools.options import Option, Parser
+from wire_up_tools.options import Once, Option, Parser
 
 SIZES, FROM, AGAINST = "--sizes", "--from", "--against"
 NUMBERS = re.compile(r"[1-9]\d{0,6}(,[1-9]\d{0,6})*")
@@ -37,7 +37,7 @@ class SizesParser(Parser):
 
     def __init__(self, options: Sequence[Option]) -> None:
         super().__init__([*options, Option("--json", "", "writes the answer as JSON")])
-        self.add_argument(SIZES, nargs="?", const="")
+        self.add_argument(SIZES, nargs="?", const="", action=Once)
         for name, found in ((FROM, "taken"), (AGAINST, "held")):
             self.add_argument(name, dest=found, nargs="+", action="append", default=[])
 
@@ -55,7 +55,7 @@ class SizesParser(Parser):
 
 def list_options(words: Sequence[str], options: Sequence[Option]) -> Sequence[str]:
     """The words before the command, or all where recordings are named."""
-    takes = {it.name for it in options if it.word}
+    takes = {option.name for option in options if option.word}
     at = 0
     while at < len(words) and words[at].startswith("-"):
         if words[at] in (FROM, AGAINST):
@@ -70,29 +70,37 @@ def asks_for_sizes(words: Sequence[str], options: Sequence[Option]) -> bool:
     return SIZES in list_options(words, options)
 
 
-def read_sizes_request(words: Sequence[str], options: Sequence[Option]) -> SizesRequest:
-    """What a command line with `--sizes` asks for. Raises Unusable, Refused."""
-    before = list_options(words, options)
-    numbers = "".join(words[words.index(SIZES) + 1:][:1])
-    is_run = NUMBERS.fullmatch(numbers) is not None
-    if is_run and (FROM in before or AGAINST in before):
+def read_numbers(words: Sequence[str], before: Sequence[str]) -> list[int]:
+    """The sizes with which a command is run, in order; none where recordings are named. `before`
+    are the words before the command. Raises Unusable."""
+    numbers, after = [*words[words.index(SIZES) + 1:][:2], "", ""][:2]
+    if not NUMBERS.fullmatch(numbers):
+        if FROM not in before:
+            raise Unusable(NEEDS_NUMBERS)
+        return []
+    if NUMBERS.fullmatch(after):
+        raise Unusable(f"the sizes are one word, with commas: {SIZES} {numbers},{after}")
+    if FROM in before or AGAINST in before:
         raise Unusable(
             f"{FROM} and {AGAINST} name recordings, and {SIZES} {numbers} runs a command: one of "
             "the two"
         )
-    if not is_run and FROM not in before:
-        raise Unusable(NEEDS_NUMBERS)
+    return sorted(map(int, numbers.split(",")))
+
+
+def read_sizes_request(words: Sequence[str], options: Sequence[Option]) -> SizesRequest:
+    """What a command line with `--sizes` asks for. Raises Unusable, Refused."""
+    numbers = read_numbers(words, list_options(words, options))
     found = SizesParser(options).read(words)
-    for it in options:
-        is_given = getattr(found, it.name.lstrip("-").replace("-", "_"))
-        if it.name not in WITH_SIZES and is_given not in (None, False):
-            raise Unusable(f"{it.name} doesn't go with {SIZES}")
+    for option in options:
+        is_given = getattr(found, option.name.lstrip("-").replace("-", "_"))
+        if option.name not in WITH_SIZES and is_given not in (None, False):
+            raise Unusable(f"{option.name} doesn't go with {SIZES}")
     if found.o is None:
         raise Unusable("-o PATTERN says where the pattern goes")
     asked = SizesRequest(
-        found.o, sorted(map(int, numbers.split(","))) if is_run else [], found.rest,
-        found.taken, found.held, found.keep, found.checker, not found.no_mpi, found.strict,
-        found.json,
+        found.o, numbers, found.rest, found.taken, found.held, found.keep, found.checker,
+        not found.no_mpi, found.strict, found.json,
     )
     judge_request(asked)
     return asked
@@ -109,7 +117,7 @@ def judge_request(asked: SizesRequest) -> None:
     refuse_sizes(asked.sizes)
     if not asked.command:
         raise Unusable("which command?")
-    if not any(PLACE in it for it in asked.command):
+    if not any(PLACE in word for word in asked.command):
         raise Refused(f"no word of the command has {PLACE}, where the number of ranks goes")
 
 
@@ -119,7 +127,7 @@ def refuse_sizes(sizes: Sequence[int]) -> None:
         raise Refused(
             f"runs with {min(sizes)} ranks tell too little: each size must be {FEWEST} or more"
         )
-    twice = [it for it in dict.fromkeys(sizes) if sizes.count(it) > 1]
+    twice = [size for size in dict.fromkeys(sizes) if sizes.count(size) > 1]
     if twice:
         raise Refused(f"two runs have {twice[0]} ranks: each size is given once")
     if len(sizes) < 2:

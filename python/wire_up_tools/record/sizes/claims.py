@@ -41,18 +41,26 @@ def inform(instance: Instance) -> Informed:
     return Informed(instance, find_known(plan, True), find_known(plan, False))
 
 
-def list_pairs(instance: Instance, claim: Claim) -> Iterator[tuple[str, str]]:
-    """Who knows of whom by a claim."""
+def list_pairs(instance: Instance, claim: Claim) -> Iterator[tuple[str, int, str]]:
+    """Who knows, before which of its calls, of whom by a claim."""
     of_source = instance.roles.find(claim.source).ranks
     for rank in instance.roles.find(claim.role).ranks:
+        bounds = instance.passed[rank].bounds
         others = instance.passed[rank].turns[claim.at] if claim.of_turns else of_source
-        yield from ((rank, it) for it in others if it != rank)
+        # How many calls a turn has.
+        step = (
+            (bounds[claim.at + 1] - bounds[claim.at]) // len(others)
+            if claim.of_turns and others else 0
+        )
+        for number, other in enumerate(others):
+            if other != rank:
+                yield rank, bounds[claim.at] + number * step, other
 
 
 def find_waits(claims: Sequence[Claim]) -> frozenset[Wait]:
     """Before which items claims make ranks wait. A wait in a turn has a call of its turn behind
     it."""
-    return frozenset((it.role, it.at) for it in claims if not it.of_turns)
+    return frozenset((claim.role, claim.at) for claim in claims if not claim.of_turns)
 
 
 def find_level(
@@ -63,8 +71,8 @@ def find_level(
     passed = instance.passed
     waiting = {at for role, at in waits if role == claim.source}
     levels = (
-        passed[other].find_item(known[rank][passed[rank].bounds[claim.at]].get(other, 0), waiting)
-        for rank, other in list_pairs(instance, claim)
+        passed[other].find_item(known[rank][number].get(other, 0), waiting)
+        for rank, number, other in list_pairs(instance, claim)
     )
     return min(levels, default=None)
 
@@ -80,7 +88,7 @@ class Finder:
 
     def __init__(self, skeleton: Skeleton, informed: Sequence[Informed]) -> None:
         self.skeleton, self.informed = skeleton, informed
-        self.names = [it.name for it in skeleton.roles]
+        self.names = [role.name for role in skeleton.roles]
         self.waits = frozenset[Wait]()
 
     def find(self, refused: set[Claim]) -> Sequence[Claim]:
@@ -88,7 +96,7 @@ class Finder:
         is true with the waits of all."""
         while True:
             found = self.leave_idle([
-                it for role in self.names for it in self.list_new(role, refused)
+                claim for role in self.names for claim in self.list_new(role, refused)
             ])
             waits = find_waits(found)
             if waits <= self.waits:
@@ -112,18 +120,19 @@ class Finder:
 
     def claim(self, asked: Claim, had: int) -> Claim | None:
         """What is known in all plans, if that is more than was known, and than by the program."""
-        levels = self.find_least(asked, lambda it: it.known)
+        levels = self.find_least(asked, lambda informed: informed.known)
         if levels is None or levels <= had:
             return None
-        by_program = self.find_least(asked, lambda it: it.by_program)
+        by_program = self.find_least(asked, lambda informed: informed.by_program)
         return asked._replace(known=levels) if levels > (by_program or 0) else None
 
     def find_least(self, asked: Claim, choose: Callable[[Informed], Known]) -> int | None:
         """What is known in all plans."""
         levels = (
-            find_level(it.instance, choose(it), asked, self.waits) for it in self.informed
+            find_level(informed.instance, choose(informed), asked, self.waits)
+            for informed in self.informed
         )
-        return min((it for it in levels if it is not None), default=None)
+        return min((level for level in levels if level is not None), default=None)
 
     def matters(self, role: str, at: int) -> bool:
         """Whether a call that can race, or bring what races, comes at an item or behind it."""
@@ -136,23 +145,23 @@ class Finder:
 
     def leave_idle(self, found: Sequence[Claim]) -> Sequence[Claim]:
         """The claims at or behind which something matters, or what others claim to be passed."""
-        kept = [it for it in found if it.of_turns or self.matters(it.role, it.at)]
+        kept = [claim for claim in found if claim.of_turns or self.matters(claim.role, claim.at)]
         while True:
             more = [
-                it for it in found if it not in kept
-                and any(a.source == it.role and a.known >= it.at for a in kept)
+                claim for claim in found if claim not in kept
+                and any(a.source == claim.role and a.known >= claim.at for a in kept)
             ]
             if not more:
-                return [it for it in found if it in kept]
+                return [claim for claim in found if claim in kept]
             kept += more
 
 
 def grows(instances: Sequence[Instance], claim: Claim) -> bool:
     """Whether what MPI does for a claim grows from an instance to the last one, which has at least
     twice as many ranks."""
-    sizes = sorted(instances, key=lambda it: it.plan.size)
+    sizes = sorted(instances, key=lambda instance: instance.plan.size)
     most = sizes[-1]
-    half = [it for it in sizes if 2 * it.plan.size <= most.plan.size][-1]
+    half = [instance for instance in sizes if 2 * instance.plan.size <= most.plan.size][-1]
     return measure_claim(half, claim) < measure_claim(most, claim)
 
 
@@ -174,15 +183,18 @@ def find_claims(
 ) -> tuple[Sequence[Claim], int]:
     """What the ranks of all plans of a skeleton know; and how many claims about a number of ranks
     don't grow with it and were dropped. `larger` are other instances."""
-    finder = Finder(skeleton, [inform(it) for it in skeleton.instances])
+    finder = Finder(skeleton, [inform(instance) for instance in skeleton.instances])
     instances = [*skeleton.instances, *larger]
-    sizes = [it.plan.size for it in instances]
-    groups = {it.name for it in skeleton.roles if it.is_group}
+    sizes = [instance.plan.size for instance in instances]
+    groups = {role.name for role in skeleton.roles if role.is_group}
     refused = set[Claim]()
     found = finder.find(refused)
     while max(sizes) >= 2 * min(sizes):
-        of_many = (it for it in found if not it.of_turns and groups & {it.role, it.source})
-        more = {it for it in of_many if not grows(instances, it)} - refused
+        of_many = (
+            claim for claim in found
+            if not claim.of_turns and groups & {claim.role, claim.source}
+        )
+        more = {claim for claim in of_many if not grows(instances, claim)} - refused
         if not more:
             break
         refused |= more

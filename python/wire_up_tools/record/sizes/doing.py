@@ -15,7 +15,7 @@ from wire_up_tools.record.floating import settle_floating
 from wire_up_tools.record.notes import FLOATING
 from wire_up_tools.record.places import find_places, read_places
 from wire_up_tools.record.planning import Choices, Plan, make_plan
-from wire_up_tools.record.recordings import read_recordings
+from wire_up_tools.record.recordings import NoRecording, read_recordings
 from wire_up_tools.record.running import find_libraries, make_environment, make_folder, run
 from wire_up_tools.record.sizes.answering import (
     Answer,
@@ -58,7 +58,10 @@ TOO_MANY = (
     "no pattern of these runs can be judged: its ranks choose whom they call, in more ways than "
     "are tried"
 )
-SAYS_ORDER = "Who waits for a name that begins with {}. knows by MPI that another rank came there."
+SAYS_ORDER = (
+    "Who waits for a name that begins with {}. knows by MPI, or a fence of some ranks, that another"
+    " rank came there."
+)
 # What is said before why a verdict says less of the program.
 DOUBTS = {
     MORE_ORDERED: "a verdict holds only in part:",
@@ -77,14 +80,17 @@ class Made:
 
 def make_sized(name: str, paths: Sequence[str], choices: Choices) -> Made:
     """The plan of the recordings of a run. Raises Refused, OSError."""
-    recordings = read_recordings(paths, choices.most)
+    try:
+        recordings = read_recordings(paths, choices.most)
+    except NoRecording as why:
+        raise Refused(f"{name}: {why}") from None
     plan = make_plan(recordings, choices)
     text_of, lean = plan, plan
     if plan.notes.more_ordered[FLOATING]:
         # Without gets that may float nothing is more ordered by them.
         lean = make_plan(recordings, replace(choices, has_floating=False))
         plan = replace(plan, notes=settle_floating(plan.notes))
-    folders = dict.fromkeys(os.path.dirname(it.path) for it in recordings)
+    folders = dict.fromkeys(os.path.dirname(recording.path) for recording in recordings)
     places = find_places(plan.draft, read_places(folders))
     for title, them in list_plan_notes(plan):
         if title == CUT_OFF and them:
@@ -101,7 +107,7 @@ def run_sizes(asked: SizesRequest, choices: Choices, folder: str) -> Iterator[Ma
         for size in asked.sizes:
             recordings = os.path.join(room, str(size))
             os.makedirs(recordings)
-            command = [it.replace(PLACE, str(size)) for it in asked.command]
+            command = [word.replace(PLACE, str(size)) for word in asked.command]
             environment = make_environment(libraries, recordings)
             status, is_stopped = run(command, environment, None, STANDARD_ERROR)
             if status or is_stopped:
@@ -128,20 +134,21 @@ def collect_runs(
         return made[:count], made[count:]
     taken, held = (
         sorted(
-            (make_sized(" ".join(it), it, choices) for it in them), key=lambda it: it.sized.size
+            (make_sized(" ".join(paths), paths, choices) for paths in them),
+            key=lambda made: made.sized.size,
         )
         for them in (asked.taken, asked.held)
     )
-    refuse_sizes([it.sized.size for it in (*taken, *held)])
+    refuse_sizes([made.sized.size for made in (*taken, *held)])
     return taken, held
 
 
 def find_shown(checker: Checker, runs: Sequence[Made]) -> Shown | None:
     """The first run in which something is found. Raises Refused, OSError."""
-    for it in runs:
-        verdict = judge_plan(checker, it.sized.name, it.text)
+    for made in runs:
+        verdict = judge_plan(checker, made.sized.name, made.text)
         if verdict.findings:
-            return Shown(it.sized, verdict)
+            return Shown(made.sized, verdict)
     return None
 
 
@@ -150,11 +157,11 @@ def answer(checker: Checker, taken: Sequence[Made], held: Sequence[Made]) -> Ans
     found; OSError."""
     every = [*taken, *held]
     in_part = list_doubts(every)
-    ours, others = [it.sized for it in taken], [it.sized for it in held]
-    if not any(can_race(it.sized) for it in every):
+    ours, others = [made.sized for made in taken], [made.sized for made in held]
+    if not any(can_race(made.sized) for made in every):
         return Answer(ours, others, None, Verdict([]), in_part=in_part)
-    found = infer(ours, others, lambda text: count_racing(checker, text))
     shown = find_shown(checker, every)
+    found = infer(ours, others, lambda text: count_racing(checker, text), not shown)
     if isinstance(found, Inferred) and found.racing is not None:
         verdict = judge_pattern(checker, found.text, ANSWERS)
         return Answer(found.taken, found.held, found, verdict, shown, in_part=in_part)
@@ -167,8 +174,8 @@ def answer(checker: Checker, taken: Sequence[Made], held: Sequence[Made]) -> Ans
 def list_doubts(runs: Sequence[Made]) -> Sequence[str]:
     """Why a verdict over the plans says less of the program."""
     return [
-        f"{DOUBTS[title]} {it}" for title, them in join_notes(runs) if title in DOUBTS
-        for it in them
+        f"{DOUBTS[title]} {line}" for title, them in join_notes(runs) if title in DOUBTS
+        for line in them
     ]
 
 
@@ -179,7 +186,7 @@ def join_notes(runs: Sequence[Made]) -> Iterator[tuple[str, Sequence[str]]]:
     for run_of in runs:
         for title, them in list_plan_notes(run_of.plan):
             if title not in (WRITTEN_OTHERWISE, LEFT_OUT_HARMLESS):
-                counted = (it.partition(" ") for it in them)
+                counted = (text.partition(" ") for text in them)
                 found.setdefault(title, Counter())
                 found[title] |= Counter({what: int(count) for count, _, what in counted})
     for title, counts in found.items():
@@ -196,13 +203,14 @@ def write_head(found: Answer, runs: Sequence[Made]) -> str:
     """The head of the pattern: what it comes from, and what it can't say."""
     last = runs[-1].plan
     lines = [f"{PATTERN_BY}, {say_origin(found.taken, found.held)}. {GUESS}"]
-    lines += [it for it in list_notes(found) if it not in found.in_part]
+    lines += [note for note in list_notes(found) if note not in found.in_part]
     lines += say_order(found.inferred) if found.inferred else []
-    own = say_own_code if all(is_by_mpi_alone(it.plan) for it in runs) else say_luck
-    lines += dict.fromkeys(it.removeprefix("# ") for say in (say_luck, own) for it in say(last))
+    own = say_own_code if all(is_by_mpi_alone(made.plan) for made in runs) else say_luck
+    said = [line for say in (say_luck, own) for line in say(last)]
+    lines += dict.fromkeys(line.removeprefix("# ") for line in said)
     for title, them in join_notes(runs):
-        lines += [title, *(f"  {it}" for it in them)] if them else []
-    return "".join(f"# {it}\n" for it in lines)
+        lines += [title, *(f"  {line}" for line in them)] if them else []
+    return "".join(f"# {line}\n" for line in lines)
 
 
 def write_whole_pattern(found: Answer, runs: Sequence[Made]) -> str:

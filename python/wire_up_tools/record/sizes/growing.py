@@ -23,17 +23,17 @@ class Tally:
 
     def add(self, rank: str, sources: Sequence[Source], is_fence: bool) -> None:
         """Adds that a rank waited for calls: a message may be its own, a fence is met by others."""
-        depths = [self.reached.get(it.call, 0) + 1 for it in sources]
+        depths = [self.reached.get(source.call, 0) + 1 for source in sources]
         self.depth[rank] = max([self.depth[rank], *depths])
-        for it in sources:
-            if it.rank != rank or not is_fence:
+        for source in sources:
+            if source.rank != rank or not is_fence:
                 self.got[rank] += 1
-                self.gave[it.rank] += 1
+                self.gave[source.rank] += 1
 
     @property
     def total(self) -> int:
         """The most that a rank got, the most that were waited for, and the longest chain."""
-        return sum(max(it.values()) for it in (self.got, self.gave, self.depth))
+        return sum(max(counts.values()) for counts in (self.got, self.gave, self.depth))
 
 
 def measure(plan: SizedPlan, parts: Mapping[str, Part], known: Set[str]) -> int:
@@ -45,7 +45,7 @@ def measure(plan: SizedPlan, parts: Mapping[str, Part], known: Set[str]) -> int:
     told, telling = set[str](), set[Call]()
     for step, rank, call, sources in Walk(plan, True).take():
         first, last = parts[rank]
-        heard = [it for it in sources if it.call in telling]
+        heard = [source for source in sources if source.call in telling]
         if heard or rank in known and made[rank] >= first:
             told.add(rank)
         if step is Step.REACHED or call.verb in ("publish", "commit"):
@@ -56,7 +56,7 @@ def measure(plan: SizedPlan, parts: Mapping[str, Part], known: Set[str]) -> int:
         if call.is_order and first <= made[rank] <= last:
             tally.add(rank, heard, call.verb == "fence")
         elif call.verb == "fence":
-            depths = [tally.reached[it.call] for it in heard]
+            depths = [tally.reached[source.call] for source in heard]
             tally.depth[rank] = max([tally.depth[rank], *depths])
         made[rank] += not call.is_order
     return tally.total

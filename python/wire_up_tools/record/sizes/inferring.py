@@ -14,6 +14,7 @@ from wire_up_tools.record.sizes.claims import (
 )
 from wire_up_tools.record.sizes.leaning import (
     keep_whole_fences,
+    leave_parts_out,
     make_lean,
     part_fences,
     take_fences_as_order,
@@ -43,7 +44,8 @@ class Inferred:
     with the ranks. If the pattern `needs_messages`, something is found without what ranks of a
     group know, or what is known of them, by messages and by fences that aren't of all ranks. With
     all that something is found with so many `racing` ranks; 0 if nothing is, None if that isn't
-    known."""
+    known. `lacks_fences` says that fences of some ranks are left out that bring what calls get at
+    once."""
 
     text: str
     skeleton: Skeleton
@@ -53,12 +55,15 @@ class Inferred:
     taken: Sequence[SizedPlan]
     held: Sequence[SizedPlan]
     failed: SizedPlan | None = None
+    lacks_fences: bool = False
 
 
 def index_all(plans: Sequence[SizedPlan]) -> Sequence[SizedPlan]:
     """Plans with the numbers that are ranks in all of them as indices."""
-    places = find_numbers([name_all((it.words for it in p.list_all()), p.size) for p in plans])
-    return [index_plan(it, places) for it in plans]
+    places = find_numbers([
+        name_all((call.words for call in plan.list_all()), plan.size) for plan in plans
+    ])
+    return [index_plan(plan, places) for plan in plans]
 
 
 def infer_ways(
@@ -80,10 +85,10 @@ def infer_ways(
             unjudged.append(found)
         elif found.racing:
             racy.append(found)
-        elif all((it.racing or 0) >= len(way) for it in racy):
+        elif all((pattern.racing or 0) >= len(way) for pattern in racy):
             return found
     kept = [*racy, *unjudged]
-    return kept[0] if kept else (unfit or [max(broken, key=lambda it: it.number)])[0]
+    return kept[0] if kept else (unfit or [max(broken, key=lambda where: where.number)])[0]
 
 
 def infer_way(
@@ -96,8 +101,8 @@ def infer_way(
     order it has nothing, or else only that of fences of all ranks, if nothing is found without the
     rest."""
     fitted = list[Instance]()
-    for it in larger:
-        instance = fit(it, skeleton.way, skeleton.scripts)
+    for plan in larger:
+        instance = fit(plan, skeleton.way, skeleton.scripts)
         if isinstance(instance, Unfit):
             return instance
         fitted.append(instance)
@@ -108,8 +113,8 @@ def infer_way(
             return Inferred(text, skeleton, 0, False, 0, taken, larger)
     claims, dropped = find_claims(skeleton, fitted)
     text = write_pattern(skeleton, claims)
-    groups = {it.name for it in skeleton.roles if it.is_group}
-    of_many = any(groups & {it.role, it.source} for it in claims)
+    groups = {role.name for role in skeleton.roles if role.is_group}
+    of_many = any(groups & {claim.role, claim.source} for claim in claims)
     return why_other(fitted, claims) or Inferred(
         text, skeleton, dropped, of_many, judge(text), taken, larger
     )
@@ -118,48 +123,62 @@ def infer_way(
 def change_plans(skeleton: Skeleton, change: Callable[[SizedPlan], SizedPlan]) -> Skeleton:
     """A skeleton whose plans have other lines of order."""
     return replace(skeleton, instances=[
-        replace(it, plan=change(it.plan)) for it in skeleton.instances
+        replace(instance, plan=change(instance.plan)) for instance in skeleton.instances
     ])
 
 
 def why_other(fitted: Sequence[Instance], claims: Sequence[Claim]) -> Unfit | None:
     """The first instance of which claims aren't true."""
     waits = find_waits(claims)
-    for it in fitted if claims else ():
-        informed = inform(it)
+    for instance in fitted if claims else ():
+        informed = inform(instance)
         if not all(is_true(informed, claim, waits) for claim in claims):
-            return Unfit(it.plan, it.plan.ranks[0], 1, "MPI orders it less")
+            return Unfit(instance.plan, instance.plan.ranks[0], 1, "MPI orders it less")
     return None
 
 
 def infer_once(
-    taken: Sequence[SizedPlan], larger: Sequence[SizedPlan], judge: Judge
+    taken: Sequence[SizedPlan], larger: Sequence[SizedPlan], judge: Judge, is_clean: bool
 ) -> Inferred | Unfit:
     """The pattern of plans, which the larger ones hold, with the fences of the program as they are,
-    or else with those for order that collect nothing; or where the first breaks."""
-    unfit = None
-    lean = [part_fences(make_lean(it)) for it in (*taken, *larger)]
-    for changed in (lean, [take_fences_as_order(it) for it in lean]):
-        plans = index_all(changed)
-        found = infer_ways(plans[:len(taken)], plans[len(taken):], judge)
-        if isinstance(found, Inferred):
-            return found
-        unfit = unfit or found
-    assert unfit
-    return unfit
+    or else with those for order that collect nothing; or, if nothing is found in the plans, with
+    all fences of some ranks for order, if nothing is found in the pattern then; or where the first
+    breaks."""
+    plans = [*taken, *larger]
+    lean = [part_fences(make_lean(plan)) for plan in plans]
+    first = infer_indexed(lean, len(taken), judge)
+    if isinstance(first, Inferred):
+        return first
+    found = infer_indexed([take_fences_as_order(plan) for plan in lean], len(taken), judge)
+    if isinstance(found, Inferred):
+        return found
+    if is_clean:
+        lean = [part_fences(make_lean(plan, of_any=True)) for plan in plans]
+        found = infer_indexed([leave_parts_out(plan) for plan in lean], len(taken), judge)
+        if isinstance(found, Inferred) and found.racing == 0:
+            return replace(found, lacks_fences=True)
+    return first
+
+
+def infer_indexed(plans: Sequence[SizedPlan], count: int, judge: Judge) -> Inferred | Unfit:
+    """The pattern of the first so many plans, which the others hold, with numbers of ranks as
+    indices."""
+    indexed = index_all(plans)
+    return infer_ways(indexed[:count], indexed[count:], judge)
 
 
 def infer(
-    taken: Sequence[SizedPlan], larger: Sequence[SizedPlan], judge: Judge
+    taken: Sequence[SizedPlan], larger: Sequence[SizedPlan], judge: Judge, is_clean: bool = False
 ) -> Inferred | Unfit:
     """The pattern of plans, which the larger ones hold. Where one doesn't, the pattern is made anew
-    with all of them. Answers where their calls fit no script, if they don't."""
-    found = infer_once(taken, larger, judge)
+    with all of them. Answers where their calls fit no script, if they don't. `is_clean` says that
+    nothing is found in the plans themselves."""
+    found = infer_once(taken, larger, judge, is_clean)
     if isinstance(found, Inferred):
         return found
     if not larger:
         return explain(found, taken)
-    again = infer_once([*taken, *larger], [], judge)
+    again = infer_once([*taken, *larger], [], judge, is_clean)
     if isinstance(again, Inferred):
         return replace(again, failed=found.plan)
     return explain(again, [*taken, *larger])
@@ -183,5 +202,5 @@ def find_twin(first: SizedPlan, other: SizedPlan) -> str | None:
 
 def explain(unfit: Unfit, plans: Sequence[SizedPlan]) -> Unfit:
     """Where calls fit no script, with the reason if it lies in a reply."""
-    twins = (find_twin(plans[0], it) for it in plans[1:])
+    twins = (find_twin(plans[0], plan) for plan in plans[1:])
     return replace(unfit, why=unfit.why or next(filter(None, twins), ""))

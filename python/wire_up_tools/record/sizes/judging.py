@@ -59,7 +59,7 @@ def judge_pattern(checker: Checker, text: str, *options: str) -> Verdict:
         findings = list(map(str, said["findings"]))
         calls = find_named(str(said["counterexample"]), findings)
         return Verdict(findings, calls, int(said["ranks"]))
-    failing = [it for it in said.get("answers", []) if not set(it.split()[4:]) <= {SUCCESS}]
+    failing = [line for line in said.get("answers", []) if not set(line.split()[4:]) <= {SUCCESS}]
     return Verdict([], waiting=said["waits"], failing=failing)
 
 
@@ -103,7 +103,7 @@ def find_named(text: str, findings: Sequence[str]) -> Sequence[Named]:
     """The calls of a plan that findings name, each once."""
     plan = read_plan(text.encode())
     named = dict.fromkeys(
-        (it[1], int(it[2])) for finding in findings for it in NAMED.finditer(finding)
+        (named[1], int(named[2])) for finding in findings for named in NAMED.finditer(finding)
     )
     found = []
     for rank, number in named:

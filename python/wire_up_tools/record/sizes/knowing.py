@@ -14,9 +14,9 @@ Known = Mapping[str, Sequence[Counts]]
 
 def find_known(plan: SizedPlan, with_order: bool) -> Known:
     """What each rank knows, by the program's calls alone or by the order of MPI too."""
-    known: dict[str, dict[str, int]] = {it: {} for it in plan.ranks}
+    known: dict[str, dict[str, int]] = {rank: {} for rank in plan.ranks}
     made = dict.fromkeys(plan.ranks, 0)
-    found: dict[str, list[Counts]] = {it: [] for it in plan.ranks}
+    found: dict[str, list[Counts]] = {rank: [] for rank in plan.ranks}
     told: dict[Call, Counts] = {}
     for step, rank, call, sources in Walk(plan, with_order).take():
         if step is Step.REACHED:

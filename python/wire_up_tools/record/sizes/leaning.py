@@ -39,18 +39,19 @@ def find_settled(plan: SizedPlan) -> set[Call]:
     return found
 
 
-def find_unread(plan: SizedPlan, gone: set[Call]) -> set[Call]:
-    """The puts of keys that a rank puts once and no get is left of, and the commits that hand over
-    nothing then."""
+def find_unread(plan: SizedPlan, gone: set[Call], of_any: bool) -> set[Call]:
+    """The puts of keys that a rank puts once and no get is left of, `of_any` rank or of this one;
+    and the commits that hand over nothing then."""
     asking = ("get", "get-now")
     read = {
-        (it.words[1], it.words[2])
-        for it in plan.list_all() if it.verb in asking and it not in gone
+        (owner, call.words[2])
+        for call in plan.list_all() if call.verb in asking and call not in gone
+        for owner in (plan.ranks if of_any else [call.words[1]])
     }
     found = set[Call]()
     for rank in plan.ranks:
         calls, hands_over = plan.list_program(rank), False
-        puts = Counter(it.words[2] for it in calls if it.verb == "put")
+        puts = Counter(call.words[2] for call in calls if call.verb == "put")
         for call in calls:
             if call.verb == "put":
                 key = call.words[2]
@@ -64,17 +65,17 @@ def find_unread(plan: SizedPlan, gone: set[Call]) -> set[Call]:
     return found
 
 
-def make_lean(plan: SizedPlan) -> SizedPlan:
-    """A plan without gets that are settled, and without what nobody gets then. Fences collect only
-    where a call gets at once."""
+def make_lean(plan: SizedPlan, of_any: bool = False) -> SizedPlan:
+    """A plan without gets that are settled, and without what nobody gets then, `of_any` rank or of
+    its own. Fences collect only where a call gets at once."""
     gone = find_settled(plan)
-    gone |= find_unread(plan, gone)
-    collects = any(it.verb == "get-now" for it in plan.list_all())
+    gone |= find_unread(plan, gone, of_any)
+    collects = any(call.verb == "get-now" for call in plan.list_all())
 
     def leave(_: str, calls: Sequence[Call]) -> Sequence[Call]:
-        kept = [it for it in calls if it not in gone]
+        kept = [call for call in calls if call not in gone]
         return kept if collects else [
-            replace(it, words=it.words[:2]) if it.collects else it for it in kept
+            replace(call, words=call.words[:2]) if call.collects else call for call in kept
         ]
 
     return plan.change(leave)
@@ -83,9 +84,9 @@ def make_lean(plan: SizedPlan) -> SizedPlan:
 def keep_whole_fences(plan: SizedPlan) -> SizedPlan:
     """A plan in which, of the order of MPI, only fences of all ranks are left."""
     return plan.change(lambda _, calls: [
-        it for it in calls
-        if not it.is_order
-        or it.verb == "fence" and len(plan.find_members(it.words[1])) == plan.size
+        call for call in calls
+        if not call.is_order
+        or call.verb == "fence" and len(plan.find_members(call.words[1])) == plan.size
     ])
 
 
@@ -106,14 +107,17 @@ def find_meetings(plan: SizedPlan) -> Sequence[Sequence[Call]]:
 def mark_as_order(plan: SizedPlan, marks: Mapping[Call, bool]) -> SizedPlan:
     """A plan in which some calls stand for order alone, or no longer do."""
     return plan.change(lambda _, calls: [
-        replace(it, is_order=marks[it]) if it in marks else it for it in calls
+        replace(call, is_order=marks[call]) if call in marks else call for call in calls
     ])
 
 
 def part_fences(plan: SizedPlan) -> SizedPlan:
     """A plan of which each fence can be left out whole. Where calls of the program and of MPI meet
     in one, all of them stand for order, if none collects, or else all for the program."""
-    mixed = [it for it in find_meetings(plan) if len({call.is_order for call in it}) > 1]
+    mixed = [
+        meeting for meeting in find_meetings(plan)
+        if len({call.is_order for call in meeting}) > 1
+    ]
     return mark_as_order(plan, {
         call: not any(other.collects for other in them) for them in mixed for call in them
     })
@@ -122,5 +126,18 @@ def part_fences(plan: SizedPlan) -> SizedPlan:
 def take_fences_as_order(plan: SizedPlan) -> SizedPlan:
     """A plan in which fences stand for order alone, where they bring nothing that a call could get
     at once."""
-    bare = [it for it in find_meetings(plan) if not any(call.collects for call in it)]
+    bare = [
+        meeting for meeting in find_meetings(plan)
+        if not any(call.collects for call in meeting)
+    ]
     return mark_as_order(plan, {call: True for them in bare for call in them})
+
+
+def leave_parts_out(plan: SizedPlan) -> SizedPlan:
+    """A plan in which all fences but those of all ranks stand for order alone, whatever they
+    bring."""
+    of_some = [
+        meeting for meeting in find_meetings(plan)
+        if len(plan.find_members(meeting[0].words[1])) < plan.size
+    ]
+    return mark_as_order(plan, {call: True for them in of_some for call in them})

@@ -55,15 +55,16 @@ class SizedPlan:
 
     def list_program(self, rank: str) -> Sequence[Call]:
         """The calls of a rank that the program made."""
-        return [it for it in self.calls[rank] if not it.is_order]
+        return [call for call in self.calls[rank] if not call.is_order]
 
     def list_all(self) -> Sequence[Call]:
         """The calls that the program made, of all ranks."""
-        return [call for it in self.calls for call in self.list_program(it)]
+        return [call for rank in self.calls for call in self.list_program(rank)]
 
     def change(self, change: Callable[[str, Sequence[Call]], Sequence[Call]]) -> "SizedPlan":
         """The plan with other calls of each rank."""
-        return replace(self, calls={it: change(it, calls) for it, calls in self.calls.items()})
+        changed = {rank: change(rank, calls) for rank, calls in self.calls.items()}
+        return replace(self, calls=changed)
 
     def find_members(self, word: str) -> Sequence[str]:
         """The ranks of a set, in the order of their names."""
@@ -79,8 +80,8 @@ def take_plan(name: str, plan: Plan, places: ProgramPlaces) -> SizedPlan:
     for process, lines in plan.draft.lines.items():
         texts = find_texts(process, places)
         calls[process.name] = [
-            Call(it.words.split(" "), not it.is_of_program, texts.get(it.call.place))
-            for it in lines
+            Call(line.words.split(" "), not line.is_of_program, texts.get(line.call.place))
+            for line in lines
         ]
     return SizedPlan(name, jobs[0].name, calls)
 
@@ -89,8 +90,8 @@ def can_race(plan: SizedPlan) -> bool:
     """Whether a plan has a call that can race, or a rank that puts a key twice."""
     for rank in plan.ranks:
         calls = plan.list_program(rank)
-        keys = [it.words[2] for it in calls if it.verb == "put"]
-        if len(set(keys)) < len(keys) or any(it.verb in RACING for it in calls):
+        keys = [call.words[2] for call in calls if call.verb == "put"]
+        if len(set(keys)) < len(keys) or any(call.verb in RACING for call in calls):
             return True
     return False
 

@@ -27,11 +27,11 @@ NO_SCRIPT = "no script of all ranks in all runs has that"
 def part_ranks(ranks: Sequence[str], job: str, way: Way) -> Roles:
     """Parts ranks into roles: those of the way, and one group of all others, which may have
     none."""
-    first = [it for it in way if it >= 0]
+    first = [place for place in way if place >= 0]
     after = len(ranks) - (len(way) - len(first))
-    roles = [Role(NAMES[it], job, ranks[it:it + 1], False) for it in first]
+    roles = [Role(NAMES[place], job, ranks[place:place + 1], False) for place in first]
     roles.append(Role(OTHERS if way else GROUP, job, ranks[len(first):max(after, 0)], True))
-    roles += [Role(NAMES[it], job, ranks[it:], False) for it in way if it < 0]
+    roles += [Role(NAMES[place], job, ranks[place:], False) for place in way if place < 0]
     return Roles(roles)
 
 
@@ -48,7 +48,7 @@ class Passed:
         rank that made no more calls may wait."""
         last = bisect.bisect_right(self.bounds, count) - 1
         first = bisect.bisect_left(self.bounds, count)
-        return next((it for it in range(first, last) if it in waits), last)
+        return next((item for item in range(first, last) if item in waits), last)
 
 
 @dataclass(frozen=True)
@@ -101,7 +101,8 @@ def tell_plan(plan: SizedPlan, roles: Roles) -> Sequence[Told] | Broken:
     """What the program calls in each rank, in the words of a pattern; or the first call that has
     none."""
     return tell_all(roles, [
-        Script(rank, plan.job, [it.words for it in plan.list_program(rank)]) for rank in plan.ranks
+        Script(rank, plan.job, [call.words for call in plan.list_program(rank)])
+        for rank in plan.ranks
     ])
 
 
@@ -141,48 +142,53 @@ def fit(
 ) -> Instance | Unfit:
     """A plan as an instance of scripts; or the rank whose calls don't come from its script."""
     roles = part_ranks(plan.ranks, plan.job, way)
-    told = tell_plan(plan, roles)
-    if isinstance(told, Broken):
-        return Unfit(plan, told.rank, told.number, told.why)
+    all_told = tell_plan(plan, roles)
+    if isinstance(all_told, Broken):
+        return Unfit(plan, all_told.rank, all_told.number, all_told.why)
     passed = {}
-    for it in told:
-        found = pass_script(scripts[roles.by_rank[it.rank].name], it)
+    for told in all_told:
+        items = scripts[roles.by_rank[told.rank].name]
+        found = pass_script(items, told)
         if found is None:
-            return Unfit(plan, it.rank, find_otherwise(scripts[roles.by_rank[it.rank].name], it))
-        passed[it.rank] = found
+            return Unfit(plan, told.rank, find_otherwise(items, told))
+        passed[told.rank] = found
     return Instance(plan, roles, passed)
 
 
 def find_otherwise(items: Sequence[Item], told: Told) -> int:
     """The number of the first call of a rank that isn't in its script, as far as is known without
     a search: the first that no line of the script has."""
-    lines = {line for it in items for line in (it.lines if isinstance(it, Loop) else [it])}
-    others = (n for n, it in enumerate(told.calls, 1) if it.words not in lines)
+    lines = {line for item in items for line in (item.lines if isinstance(item, Loop) else [item])}
+    others = (n for n, said in enumerate(told.calls, 1) if said.words not in lines)
     return next(others, len(told.calls))
 
 
 def find_scripts(plans: Sequence[SizedPlan], way: Way) -> Skeleton | Unfit:
     """The scripts of plans, with the roles of a way; or where none goes on."""
-    parted = [part_ranks(it.ranks, it.job, way) for it in plans]
-    all_told = list[tuple[SizedPlan, Told]]()
+    parted = [part_ranks(plan.ranks, plan.job, way) for plan in plans]
+    in_plans = list[tuple[SizedPlan, Told]]()
     for plan, roles in zip(plans, parted):
-        told = tell_plan(plan, roles)
-        if isinstance(told, Broken):
-            return Unfit(plan, told.rank, told.number, told.why)
-        all_told += [(plan, it) for it in told]
+        all_told = tell_plan(plan, roles)
+        if isinstance(all_told, Broken):
+            return Unfit(plan, all_told.rank, all_told.number, all_told.why)
+        in_plans += [(plan, told) for told in all_told]
     scripts = {}
     for role in parted[0].all:
-        mine = [it for it in all_told if it[1].roles.by_rank[it[1].rank].name == role.name]
+        mine = [
+            (plan, told) for plan, told in in_plans
+            if told.roles.by_rank[told.rank].name == role.name
+        ]
         search = Search([told for _, told in mine])
         found = search.find()
         if isinstance(found, Broken):
             return Unfit(mine[search.find_break()][0], found.rank, found.number)
         scripts[role.name] = found
-    fitted = [fit(it, way, scripts) for it in plans]
-    return Skeleton(way, parted[0].all, scripts, [it for it in fitted if isinstance(it, Instance)])
+    fitted = [fit(plan, way, scripts) for plan in plans]
+    instances = [instance for instance in fitted if isinstance(instance, Instance)]
+    return Skeleton(way, parted[0].all, scripts, instances)
 
 
 def list_ways(plans: Sequence[SizedPlan]) -> Iterator[Way]:
     """The ways that leave a group in each plan."""
-    fewest = min(it.size for it in plans)
-    return (it for it in WAYS if len(it) < fewest)
+    fewest = min(plan.size for plan in plans)
+    return (way for way in WAYS if len(way) < fewest)

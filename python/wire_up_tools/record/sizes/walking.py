@@ -37,13 +37,13 @@ class Walk:
             for rank, calls in plan.calls.items()
         }
         self.keys = {
-            (rank, it.words[2]) for rank in plan.ranks for it in plan.calls[rank]
-            if it.verb == "put"
+            (rank, call.words[2]) for rank in plan.ranks for call in plan.calls[rank]
+            if call.verb == "put"
         }
         self.publishers = Counter(
-            it.words[1] for them in plan.calls.values() for it in them if it.verb == "publish"
+            call.words[1] for them in plan.calls.values() for call in them if call.verb == "publish"
         )
-        self.open: dict[str, list[str]] = {it: [] for it in plan.ranks}
+        self.open: dict[str, list[str]] = {rank: [] for rank in plan.ranks}
         self.committed: dict[tuple[str, str], Source] = {}
         self.published: dict[str, Source] = {}
         self.counts: Counter[tuple[str, tuple[str, ...]]] = Counter()

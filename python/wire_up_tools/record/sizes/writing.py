@@ -41,10 +41,10 @@ def find_calls(skeleton: Skeleton) -> Mapping[LineOf, Sequence[Call]]:
 def find_mark(skeleton: Skeleton) -> str:
     """A beginning of names that the program's calls don't have."""
     names = {
-        find_key(call.words) for it in skeleton.instances for call in it.plan.list_all()
+        find_key(call.words) for instance in skeleton.instances for call in instance.plan.list_all()
     }
     mark = DONE
-    while any(it.startswith(f"{mark}.") for it in names):
+    while any(name.startswith(f"{mark}.") for name in names):
         mark += "_"
     return mark
 
@@ -61,28 +61,30 @@ class Writer:
     def name(self, claim: Claim, whose: str) -> str:
         """The name by which a rank says that it has come to an item."""
         base = f"{self.mark}.{claim.source}.{claim.known}"
-        role = next(it for it in self.skeleton.roles if it.name == claim.source)
+        role = next(role for role in self.skeleton.roles if role.name == claim.source)
         if role.is_group:
             return f"{base}[{whose}]"
         # Where a loop has a turn for a single role, each line of it names the rank of the turn.
         of = claim.source, claim.known
-        has_turns = any(it.of_turns and (it.source, it.known) == of for it in self.claims)
+        has_turns = any(
+            other.of_turns and (other.source, other.known) == of for other in self.claims
+        )
         return f"{base}[{whose}]" if has_turns else base
 
     def publish(self, role: str, at: int) -> list[str]:
         """What a rank of a role publishes before an item."""
-        here = [it for it in self.claims if (it.source, it.known) == (role, at)]
+        here = [claim for claim in self.claims if (claim.source, claim.known) == (role, at)]
         return [f"publish {self.name(here[0], SELF)} sent"] if here else []
 
     def wait(self, role: str, at: int) -> list[str]:
         """What a rank of a role waits for before an item."""
-        groups = {it.name for it in self.skeleton.roles if it.is_group}
+        groups = {role.name for role in self.skeleton.roles if role.is_group}
         found = list[str]()
-        for it in self.claims:
-            if (it.role, it.at, it.of_turns) == (role, at, False):
-                is_group = it.source in groups
-                line = f"lookup-wait {self.name(it, EACH if is_group else it.source)}"
-                found += [f"for {it.source}", line, "end"] if is_group else [line]
+        for claim in self.claims:
+            if (claim.role, claim.at, claim.of_turns) == (role, at, False):
+                is_group = claim.source in groups
+                line = f"lookup-wait {self.name(claim, EACH if is_group else claim.source)}"
+                found += [f"for {claim.source}", line, "end"] if is_group else [line]
         return found
 
     def write_item(self, role: str, at: int, item: Item) -> list[str]:
@@ -91,7 +93,7 @@ class Writer:
         place: str | None = UNKNOWN_PLACE
         for number, line in enumerate(list_lines(item)):
             calls = self.calls.get((role, at, number), ())
-            here = next((it.place for it in calls if it.place), UNKNOWN_PLACE)
+            here = next((call.place for call in calls if call.place), UNKNOWN_PLACE)
             if here != place:
                 found.append(f"{PLACE_COMMENT}{here}")
                 place = here
@@ -99,8 +101,8 @@ class Writer:
         if not isinstance(item, Loop):
             return found
         waits = [
-            f"lookup-wait {self.name(it, EACH)}" for it in self.claims
-            if (it.role, it.at, it.of_turns) == (role, at, True)
+            f"lookup-wait {self.name(claim, EACH)}" for claim in self.claims
+            if (claim.role, claim.at, claim.of_turns) == (role, at, True)
         ]
         return [item.head, *waits, *found, "end"]
 
@@ -116,7 +118,7 @@ class Writer:
 
 def find_value(calls: Sequence[Call]) -> str:
     """The value that all calls have, or what stands for any."""
-    found = {it.words[VALUES[it.verb]] for it in calls if it.verb in VALUES}
+    found = {call.words[VALUES[call.verb]] for call in calls if call.verb in VALUES}
     return found.pop() if len(found) == 1 else ANY_VALUE
 
 
@@ -127,7 +129,7 @@ def write_pattern(skeleton: Skeleton, claims: Sequence[Claim]) -> str:
     for role in skeleton.roles:
         lines.append(f"{'many' if role.is_group else 'one'} {role.name}")
         lines += writer.write_role(role.name)
-    return "".join(f"{it}\n" for it in lines)
+    return "".join(f"{line}\n" for line in lines)
 
 
 def find_places(skeleton: Skeleton) -> Mapping[tuple[str, str], str]:
@@ -135,5 +137,5 @@ def find_places(skeleton: Skeleton) -> Mapping[tuple[str, str], str]:
     found: dict[tuple[str, str], set[str]] = {}
     for (role, at, number), calls in find_calls(skeleton).items():
         line = list_lines(skeleton.scripts[role][at])[number]
-        found.setdefault((role, line), set()).update(it.place for it in calls if it.place)
-    return {key: next(iter(it)) for key, it in found.items() if len(it) == 1}
+        found.setdefault((role, line), set()).update(call.place for call in calls if call.place)
+    return {key: next(iter(places)) for key, places in found.items() if len(places) == 1}
