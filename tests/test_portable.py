@@ -29,6 +29,12 @@ LATE = (
     " / rank n0 / get app:0 z / rank n0 / get app:0 z"
 )
 EARLY = "examples/early-get.plan"
+# A fence whose calls spell their set in two ways: nobody leaves it, so it brings nothing.
+APART = (
+    "rehearsal 1 / node n0 / node n1 / job app / rank n0 / put global a 1 / commit"
+    " / fence app:0,app:1 collect / rank n1 / fence app:1,app:0,app:1 collect / rank n1"
+    " / get-now app:0 a"
+)
 
 
 def lines_of(text: str) -> bytes:
@@ -83,6 +89,9 @@ class Forms(ProgramCase):
         yield Run("JSON with lines", words, plan, status=1, wrote=wrote)
         wrote = b"race app:0 2 app:1 1 key app:0 card\nfindings 1\nportable 4.2,5.0,7.0\n"
         yield Run("a race alone", [CHECK, PORTABLE, EARLY], status=1, wrote=wrote)
+        told = b"unportable app:1 1 fence fence-spelling 4.2,5.0,7.0\nportable none\n"
+        words = [CHECK, PORTABLE]
+        yield Run("a set spelt apart", words, lines_of(APART), status=1, wrote=(told,))
         yield Run("the help", [CHECK, "--help"], wrote=(b"--portable",))
 
     def test_forms(self) -> None:

@@ -2,7 +2,7 @@
 use Rattle.std.proofs.Common.{◌≡◌, ◌∙◌, ℕ, Bool, true, false, not, List, refl, sym, ap}
 use Rattle.std.proofs.lemmas.Bool.{true≢false}
 use Rattle.wire_runs.specs.Plan.{Plan, Event}
-use Rattle.wire_library_laws.specs.Portable.{IsFor, IsPortableFar}
+use Rattle.wire_library_laws.specs.Portable.{IsFor, IsPortableFar, Lacks}
 use Rattle.wire_portable.specs.declared.libraries.Library.{Library}
 use Rattle.wire_portable.specs.declared.listed.Unportable.{Unportable}
 use Rattle.wire_portable.specs.Libraries.{family_of}
@@ -50,6 +50,10 @@ module _ (library : Library) (plan : Plan) (p key : ℕ) (g : Event) where
   no_mate anywhere hs are fine h other_key is other asked differ there =
       let at = are.all h (record { key = other_key; is = is; other = other; asked = asked; there = there }) in
       fine at.0 h at.1 other_key is differ
+
+  -- no live commit of the owner lacks the key
+  pub none_lacks : (anywhere : Bool) → ((x : Event) → Lacks plan p key x → ⊥) → HasNoMate anywhere library plan p key g
+  none_lacks anywhere never h other_key is other asked differ there not_first not_last commit lacks has = absurd (never commit lacks)
 
   pub far_fine : (anywhere : Bool) → (NoRewrites plan → IsPortableFar (family_of library) plan p key g) → HasNoMate anywhere library plan p key g → IsFarFine anywhere library plan p key g
   far_fine anywhere alone beside = record { alone = alone; beside = beside }

@@ -7,11 +7,12 @@ use Rattle.wire_types.specs.declared.Proc.{Proc}
 use Rattle.wire_runs.specs.Plan.{Plan, Event, Get, GetNow, Leave, kind, kind_at, event_of, event_count, process_count, node_of, admits}
 use Rattle.wire_runs.specs.Puts.{stored, scope_of}
 use Rattle.wire_runs.specs.Order.{Stores, IsArrival, Live, Before}
-use Rattle.wire_runs.specs.Races.{ByFence, ByGet}
+use Rattle.wire_runs.specs.Order.{Edge, Meets, edge}
+use Rattle.wire_runs.specs.Races.{ByFence, ByGet, ComesSurely}
 use Rattle.wire_runs.specs.Placings.{HasSurely}
 use Rattle.wire_runs.proofs.Basics.{stored_stays, stores_commit, event_within, process_within}
-use Rattle.wire_runs.proofs.Due.{place_path}
-use Rattle.wire_runs.proofs.Histories.{before_live, same_process}
+use Rattle.wire_runs.proofs.Due.{live_source, place_path}
+use Rattle.wire_runs.proofs.Histories.{before_live, joined, same_process}
 use Rattle.wire_runs.proofs.FenceChains.{leave_of, one_arrival_is_all}
 use Rattle.wire_plan.specs.Index.{IsDelivering, AreArrivals}
 use Rattle.wire_plan.proofs.Delivering.{here}
@@ -56,6 +57,21 @@ store_process plan owner key s a =
 
 pub its_owner : (plan : Plan) (owner : Proc) (key : ℕ) (s : CodeEvent) → IsStoreAway plan owner key s → (event_of s).proc ≡ owner.number
 its_owner plan owner key s a = ap (λ (r : Proc). r.number) a.its
+
+-- what a fence brings that a process of the node has left comes surely: all arrivals at it are before its end
+pub left_surely : (plan : Plan) (job : ℕ → ℕ) (p key node : ℕ) (g : Event) → IsLeft plan job p key node g → ComesSurely plan p key node g
+left_surely plan job p key node g l =
+    let lives = before_live l.before in
+    let leads = λ (z : Event) (a : IsArrival plan l.members l.j z). to_end z a in
+    let all = λ (z : Event) (a : IsArrival plan l.members l.j z). joined (edge (live_source lives (leads z a)) (leads z a) lives) l.before in
+    record {
+      delivery = ByFence l.members l.j;
+      delivers = record { brings_it = l.delivers; all_live = λ z a. before_live (all z a) };
+      all_before = all;
+    }
+  where
+    to_end : (z : Event) → IsArrival plan l.members l.j z → Edge plan z l.leave
+    to_end z a = Meets l.members l.is (subst (λ k. IsArrival plan l.members k z) (sym l.nth) a)
 
 -- a set of libraries has what the set that it is has
 pub has_same : (s t : Libraries) (library : Library) → s ≡ t → has s library ≡ false → has t library ≡ false

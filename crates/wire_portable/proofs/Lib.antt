@@ -2,6 +2,7 @@ pub mod Sets
 pub mod Firsts
 pub mod Gathered
 pub mod Keys
+pub mod KnownSets
 pub mod Waits
 pub mod NamesFound
 pub mod OpenGets

@@ -8,6 +8,7 @@ pub mod Named
 pub mod Adding
 pub mod Searched
 pub mod Kept
+pub mod Known
 pub mod Fences
 pub mod Nows
 pub mod Spelling

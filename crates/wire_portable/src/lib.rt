@@ -2,12 +2,14 @@
 #![tactic(auto)]
 
 mod asked;
+mod brought;
 mod coming;
 mod commits;
 mod fences;
 mod gets;
 mod jobs;
 mod judge;
+mod known;
 mod libraries;
 mod listed;
 mod mates;

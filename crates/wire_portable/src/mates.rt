@@ -17,7 +17,7 @@ use crate::judge::{Judge, Key};
 use crate::libraries::Libraries;
 use wire_fates::process_end;
 use wire_plan::Kind;
-use wire_types::Event;
+use wire_types::{Event, Proc};
 
 /// Whether a get can't share its request with another one that is asked before its key is there; nor, then, with a
 /// later one of that process.
@@ -142,4 +142,39 @@ pub(crate) fn mates(judge: &Judge<'_>, gets: &[Event], get: Event, asked: Key) -
         place = end;
     }
     found
+}
+
+/// Whether the gets beside an event are asked for: it is a get-now of another process's key, or a get of such a key that
+/// isn't there after some commit of the owner.
+fn is_beside_gets(judge: &Judge<'_>, event: Event) -> bool
+    requires { event.at < event_count (plan_of judge.now) event.proc.number }
+{
+    match judge.plan().kind(event) {
+        Kind::GetNow { owner, .. } => owner.number != event.proc.number,
+        Kind::Get { owner, key } => {
+            owner.number != event.proc.number && judge.last_lacking(Key { owner, key }).is_some()
+        }
+        _ => false,
+    }
+}
+
+/// Whether some event of a process is such a one.
+fn some_beside_gets(judge: &Judge<'_>, proc: Proc) -> bool {
+    for at in 0..judge.plan().event_count(proc) {
+        if is_beside_gets(judge, Event { proc, at }) {
+            return true;
+        }
+    }
+    false
+}
+
+/// Whether the gets beside some event of a plan are asked for. They aren't in a plan without get-nows whose processes
+/// commit once each.
+pub(crate) fn asks_for_gets(judge: &Judge<'_>) -> bool {
+    for number in 0..judge.plan().process_count() {
+        if some_beside_gets(judge, Proc { number }) {
+            return true;
+        }
+    }
+    false
 }

@@ -7,7 +7,9 @@ ghost use Rattle.wire_portable.specs.Spelling.{AreSetsNumbered, SpelledSet as Se
 ghost use Rattle.wire_portable.specs.Spelled.{row_by, rows_by, set_by};
 ghost use Rattle.wire_portable.specs.Numbering.{AreSetsDistinct, IsCallTold, IsSetInOrder, IsRowTold, IsSetNumbered, KeepsSets, has_neighbours};
 ghost use Rattle.wire_portable.specs.Numbering as spec;
+ghost use Rattle.wire_portable.specs.Known.{AreKnown};
 
+use crate::known::KnownSets;
 use crate::spelled::{SpelledSet, is_word};
 use crate::spelling::Spelt;
 use indexmap::IndexSet;
@@ -133,8 +135,12 @@ impl Numbers {
         Ok(added.0)
     }
 
-    /// How a call spells a set.
-    fn spelt(&mut self, alloc: Global, spelled: SpelledSet<'_>) -> Result<Spelt, AllocError>
+    /// How a call spells a set, by its items.
+    fn spelt_by_items(
+        &mut self,
+        alloc: Global,
+        spelled: SpelledSet<'_>,
+    ) -> Result<Spelt, AllocError>
         ensures told { IfOk result (λ spelt. IsSetNumbered self.new (set_by spelled.entry) spelt) }
         ensures kept { OnOk result (KeepsSets self.old self.new) }
     {
@@ -144,18 +150,58 @@ impl Numbers {
         Ok(Spelt { number, repeats })
     }
 
-    /// The same of a call, if it is one of a fence.
-    fn spelt_call(
+    /// The same, given the sets that are known of its job.
+    fn spelt_known(
         &mut self,
         alloc: Global,
-        call: Option<SpelledSet<'_>>,
+        known: &mut KnownSets<'_>,
+        spelled: SpelledSet<'_>,
+    ) -> Result<Spelt, AllocError>
+        requires known { AreKnown self.old known.old }
+        requires job { known.old.job.now ≡ spelled.job.now }
+        ensures told { IfOk result (λ spelt. IsSetNumbered self.new (set_by spelled.entry) spelt) }
+        ensures kept { OnOk result (KeepsSets self.old self.new) }
+        ensures known { OnOk result (AreKnown self.new known.new) }
+    {
+        if let Some(spelt) = known.find(spelled.set) {
+            return Ok(spelt);
+        }
+        let spelt = self.spelt_by_items(alloc, spelled)?;
+        known.add(alloc, spelled.set, spelt)?;
+        Ok(spelt)
+    }
+
+    /// The same, given the sets that are known of some job.
+    fn spelt<'a>(
+        &mut self,
+        alloc: Global,
+        known: &mut KnownSets<'a>,
+        spelled: SpelledSet<'a>,
+    ) -> Result<Spelt, AllocError>
+        requires { AreKnown self.old known.old }
+        ensures told { IfOk result (λ spelt. IsSetNumbered self.new (set_by spelled.entry) spelt) }
+        ensures kept { OnOk result (KeepsSets self.old self.new) }
+        ensures known { OnOk result (AreKnown self.new known.new) }
+    {
+        known.turn_to(alloc, spelled.job);
+        self.spelt_known(alloc, known, spelled)
+    }
+
+    /// The same of a call, if it is one of a fence.
+    fn spelt_call<'a>(
+        &mut self,
+        alloc: Global,
+        known: &mut KnownSets<'a>,
+        call: Option<SpelledSet<'a>>,
     ) -> Result<Option<Spelt>, AllocError>
+        requires { AreKnown self.old known.old }
         ensures told { IfOk result (λ spelt. IsCallTold self.new (option_map set_by call.entry) spelt) }
         ensures kept { OnOk result (KeepsSets self.old self.new) }
+        ensures known { OnOk result (AreKnown self.new known.new) }
     {
         match call {
             Some(spelled) => {
-                let spelt = self.spelt(alloc, spelled)?;
+                let spelt = self.spelt(alloc, known, spelled)?;
                 Ok(Some(spelt))
             }
             None => Ok(None),
@@ -163,17 +209,20 @@ impl Numbers {
     }
 
     /// The same of the calls of a process.
-    fn spelt_row(
+    fn spelt_row<'a>(
         &mut self,
         alloc: Global,
-        row: &[Option<SpelledSet<'_>>],
+        known: &mut KnownSets<'a>,
+        row: &[Option<SpelledSet<'a>>],
     ) -> Result<Vec<Option<Spelt>>, AllocError>
+        requires { AreKnown self.old known.old }
         ensures told { IfOk result (λ spelt. IsRowTold self.new (row_by row.now) spelt.items) }
         ensures kept { OnOk result (KeepsSets self.old self.new) }
+        ensures known { OnOk result (AreKnown self.new known.new) }
     {
         let mut spelt = Vec::new(alloc);
         for call in row {
-            let told = self.spelt_call(alloc, *call)?;
+            let told = self.spelt_call(alloc, known, *call)?;
             spelt.push(told)?;
         }
         Ok(spelt)
@@ -181,16 +230,17 @@ impl Numbers {
 }
 
 /// How the calls of each process spell their sets, by number.
-fn number_rows(
+fn number_rows<'a>(
     alloc: Global,
-    rows: &[Vec<Option<SpelledSet<'_>>>],
+    rows: &[Vec<Option<SpelledSet<'a>>>],
 ) -> Result<Vec<Vec<Option<Spelt>>>, AllocError>
     ensures { IfOk result (λ spelt. AreSetsNumbered (rows_by rows.now) (map (λ row. row.items) spelt.items)) }
 {
     let mut numbers = Numbers::none(alloc);
+    let mut known = KnownSets::of_job(alloc, b"".as_slice());
     let mut spelt = Vec::new(alloc);
     for row in rows {
-        let told = numbers.spelt_row(alloc, row.as_slice())?;
+        let told = numbers.spelt_row(alloc, &mut known, row.as_slice())?;
         spelt.push(told)?;
     }
     numbers.are_apart();

@@ -1,12 +1,13 @@
 //! The search for calls by which a plan isn't portable.
 
-ghost use Rattle.std.specs.Prelude.{◌≡◌, ◌≢◌, ◌<◌, ℕ, true, false, Some, OnOk, IfOk, IsOkUnless};
+ghost use Rattle.std.specs.Prelude.{◌≡◌, ◌≢◌, ◌<◌, ℕ, true, false, Some, MatchOption, OnOk, IfOk, IsOkUnless, map};
 ghost use Rattle.wire_scripts.specs.Planned.{plan_of};
 ghost use Rattle.wire_types.specs.declared.Scope.{Scope};
 ghost use Rattle.wire_runs.specs.Plan as runs;
 ghost use Rattle.wire_runs.specs.Plan.{Get, GetNow, Publish, Put, Unpublish, kind, event_count, event_of, process_count, same_node};
 ghost use Rattle.wire_runs.specs.Races.{IsRewrite, IsSettled};
 ghost use Rattle.wire_library_laws.specs.Portable.{IsAsked};
+ghost use Rattle.wire_portable.specs.Gets.{place_in, AreGetLists, AreOpenGets};
 ghost use Rattle.wire_portable.specs.declared.libraries.Library.{Library as L};
 ghost use Rattle.wire_portable.specs.Adding.{AddsUnportable};
 ghost use Rattle.wire_portable.specs.Judging.{IsNoRewrite};
@@ -14,7 +15,7 @@ ghost use Rattle.wire_portable.specs.Kept.{IsNowFine, IsCallFine, IsEventFine, A
 ghost use Rattle.wire_portable.specs.Libraries.{family_of, has};
 ghost use Rattle.wire_portable.specs.Named.{FindsFree, FindsOwnName};
 ghost use Rattle.wire_portable.specs.Nows.{IsLiveNow, IsNearNowFine, IsFarNowFine};
-ghost use Rattle.wire_portable.specs.Searched.{plan_in, words_in, MayBe, may_be, IsNearFine, IsFarFine, IsGetFine};
+ghost use Rattle.wire_portable.specs.Searched.{plan_in, words_in, MayBe, may_be, HasNoMate, IsNearFine, IsFarFine, IsGetFine};
 ghost use Rattle.wire_portable.specs.Unportable.{AreUnportable, AreUnportableAnywhere, AreUnportableOn, IsUnblamed};
 
 use crate::asked::is_asked;
@@ -23,14 +24,14 @@ use crate::gets::GetTable;
 use crate::judge::{Judge, Key};
 use crate::libraries::Libraries;
 use crate::listed::{Rule, UnportableList};
-use crate::mates::mates;
+use crate::mates::{asks_for_gets, mates};
 use crate::names::{is_missed, is_published, stuck_lookups};
 use crate::nows::sees_remote;
 use crate::own_calls::now_anywhere;
 use crate::puts::is_put_again;
 use crate::reserved::{is_known, is_unpublish};
 use crate::spelling::Spelling;
-use crate::spelt_apart::as_spelt;
+use crate::spelt_apart::{Ruled, all_blamed, as_spelt};
 use crate::sure::far_now;
 use crate::waiting::{far_get, near_get, outside};
 use std::alloc::{AllocError, Global};
@@ -44,7 +45,7 @@ use wire_types::{Event, Fault, Proc};
 struct Search<'a> {
     marked: &'a MarkedPlan<'a>,
     judge: &'a Judge<'a>,
-    gets: &'a GetTable,
+    gets: Option<&'a GetTable>,
     sets: &'a SetTable,
     spelling: &'a Spelling,
     settled: bool,
@@ -53,7 +54,7 @@ struct Search<'a> {
 }
 
 impl<'a> Model for Search<'a> {
-    ghost use Rattle.std.specs.Prelude.{◌≡◌, true, map};
+    ghost use Rattle.std.specs.Prelude.{◌≡◌, true, map, MatchOption};
     ghost use Rattle.wire_scripts.specs.Scripts.{IsSound};
     ghost use Rattle.wire_scripts.specs.Planned.{plan_of};
     ghost use Rattle.wire_runs.specs.Plan.{event_of};
@@ -68,8 +69,7 @@ impl<'a> Model for Search<'a> {
     ghost view = { λ s. record { scripts = s.marked.now; rows = s.spelling.now; sets = s.sets.now; anywhere = s.anywhere } };
 
     ghost invariant = { λ s. (s.judge.now ≡ s.marked.now)
-        × (s.gets.now.together ≡ s.anywhere)
-        × AreGetLists s.anywhere (plan_of s.marked.now) s.gets.now
+        × MatchOption s.gets (Unit {0}) (λ g. (g.now.together ≡ s.anywhere) × AreGetLists s.anywhere (plan_of s.marked.now) g.now)
         × IsSound s.marked.now
         × TellsJobs s.marked.now s.sets.now
         × (s.settled ≡ true → IsSettled (plan_of s.marked.now))
@@ -130,6 +130,34 @@ impl Search<'_> {
         )
     }
 
+    /// The gets of an owner's keys that are made where a process is, in process order; `None` where no call asks for them.
+    fn beside(&self, owner: Proc, proc: Proc) -> Option<&[Event]>
+        requires { proc.number < process_count (plan_in self.now) }
+        ensures { MatchOption result (Unit {0}) (λ gets. AreOpenGets self.now.anywhere (plan_in self.now) owner.number
+            (place_in self.now.anywhere (plan_in self.now) proc.number) (map event_of gets.now)) }
+    {
+        match self.gets {
+            Some(table) => Some(table.beside(self.marked, owner, proc)),
+            None => None,
+        }
+    }
+
+    /// The libraries on which a get may get the answer of another one of its node, which lacks its key.
+    fn with_mates(&self, get: Event, asked: Key) -> Libraries
+        requires is { kind (plan_in self.now) (event_of get) ≡ Some (Get asked.owner.number asked.key) }
+        requires asked { IsAsked (plan_in self.now) (event_of get) }
+        ensures { (library : L) → has result library ≡ false →
+            HasNoMate self.now.anywhere library (plan_in self.now) asked.owner.number asked.key (event_of get) }
+    {
+        let Some(_) = self.judge.last_lacking(asked) else {
+            return Libraries::none();
+        };
+        match self.beside(asked.owner, get.proc) {
+            Some(gets) => mates(self.judge, gets, get, asked),
+            None => Libraries::all(),
+        }
+    }
+
     /// Adds what a get breaks on another node, if its process may be there.
     fn add_far_get(
         &self,
@@ -149,13 +177,7 @@ impl Search<'_> {
         let plan = self.marked.plan();
         found.blame(plan, get, Rule::FarGet, far_get(self.judge, get, asked))?;
         found.blame(plan, get, Rule::FarLocal, outside(self.judge, asked, false))?;
-        let beside = self.gets.beside(self.marked, asked.owner, get.proc);
-        found.blame(
-            plan,
-            get,
-            Rule::Mates,
-            mates(self.judge, beside, get, asked),
-        )
+        found.blame(plan, get, Rule::Mates, self.with_mates(get, asked))
     }
 
     /// Adds what a get of another process's key breaks.
@@ -200,11 +222,13 @@ impl Search<'_> {
         ensures { (library : L) → has result library ≡ false →
             IsFarNowFine self.now.anywhere (family_of library) (words_in self.now library) (plan_in self.now) asked.owner.number asked.key (event_of get) }
     {
-        let beside = self.gets.beside(self.marked, asked.owner, get.proc);
+        let Some(gets) = self.beside(asked.owner, get.proc) else {
+            return Libraries::all();
+        };
         if self.anywhere {
-            now_anywhere(self.judge, beside, get, asked)
+            now_anywhere(self.judge, gets, get, asked)
         } else {
-            far_now(self.judge, beside, get, asked)
+            far_now(self.judge, gets, get, asked)
         }
     }
 
@@ -441,12 +465,32 @@ impl Search<'_> {
         ensures { IfOk result (λ lines. (library : L) → IsUnblamed library lines → AreAllFine self.now library) }
     {
         let lines = self.ruled_lines(alloc)?;
-        if lines.has_spellings() {
-            as_spelt(alloc, self.marked, self.spelling, self.sets, lines)
-        } else {
-            Ok(lines)
+        if !lines.has_spellings() {
+            return Ok(lines);
         }
+        let ruled = Ruled {
+            lines: &lines,
+            anywhere: self.anywhere,
+        };
+        let found = as_spelt(alloc, self.marked, self.spelling, self.sets, ruled)?;
+        Ok(all_blamed(found, lines))
     }
+}
+
+/// The gets of a plan, where some call asks for those beside it.
+fn gets_of(
+    alloc: Global,
+    judge: &Judge<'_>,
+    marked: &MarkedPlan<'_>,
+    anywhere: bool,
+) -> Result<Option<GetTable>, AllocError>
+    ensures { IfOk result (λ gets. MatchOption gets (Unit {0}) (λ g. (g.together ≡ anywhere) × AreGetLists anywhere (plan_of marked.now) g)) }
+{
+    if !asks_for_gets(judge) {
+        return Ok(None);
+    }
+    let gets = GetTable::of(alloc, marked, anywhere)?;
+    Ok(Some(gets))
 }
 
 /// The lines of a plan, on its nodes or wherever its processes are.
@@ -463,13 +507,13 @@ fn lines_of(
     // Scripts are sound.
     let _ = marked.plan().scripts();
     let judge = Judge::of(alloc, marked)?;
-    let gets = GetTable::of(alloc, marked, anywhere)?;
+    let gets = gets_of(alloc, &judge, marked, anywhere)?;
     let sets = SetTable::of(alloc, marked, spelling)?;
     let stuck = stuck_lookups(alloc, marked, settled)?;
     let search = Search {
         marked,
         judge: &judge,
-        gets: &gets,
+        gets: gets.as_ref(),
         sets: &sets,
         spelling,
         settled,

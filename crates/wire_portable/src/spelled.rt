@@ -166,12 +166,11 @@ impl<'a> Reading<'a> {
     }
 }
 
-/// What the words of a line say.
-fn said_in<'a>(alloc: Global, line: &'a [u8]) -> Result<Said<'a>, AllocError>
+/// What the words of a line say, which are put in the place of what the list held.
+fn said_in<'a>(words: &mut Vec<&'a [u8]>, line: &'a [u8]) -> Result<Said<'a>, AllocError>
     ensures { IfOk result (λ said. said_by said ≡ spec.said_of (words_of (strip_carriage_return line.now))) }
 {
-    let mut words = Vec::new(alloc);
-    cut_words(&mut words, trim_return(line))?;
+    cut_words(words, trim_return(line))?;
     Ok(said_of(words.as_slice()))
 }
 
@@ -183,10 +182,11 @@ fn read_lines<'a>(
 ) -> Result<(), AllocError>
     ensures { OnOk result (joined reading.new no_calls ≡ joined reading.old (calls_in reading.old.job (map words_of (lines_of text.now)))) }
 {
+    let mut words = Vec::new(alloc);
     let mut rest = text;
     'lines: while !rest.is_empty() {
         let (line, after) = cut_piece(rest);
-        let said = said_in(alloc, line)?;
+        let said = said_in(&mut words, line)?;
         reading.take(alloc, said)?;
         rest = after;
     }

@@ -1,13 +1,14 @@
 //! The lines of a plan in which calls over one set spell it in two ways: libraries take each spelling for a fence of
 //! its own, so fewer calls come.
 
-ghost use Rattle.std.specs.Prelude.{◌≡◌, ◌<◌, true, length, IfOk};
+ghost use Rattle.std.specs.Prelude.{◌≡◌, ◌<◌, true, length};
 ghost use Rattle.wire_runs.specs.Plan.{event_count};
 ghost use Rattle.wire_runs.specs.Ends.{calls_of};
 ghost use Rattle.wire_scripts.specs.Planned.{plan_of};
 ghost use Rattle.wire_portable.specs.declared.libraries.Library.{Library as L};
 ghost use Rattle.wire_portable.specs.Unportable.{IsUnblamed};
 
+use crate::brought::Reads;
 use crate::coming::{Coming, SpeltFence, count_one, spelt_number};
 use crate::fences::SetTable;
 use crate::libraries::Libraries;
@@ -218,11 +219,24 @@ fn is_made(plan: &Plan, coming: &Coming, call: CallAt) -> bool {
     is_call(plan, call) && coming.is_asked(plan.first_event(call))
 }
 
-/// Whether a line stays: one of a call that comes to be made, and not of a fence; a put again is told in any case.
-fn stays(plan: &Plan, coming: &Coming, line: Unportable) -> bool {
+/// Whether something that comes may bring its key to a get-now.
+fn may_bring(plan: &Plan, coming: &Coming, reads: &Reads, call: CallAt) -> bool {
+    if !is_call(plan, call) {
+        return false;
+    }
+    let get = plan.first_event(call);
+    get.at < plan.event_count(get.proc) && reads.may_bring(plan, coming, get)
+}
+
+/// Whether a line stays: one of a call that comes to be made, and not of a fence, nor of a get-now to which nothing that
+/// comes brings its key; a put again is told in any case.
+fn stays(plan: &Plan, coming: &Coming, reads: &Reads, line: Unportable) -> bool {
     match line.rule {
         Rule::FenceCollect | Rule::FenceJobs | Rule::FenceRepeats | Rule::FenceSpelling => false,
         Rule::Rewrite => true,
+        Rule::GetNow => {
+            is_made(plan, coming, line.call) && may_bring(plan, coming, reads, line.call)
+        }
         _ => is_made(plan, coming, line.call),
     }
 }
@@ -232,12 +246,13 @@ fn staying(
     alloc: Global,
     plan: &Plan,
     coming: &Coming,
+    reads: &Reads,
     lines: &UnportableList,
 ) -> Result<UnportableList, AllocError> {
     let mut found = UnportableList::empty(alloc);
     for place in 0..lines.len() {
         if let Some(line) = lines.get(place) {
-            if stays(plan, coming, line) {
+            if stays(plan, coming, reads, line) {
                 found.push(line)?;
             }
         }
@@ -245,20 +260,11 @@ fn staying(
     Ok(found)
 }
 
-/// All lines where each spelling is a fence of its own, given those by the rules.
-fn all_as_spelt(
-    alloc: Global,
-    marked: &MarkedPlan<'_>,
-    spelling: &Spelling,
-    sets: &SetTable,
-    lines: &UnportableList,
-) -> Result<UnportableList, AllocError> {
-    let plan = marked.plan();
-    let coming = Coming::of(alloc, marked, spelling)?;
-    let groups = Groups::of(alloc, marked, spelling, &coming)?;
-    let mut found = staying(alloc, plan, &coming, lines)?;
-    add_groups(alloc, plan, spelling, sets, &mut found, &groups)?;
-    Ok(found.in_order())
+/// The lines by the rules, and whether they are of a plan wherever its processes are.
+#[derive(Clone, Copy)]
+pub(crate) struct Ruled<'a> {
+    pub lines: &'a UnportableList,
+    pub anywhere: bool,
 }
 
 /// The lines where each spelling is a fence of its own, given those by the rules.
@@ -267,14 +273,20 @@ pub(crate) fn as_spelt(
     marked: &MarkedPlan<'_>,
     spelling: &Spelling,
     sets: &SetTable,
-    lines: UnportableList,
-) -> Result<UnportableList, AllocError>
-    ensures { IfOk result (λ all. (library : L) → IsUnblamed library all → IsUnblamed library lines) }
+    ruled: Ruled<'_>,
+) -> Result<UnportableList, AllocError> {
+    let plan = marked.plan();
+    let coming = Coming::of(alloc, marked, spelling)?;
+    let reads = Reads::of(alloc, plan, &coming, ruled.anywhere)?;
+    let groups = Groups::of(alloc, marked, spelling, &coming)?;
+    let mut found = staying(alloc, plan, &coming, &reads, ruled.lines)?;
+    add_groups(alloc, plan, spelling, sets, &mut found, &groups)?;
+    Ok(found.in_order())
+}
+
+/// The lines that were found so, which blame all libraries, as they always do; else the lines by the rules.
+pub(crate) fn all_blamed(found: UnportableList, lines: UnportableList) -> UnportableList
+    ensures { (library : L) → IsUnblamed library result → IsUnblamed library lines }
 {
-    let found = all_as_spelt(alloc, marked, spelling, sets, &lines)?;
-    if found.blames_all() {
-        Ok(found)
-    } else {
-        Ok(lines)
-    }
+    if found.blames_all() { found } else { lines }
 }

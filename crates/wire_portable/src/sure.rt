@@ -21,17 +21,31 @@ use crate::nows::{end_of, fence_may_bring, gets_may_bring, has_got, store_away};
 use wire_fates::{KeyRead, all_arrivals, comes_surely, next_arrival};
 use wire_types::{Event, Proc};
 
-/// Whether one of these gets is of a key that comes no earlier than this commit, and before a get-now.
-fn is_got(judge: &Judge<'_>, gets: &[Event], get: Event, store: Event) -> bool
+/// Whether one of these gets, from this place on, is of a key that comes no earlier than this commit, and before a
+/// get-now.
+fn is_got_from(judge: &Judge<'_>, gets: &[Event], get: Event, store: Event, from: usize) -> bool
     requires { (owner : ℕ) × AreGetsOf (plan_of judge.now) owner (map event_of gets.now) }
     ensures { IsTrue result → IsGotAmong (plan_of judge.now) store.at (event_of get) (map event_of gets.now) }
 {
-    for other in gets {
-        if has_got(judge, get, store, *other) {
+    for at in from..gets.len() {
+        if has_got(judge, get, store, gets[at]) {
             return true;
         }
     }
     false
+}
+
+/// Whether one of these gets, in process order, is of a key that comes no earlier than this commit, and before a get-now.
+/// Mostly it is one of the get-now's own process, if any.
+fn is_got(judge: &Judge<'_>, gets: &[Event], get: Event, store: Event) -> bool
+    requires { (owner : ℕ) × AreGetsOf (plan_of judge.now) owner (map event_of gets.now) }
+    ensures { IsTrue result → IsGotAmong (plan_of judge.now) store.at (event_of get) (map event_of gets.now) }
+{
+    let own = gets.partition_point(|other| other.proc.number < get.proc.number);
+    if is_got_from(judge, gets, get, store, own) {
+        return true;
+    }
+    is_got_from(judge, gets, get, store, 0)
 }
 
 /// Whether a process on a get-now's node, one of those that arrive, is of the owner's job.
@@ -79,8 +93,8 @@ fn has_left(judge: &Judge<'_>, arrivals: &[Event], get: Event) -> bool
     false
 }
 
-/// The arrival of a process among these, which are in process order.
-pub(crate) fn own_arrival(arrivals: &[Event], proc: Proc) -> Option<Event>
+/// The arrival of a process among these, which are in process order, by bisection.
+fn arrival_between(arrivals: &[Event], proc: Proc) -> Option<Event>
     ensures { MatchOption result (Unit {0}) (λ x. IsAmong proc.number (event_of x) (map event_of arrivals.now)) }
 {
     let place = arrivals.partition_point(|arrival| arrival.proc.number < proc.number);
@@ -92,6 +106,17 @@ pub(crate) fn own_arrival(arrivals: &[Event], proc: Proc) -> Option<Event>
         Some(arrival)
     } else {
         None
+    }
+}
+
+/// The arrival of a process among these, which are in process order. At a fence of all processes it stands at the number
+/// of the process.
+pub(crate) fn own_arrival(arrivals: &[Event], proc: Proc) -> Option<Event>
+    ensures { MatchOption result (Unit {0}) (λ x. IsAmong proc.number (event_of x) (map event_of arrivals.now)) }
+{
+    match arrivals.get(proc.index()) {
+        Some(arrival) if arrival.proc.number == proc.number => Some(*arrival),
+        _ => arrival_between(arrivals, proc),
     }
 }
 
@@ -155,6 +180,25 @@ fn is_left(judge: &Judge<'_>, get: Event, asked: Key) -> bool
     false
 }
 
+/// The libraries that don't surely have a key where a get-now is, though a process of its node has left a fence that
+/// brings it: those in which fences don't bring, where no get has brought it either.
+fn unsure_left(judge: &Judge<'_>, gets: &[Event], get: Event, asked: Key, store: Event) -> Libraries
+    requires get { IsLiveNow (plan_of judge.now) asked.owner.number asked.key (event_of get) }
+    requires gets { AreListedGets false (plan_of judge.now) asked.owner.number (event_of get) (map event_of gets.now) }
+    requires store { IsStoreAway (plan_of judge.now) asked.owner asked.key store }
+    requires left { IsLeft (plan_of judge.now) (job_at judge.now.processes) asked.owner.number asked.key
+        (node_of (plan_of judge.now) get.proc.number) (event_of get) }
+    ensures { (library : L) (words : Words) → words.job ≡ job_at judge.now.processes → has result library ≡ false → NoRewrites (plan_of judge.now) →
+        IsSureNow (family_of library) words (plan_of judge.now) asked.owner.number asked.key (event_of get) }
+{
+    // Only the proof asks whose key it is.
+    let _ = asked;
+    if is_got(judge, gets, get, store) {
+        return Libraries::none();
+    }
+    Libraries::only_v5()
+}
+
 /// The libraries that don't surely have a key where a get-now is, though something may have brought it.
 fn unsure(judge: &Judge<'_>, gets: &[Event], get: Event, asked: Key, store: Event) -> Libraries
     requires get { IsLiveNow (plan_of judge.now) asked.owner.number asked.key (event_of get) }
@@ -172,14 +216,11 @@ fn unsure(judge: &Judge<'_>, gets: &[Event], get: Event, asked: Key, store: Even
     let marked = judge.marked();
     let node = plan.node_of(get.proc);
     let all = Libraries::all();
-    if !comes_surely(&marked, read, node) {
+    if !is_got(judge, gets, get, store) {
         return all;
     }
-    if is_got(judge, gets, get, store) {
+    if comes_surely(&marked, read, node) {
         return Libraries::none();
-    }
-    if is_left(judge, get, asked) {
-        return Libraries::only_v5();
     }
     all
 }
@@ -199,6 +240,9 @@ pub(crate) fn far_now(judge: &Judge<'_>, gets: &[Event], get: Event, asked: Key)
     let Some(store) = store_away(judge, asked) else {
         return Libraries::none();
     };
+    if is_left(judge, get, asked) {
+        return unsure_left(judge, gets, get, asked, store);
+    }
     if fence_may_bring(judge, get, asked, node) {
         return unsure(judge, gets, get, asked, store);
     }

@@ -11,6 +11,12 @@ use Rattle.wire_portable.proofs.sure.far_now.Goals as goal
 pub node_of-node-requires : goal.node_of-node-requires
 node_of-node-requires c = rw c.plan-plan.ensures (process_within (plan_of c.args.judge.now) c.args.get.proc.number c.args.get.at _ c.requires.get.is)
 
+pub is_left-requires-clause-once : goal.is_left-requires-clause-once
+is_left-requires-clause-once c = c.in-Some.ensures.once
+
+pub returns-then-is_left : goal.returns-then-is_left
+returns-then-is_left c = λ library words e h once fits. let s = c.unsure_left.ensures library words e h once in surely s.0 s.1
+
 pub fence_may_bring-requires-clause-once : goal.fence_may_bring-requires-clause-once
 fence_may_bring-requires-clause-once c = c.in-Some.ensures.once
 

@@ -1,17 +1,17 @@
 use Rattle.wire_runs.proofs.Basics.{event_within}
 use Rattle.wire_scripts.specs.Planned.{plan_of}
 use Rattle.wire_fates.proofs.Places.{place_at}
-use Rattle.wire_portable.proofs.sure.is_got.Goals as goal
+use Rattle.wire_portable.proofs.sure.is_got_from.Goals as goal
 
 pub has_got-requires : goal.has_got-requires
 has_got-requires c =
-    let its = c.requires.1.only c.loop-other.other-index _ (place_at c.args.gets.now c.loop-other.other-index _ c.loop-other-test.true) in
+    let its = c.requires.1.only c.loop-at.at _ (place_at c.args.gets.now c.loop-at.at _ c.loop-at-test.true) in
     event_within (plan_of c.args.judge.now) _ _ _ its.1
 
 pub returns-then-has_got : goal.returns-then-has_got
 returns-then-has_got c = λ t. record {
-  k = c.loop-other.other-index;
+  k = c.loop-at.at;
   get = _;
-  is = place_at c.args.gets.now c.loop-other.other-index _ c.loop-other-test.true;
+  is = place_at c.args.gets.now c.loop-at.at _ c.loop-at-test.true;
   got = c.has_got.ensures c.if-has_got.true;
 }

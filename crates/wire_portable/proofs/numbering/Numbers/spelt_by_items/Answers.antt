@@ -3,7 +3,7 @@ use Rattle.wire_types.specs.Texts.{lists_of}
 use Rattle.wire_portable.specs.Spelled.{set_by}
 use Rattle.wire_portable.specs.Numbering.{has_neighbours}
 use Rattle.wire_portable.proofs.NumberTable.{told}
-use Rattle.wire_portable.proofs.numbering.Numbers.spelt.Goals as goal
+use Rattle.wire_portable.proofs.numbering.Numbers.spelt_by_items.Goals as goal
 
 pub returns-clause-told : goal.returns-clause-told
 returns-clause-told c =

@@ -1,6 +1,6 @@
 use Rattle.std.proofs.Common.{arith}
 use Rattle.wire_fates.proofs.Places.{place_at}
-use Rattle.wire_portable.proofs.sure.own_arrival.Goals as goal
+use Rattle.wire_portable.proofs.sure.arrival_between.Goals as goal
 
 pub returns-then-arrival-proc : goal.returns-then-arrival-proc
 returns-then-arrival-proc c = record {
