@@ -18,7 +18,7 @@ PICTURE = os.path.join(TOP, "docs", "crates.svg")
 
 # All lengths are in pixels.
 WIDTH = 900
-MARGIN = 8
+MARGIN = 4
 BOX_WIDTH = 161
 BOX_HEIGHT = 28
 ROW_HEIGHT = 58

@@ -7,14 +7,14 @@ use std::io::Read;
 use std::rt::Files;
 use std::sync::Wait;
 use std::thread::Threads;
+use wire_command::{CommandOptions, Ended};
 use wire_command_line::{
     CallPair, CheckScope, Command, ExpandOptions, PairOptions, PatternOptions, ReplayOptions,
     Request, Spread as SpreadAsked,
 };
 use wire_commands::{
-    CommandOptions, Ended, Mode, PairAsked, ReplaySettings, check_placements, check_plan,
-    check_replies, explain_order, follow_plan, migrate_plan, place_plan, replay_plan, witness_pair,
-    witness_races,
+    Mode, PairAsked, ReplaySettings, check_placements, check_plan, check_replies, explain_order,
+    follow_plan, migrate_plan, place_plan, replay_plan, witness_pair, witness_races,
 };
 use wire_explain::Language;
 use wire_pattern_commands::{Expansion, PatternAsked, Spread, check_pattern, expand_pattern};

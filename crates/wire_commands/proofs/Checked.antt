@@ -15,12 +15,11 @@ use Rattle.wire_findings.specs.declared.finding.Finding.{Finding}
 use Rattle.wire_findings.specs.Findings.{AreFindings}
 use Rattle.wire_report.specs.Findings.{findings_form}
 use Rattle.wire_reader.specs.declared.Size.{Size}
-use Rattle.wire_commands.specs.declared.ended.Ended.{Ended}
-use Rattle.wire_commands.specs.declared.ended.Ended.TheVariants.{Clean, Found}
-use Rattle.wire_commands.specs.Answer.{ReadIn, Writes, BreaksOff}
-use Rattle.wire_commands.specs.Check.{IsVerdictOf, IsGroupedText, TellsEach, TellsFindings, WritesFindings, BreaksOffFindings, IsVerdict, WritesVerdict, BreaksOffVerdict}
-use Rattle.wire_commands.specs.Check.{EndsInOneState, StopsBeforeFindings}
-use Rattle.wire_commands.specs.Ending.{ended_with}
+use Rattle.wire_command.specs.declared.ended.Ended.{Ended}
+use Rattle.wire_command.specs.declared.ended.Ended.TheVariants.{Clean, Found}
+use Rattle.wire_command.specs.Command.{WritesText, BreaksOffText, TellsSomehow}
+use Rattle.wire_commands.specs.Check.{IsVerdictOf, IsGroupedText, TellsEach, TellsFindings, IsVerdict}
+use Rattle.wire_command.specs.Ending.{ended_with}
 
 -- it is clean exactly where nothing is found
 clean_exactly : (found : List Finding) → (ended_with found ≡ Clean) ↔ (found ≡ [])
@@ -63,17 +62,17 @@ judged_told form name rows s shown found ended text law those same ends tells = 
 -- all of it went out
 pub told : (form : OutputFormat) (name : List ℕ) (rows : List (List ℕ)) (s shown : Scripts) (found : List Finding) (ended : Ended) (old new : Option (List ℕ)) →
     ((found ≡ []) ↔ IsSettled (plan_of s)) → AreFindings s found → shown ≡ s → ended ≡ ended_with found →
-    WritesFindings form name rows shown found old new → WritesVerdict form name s rows ended old new
+    WritesText (TellsFindings form name rows shown found) old new → WritesText (λ text. IsVerdict form name s rows text ended) old new
 told form name rows s shown found ended old new law those same ends out =
-    record { text = out.text; verdict = judged_told form name rows s shown found ended out.text law those same ends out.tells; wrote = out.wrote }
+    record { text = out.text; tells = judged_told form name rows s shown found ended out.text law those same ends out.tells; wrote = out.wrote }
 
 -- how a verdict is written, or isn't
 abbrev pub Stops : OutputFormat → List ℕ → List (List ℕ) → Scripts → Option (List ℕ) → Option (List ℕ) → Type 0 → Type 0 → Fault → Type 0
-Stops form name rows s old new A B e = ((e ≡ Memory) × A) ⊎ (BreaksOffVerdict form name s rows old new e × B)
+Stops form name rows s old new A B e = ((e ≡ Memory) × A) ⊎ (BreaksOffText (TellsSomehow (IsVerdict form name s rows)) old new e × B)
 
 -- and so of the findings
 abbrev pub StopsFindings : OutputFormat → List ℕ → List (List ℕ) → Scripts → List Finding → Option (List ℕ) → Option (List ℕ) → Type 0 → Type 0 → Fault → Type 0
-StopsFindings form name rows s found old new A B e = ((e ≡ Memory) × A) ⊎ (BreaksOffFindings form name rows s found old new e × B)
+StopsFindings form name rows s found old new A B e = ((e ≡ Memory) × A) ⊎ (BreaksOffText (TellsFindings form name rows s found) old new e × B)
 
 -- the front of it went out, or memory ran out
 pub told_broken : (form : OutputFormat) (name : List ℕ) (rows : List (List ℕ)) (s shown : Scripts) (found : List Finding) (ended : Ended) (old new : Option (List ℕ))
@@ -82,7 +81,7 @@ pub told_broken : (form : OutputFormat) (name : List ℕ) (rows : List (List ℕ
 told_broken form name rows s shown found ended old new A B e law those same ends (inl memory) = inl memory
 told_broken form name rows s shown found ended old new A B e law those same ends (inr (out, failed)) =
     let verdict = judged_told form name rows s shown found ended out.text law those same ends out.tells in
-    inr (record { ended = ended; text = out.text; verdict = verdict; wrote = out.wrote }, failed)
+    inr (record { text = out.text; tells = (ended, verdict); wrote = out.wrote }, failed)
 
 -- a fault of the writing is Memory, or it counts what went out
 pub front_or_none : (e : Fault) (old new : Option (List ℕ)) (text : List ℕ) (A B C : Type 0) → (e ≡ Memory) ⊎ WritesFront old new text e → (e ≡ Memory → A) → (e ≢ Memory → B) →
@@ -99,7 +98,7 @@ told_each form name rows s found places json is_places is_form none =
 
 pub each_out : (form : OutputFormat) (name : List ℕ) (rows : List (List ℕ)) (s : Scripts) (found : List Finding) (old new : Option (List ℕ)) (places json : Bool) (r : Result (Unit {0}) Fault) →
     places ≡ has_places form → json ≡ is_json form → places ≡ false → OnOk r (Appends old new (findings_form json s found)) →
-    OnOk r (WritesFindings form name rows s found old new)
+    OnOk r (WritesText (TellsFindings form name rows s found) old new)
 each_out form name rows s found old new places json (Ok u) is_places is_form none wrote =
     record { text = findings_form json s found; tells = told_each form name rows s found places json is_places is_form none; wrote = wrote }
 each_out form name rows s found old new places json (Err e) is_places is_form none wrote = tt
@@ -110,7 +109,7 @@ pub each_broken : (form : OutputFormat) (name : List ℕ) (rows : List (List ℕ
     IfErr r (StopsFindings form name rows s found old new A B)
 each_broken form name rows s found old new places json A B (Ok u) is_places is_form none front kept failed = tt
 each_broken form name rows s found old new places json A B (Err e) is_places is_form none front kept failed =
-    front_or_none e old new (findings_form json s found) A B (BreaksOffFindings form name rows s found old new e) front (λ memory. kept (ap Err memory)) failed
+    front_or_none e old new (findings_form json s found) A B (BreaksOffText (TellsFindings form name rows s found) old new e) front (λ memory. kept (ap Err memory)) failed
     (λ wrote. record { text = findings_form json s found; tells = told_each form name rows s found places json is_places is_form none; wrote = wrote })
 
 -- with places they are told in groups
@@ -121,7 +120,7 @@ told_in_groups form name rows s found places text is_places with tells =
 
 pub groups_out : (form : OutputFormat) (name : List ℕ) (rows : List (List ℕ)) (s : Scripts) (found : List Finding) (old new : Option (List ℕ)) (places : Bool) (text shown : List ℕ)
     (r : Result (Unit {0}) Fault) → places ≡ has_places form → places ≡ true → IsGroupedText (is_json form) name rows s found text → shown ≡ text →
-    OnOk r (Appends old new shown) → OnOk r (WritesFindings form name rows s found old new)
+    OnOk r (Appends old new shown) → OnOk r (WritesText (TellsFindings form name rows s found) old new)
 groups_out form name rows s found old new places text shown (Ok u) is_places with tells is wrote =
     record { text = text; tells = told_in_groups form name rows s found places text is_places with tells; wrote = subst (λ t. Appends old new t) is wrote }
 groups_out form name rows s found old new places text shown (Err e) is_places with tells is wrote = tt
@@ -134,40 +133,16 @@ groups_broken form name rows s found old new places text shown A B (Err e) is_pl
     let tells_so = told_in_groups form name rows s found places text is_places with tells in
     inr (record { text = text; tells = tells_so; wrote = subst (λ t. WritesFront old new t e) is front }, failed)
 
--- what went out of the verdict on scripts that were read
-pub writes_verdict : {size : Size} (form : OutputFormat) (name : List ℕ) (coming old new : Option (List ℕ)) (s : Scripts) (rows : List (List ℕ)) (r : Result Ended Fault) →
-    ReadIn size form coming s rows → IfOk r (λ ended. WritesVerdict form name s rows ended old new) →
-    IfOk r (λ ended. Writes size form coming (IsVerdict form name) ended old new)
-writes_verdict form name coming old new s rows (Ok ended) read wrote =
-    record { scripts = s; rows = rows; read = read; text = wrote.text; tells = wrote.verdict; wrote = wrote.wrote }
-writes_verdict form name coming old new s rows (Err e) read wrote = tt
+-- a check that is told so refuses nothing
+pub refuses_nothing : (Tells : List ℕ → Type 0) (old new : Option (List ℕ)) (A B : Type 0) (r : Result Ended Fault) →
+    IfErr r (λ e. ((e ≡ Memory) × A) ⊎ (BreaksOffText Tells old new e × B)) → IfErr r (λ e. (((e ≡ Memory) ⊎ ⊥) × A) ⊎ (BreaksOffText Tells old new e × B))
+refuses_nothing Tells old new A B (Ok ended) stops = tt
+refuses_nothing Tells old new A B (Err e) (inl (memory, none)) = inl (inl memory, none)
+refuses_nothing Tells old new A B (Err e) (inr front) = inr front
 
-pub breaks_off : {size : Size} (form : OutputFormat) (name : List ℕ) (coming old new : Option (List ℕ)) (s : Scripts) (rows : List (List ℕ)) (A B : Type 0) (r : Result Ended Fault) →
-    ReadIn size form coming s rows → IfErr r (Stops form name rows s old new A B) →
-    IfErr r (λ e. (StopsBeforeFindings size coming e × A) ⊎ (BreaksOff size form coming (IsVerdict form name) old new e × B))
-breaks_off form name coming old new s rows A B (Ok ended) read stops = tt
-breaks_off form name coming old new s rows A B (Err e) read (inl (memory, none)) = inl (inl memory, none)
-breaks_off form name coming old new s rows A B (Err e) read (inr (front, failed)) =
-    inr (record { scripts = s; rows = rows; read = read; text = front.text; ended = front.ended; tells = front.verdict; wrote = front.wrote }, failed)
-
--- the writing is no failed read
-pub no_failed_read : (form : OutputFormat) (name : List ℕ) (rows : List (List ℕ)) (old new : Option (List ℕ)) (s : Scripts) (A B : Type 0) (r : Result Ended Fault) →
-    IfErr r (Stops form name rows s old new A B) → r ≡ Err Read → ⊥
-no_failed_read form name rows old new s A B (Ok ended) stops is = let bad : Ok ended ≡ Err Read = is in cc
-no_failed_read form name rows old new s A B (Err e) (inl (memory, none)) is = let bad : Memory ≡ Read = cc in cc
-no_failed_read form name rows old new s A B (Err e) (inr (front, failed)) is = let bad : Write front.wrote.0 ≡ Read = cc (front.wrote.1) in cc
-
-abbrev pub done : Ended → Result Ended Fault
-done ended = Ok ended
-
-abbrev pub ended_of : Result Ended Fault → Ended
-ended_of (Ok ended) = ended
-ended_of (Err fault) = Clean
-
--- a check that is clean tells that every run that can't go on has one end
-pub clean_one_end : {size : Size} (form : OutputFormat) (name : List ℕ) (coming old new : Option (List ℕ)) (s : Scripts) (rows : List (List ℕ)) (r : Result Ended Fault) →
-    ReadIn size form coming s rows → IfOk r (λ ended. WritesVerdict form name s rows ended old new) → r ≡ Ok Clean → EndsInOneState size coming
-clean_one_end form name coming old new s rows (Ok ended) read wrote clean =
-    let is : ended ≡ Clean = cc in
-    record { scripts = s; read = record { bytes = read.bytes; came = read.came; reads = read.reads }; one_end = wrote.verdict.judged.one_end is }
-clean_one_end form name coming old new s rows (Err e) read wrote clean = let bad : Err e ≡ Ok Clean = clean in absurd (cc)
+-- and its fault is no failed read
+pub no_read_told : (Tells : List ℕ → Type 0) (old new : Option (List ℕ)) (A B : Type 0) (r : Result Ended Fault) →
+    IfErr r (λ e. ((e ≡ Memory) × A) ⊎ (BreaksOffText Tells old new e × B)) → IfErr r (λ e. e ≢ Read)
+no_read_told Tells old new A B (Ok ended) stops = tt
+no_read_told Tells old new A B (Err e) (inl (memory, none)) = λ is. let bad : Memory ≡ Read = sym memory ∙ is in absurd (cc)
+no_read_told Tells old new A B (Err e) (inr (front, failed)) = λ is. let bad : Write front.wrote.0 ≡ Read = sym (front.wrote.1) ∙ is in absurd (cc)

@@ -21,13 +21,13 @@ use Rattle.wire_anywhere_report.specs.Forms.{TellsPlaced}
 use Rattle.wire_differing.specs.declared.Differing.{Differing}
 use Rattle.wire_differing.specs.Differing.{IsUntold, IsDifferingTold, AreToldTo, AreToldBelow, AreDiffering}
 use Rattle.wire_reader.specs.declared.Size.{Size}
-use Rattle.wire_commands.specs.declared.answer.Answer.{Answer}
-use Rattle.wire_commands.specs.declared.ended.Ended.{Ended}
-use Rattle.wire_commands.specs.declared.ended.Ended.TheVariants.{Clean, Found}
-use Rattle.wire_commands.specs.Answer.{ReadIn}
+use Rattle.wire_command.specs.declared.answer.Answer.{Answer}
+use Rattle.wire_command.specs.declared.ended.Ended.{Ended}
+use Rattle.wire_command.specs.declared.ended.Ended.TheVariants.{Clean, Found}
+use Rattle.wire_command.specs.Answer.{ReadIn, Writes}
 use Rattle.wire_commands.specs.CheckAnywhere.{IsSettledEverywhere, EachHasOneEnd, IsFoundThere, AreFoundThere, HasAllFound, IsJudgedAnywhere, IsVerdictAnywhere, EndsInOneStateAnywhere}
 use Rattle.wire_commands.specs.CheckSame.{TellsDiffering, TellsFindingsAnywhere, IsSameVerdict, NoneDiffers, IsSameEverywhere}
-use Rattle.wire_commands.specs.Ending.{ended_of}
+use Rattle.wire_command.specs.Ending.{ended_of}
 
 -- something is counted where something stands
 not_none : {X : Type 0} (x : X) (xs : List X) → (length (x ∷ xs) == 0) ≡ false
@@ -102,13 +102,12 @@ differing_so form name rows s shown differing ended text settled law those ends 
     }
 
 -- a check that is clean tells that each placing has one end
-pub clean_each : {size : Size} (form : OutputFormat) (name : List ℕ) (coming : Option (List ℕ)) (s : Scripts) (rows : List (List ℕ)) (text : List ℕ) (ended : Ended) (Wrote : Type 0)
-    (r : Result Ended Fault) → ReadIn size form coming s rows → IsVerdictAnywhere form name s rows text ended → IfOk r (λ e. (e ≡ ended) × Wrote) → r ≡ Ok Clean →
-    EndsInOneStateAnywhere size coming
-clean_each form name coming s rows text ended Wrote (Ok e) read verdict wrote clean =
+pub clean_each : (size : Size) (form : OutputFormat) (name : List ℕ) (coming old new : Option (List ℕ)) (r : Result Ended Fault) →
+    IfOk r (λ ended. Writes size form coming (IsVerdictAnywhere form name) ended old new) → r ≡ Ok Clean → EndsInOneStateAnywhere size coming
+clean_each size form name coming old new (Ok e) told clean =
     let is : e ≡ Clean = cc in
-    record { scripts = s; read = record { bytes = read.bytes; came = read.came; reads = read.reads }; one_end = verdict.judged.one_end (sym wrote.0 ∙ is) }
-clean_each form name coming s rows text ended Wrote (Err e) read verdict wrote clean = let bad : Err e ≡ Ok Clean = clean in absurd (cc)
+    record { scripts = told.scripts; read = record { bytes = told.read.bytes; came = told.read.came; reads = told.read.reads }; one_end = told.tells.judged.one_end is }
+clean_each size form name coming old new (Err e) told clean = let bad : Err e ≡ Ok Clean = clean in absurd (cc)
 
 -- where nothing is told, nothing is told of any event
 both_none : (xs ys : List Differing) → xs ++ ys ≡ [] → (xs ≡ []) × (ys ≡ [])
@@ -155,11 +154,11 @@ same_too form name coming s rows text ended read (inr told) clean =
       same = none_differs (plan_of s) told.differing none told.those;
     }
 
-pub clean_same : {size : Size} (form : OutputFormat) (name : List ℕ) (coming : Option (List ℕ)) (s : Scripts) (rows : List (List ℕ)) (text : List ℕ) (ended : Ended) (Wrote : Type 0)
-    (r : Result Ended Fault) → ReadIn size form coming s rows → IsSameVerdict form name s rows text ended → IfOk r (λ e. (e ≡ ended) × Wrote) → r ≡ Ok Clean → IsSameEverywhere size coming
-clean_same form name coming s rows text ended Wrote (Ok e) read verdict wrote clean =
-    let is : e ≡ Clean = cc in same_too form name coming s rows text ended read verdict (sym wrote.0 ∙ is)
-clean_same form name coming s rows text ended Wrote (Err e) read verdict wrote clean = let bad : Err e ≡ Ok Clean = clean in absurd (cc)
+pub clean_same : (size : Size) (form : OutputFormat) (name : List ℕ) (coming old new : Option (List ℕ)) (r : Result Ended Fault) →
+    IfOk r (λ ended. Writes size form coming (IsSameVerdict form name) ended old new) → r ≡ Ok Clean → IsSameEverywhere size coming
+clean_same size form name coming old new (Ok e) told clean =
+    let is : e ≡ Clean = cc in same_too form name coming told.scripts told.rows told.text e told.read told.tells is
+clean_same size form name coming old new (Err e) told clean = let bad : Err e ≡ Ok Clean = clean in absurd (cc)
 
 -- the answer of a plan is that of the scripts that it has
 pub found_too : (form : OutputFormat) (name : List ℕ) (rows : List (List ℕ)) (s shown : Scripts) (found : List PlacedFinding) (none : Bool) (r : Result Answer Fault) → shown ≡ s →

@@ -5,7 +5,8 @@ use Rattle.std.proofs.lemmas.List.Sums.{sum_by-cons}
 use Rattle.wire_types.specs.Outcome.{Ends}
 use Rattle.wire_types.specs.declared.CallAt.{CallAt}
 use Rattle.wire_scripts.specs.Scripts.{Scripts, Process, call_count, calls_in}
-use Rattle.wire_commands.specs.Complete.{succeeds, end_of, end_at, IsCall, EverySucceeds, StandsBefore, IsFirstFailure}
+use Rattle.wire_command.specs.Success.{succeeds}
+use Rattle.wire_commands.specs.Complete.{end_of, end_at, IsCall, EverySucceeds, StandsBefore, IsFirstFailure}
 
 -- no process has more calls than all have
 pub calls_fit : (ps : List Process) (p : ℕ) → call_count ps < 2 ^ 31 → length (calls_in (slice_get ps p)) < 2 ^ 31

@@ -20,7 +20,7 @@ use Rattle.wire_types.specs.Outcome.{Ends}
 use Rattle.wire_scripts.specs.Planned.{plan_of}
 use Rattle.wire_core.specs.Course.{Course, plan_in, state_of}
 use Rattle.wire_core.specs.Following.{Follows, NotEnabledAt}
-use Rattle.wire_commands.specs.Plain.{ReadAs, Refuses}
+use Rattle.wire_command.specs.Read.{ReadAs, Refuses}
 use Rattle.wire_commands.proofs.Texts.{LeadsTo}
 use Rattle.wire_commands.specs.Follow.{OrdersAs, RefusesSteps, StopsAfter, StopsBefore, OrderedAs, WritesFollowed, BreaksOffFollowed}
 
@@ -152,11 +152,6 @@ no_read_of_order size s bytes (Err e) (inr reads) is =
     let its = found.1 in
     let bad : BadOrder found.0 ≡ Read = cc in
     cc
-
--- what holds of every fault holds of the one that is answered
-pub err_always : {A : Type 0} (r : Result A Fault) (P : Fault → Type 0) → ((e : Fault) → P e) → IfErr r P
-err_always (Ok x) P f = tt
-err_always (Err e) P f = f e
 
 -- a run from the start that stops in an order stops after the steps before
 pub stopped_first : (s : Scripts) (new : Course) (steps : List ℕ) (e : Fault) → NotEnabledAt (record { scripts = s; history = [] }) steps new e → StopsAfter s steps e

@@ -9,8 +9,8 @@ use Rattle.wire_runs.proofs.PlainRun.{plain_runs}
 use Rattle.wire_findings.specs.declared.finding.Finding.{Finding}
 use Rattle.wire_core.specs.EndsAfter.{plain_ends}
 use Rattle.wire_parallel_run.specs.Collect.{IsCompleteRun}
-use Rattle.wire_commands.specs.declared.ended.Ended.{Ended}
-use Rattle.wire_commands.specs.Ending.{ended_with}
+use Rattle.wire_command.specs.declared.ended.Ended.{Ended}
+use Rattle.wire_command.specs.Ending.{ended_with}
 use Rattle.wire_commands.specs.Complete.{TellsFailure, AlwaysFailsSo, TellsCalls}
 
 -- a complete interleaving of a settled plan ends as the plain run does

@@ -1,16 +1,11 @@
-pub mod Fits
 mod Grouped
 mod Listed
 mod Ordered
-pub mod Placed
-pub mod Answered
-pub mod Came
 pub mod Checked
 pub mod CheckedAnywhere
 pub mod Failures
-pub mod FileFaults
 pub mod Followed
-pub mod Handed
+pub mod Reported
 pub mod Judged
 pub mod Moved
 pub mod Questioned

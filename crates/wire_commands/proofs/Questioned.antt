@@ -11,8 +11,7 @@ use Rattle.wire_reader.specs.declared.Size.{Size}
 use Rattle.wire_reader.specs.Question.{QuestionReads, Asks as AsksBoth, First, Second, Third, Fourth, IsCallNamed}
 use Rattle.wire_runs.specs.Ends.{calls_of}
 use Rattle.wire_scripts.proofs.PlannedCalls.{as_many_planned}
-use Rattle.wire_commands.specs.Plain.{ReadAs, Refuses}
-use Rattle.wire_commands.specs.Why.{QuestionNames, StopsBeforeAnswer}
+use Rattle.wire_commands.specs.Why.{QuestionNames}
 
 named_there : (s : Scripts) (proc number : List ℕ) (x : CallAt) → IsCallNamed s proc number x → x.call < length (calls_of (plan_of s) x.proc.number)
 named_there s proc number x named = subst (λ n. x.call < n) (as_many_planned s x.proc.number) named.numbered.there
@@ -52,19 +51,10 @@ pub refuses_too : (s plan : Scripts) (words : List (List ℕ)) (r : Result (Vec 
     IfErr r (λ e. (e ≡ Memory) ⊎ QuestionNames s words (Err e))
 refuses_too s plan words r is refuses = subst (λ t. IfErr r (λ e. (e ≡ Memory) ⊎ QuestionNames t words (Err e))) is refuses
 
--- a fault of the file comes before the writing
-pub file_stops : {size : Size} (coming : Option (List ℕ)) (words : List (List ℕ)) (e : Fault) → (e ≡ Memory) ⊎ ((e ≡ Read) ⊎ Refuses size coming e) → StopsBeforeAnswer size coming words e
-file_stops coming words e (inl memory) = inl memory
-file_stops coming words e (inr (inl read)) = inr (inl read)
-file_stops coming words e (inr (inr refuses)) = inr (inr (inl refuses))
-
--- and so does a wrong word
-pub word_stops : {size : Size} (coming : Option (List ℕ)) (words : List (List ℕ)) (s : Scripts) (e : Fault) → ReadAs size coming s →
-    (e ≡ Memory) ⊎ QuestionNames s words (Err e) → StopsBeforeAnswer size coming words e
-word_stops coming words s e read (inl memory) = inl memory
-word_stops coming words s e read (inr refuses) = inr (inr (inr (record { scripts = s; read = read; refuses = refuses })))
-
--- which is no failed read
-pub no_read_of_words : (s : Scripts) (words : List (List ℕ)) (e : Fault) → (e ≡ Memory) ⊎ QuestionNames s words (Err e) → e ≢ Read
+no_read_of_words : (s : Scripts) (words : List (List ℕ)) (e : Fault) → (e ≡ Memory) ⊎ QuestionNames s words (Err e) → e ≢ Read
 no_read_of_words s words e (inl memory) is = let bad : Memory ≡ Read = sym memory ∙ is in cc
 no_read_of_words s words e (inr refuses) is = word_no_read s _ _ _ _ e refuses is
+
+pub words_no_read : {A : Type 0} (s : Scripts) (words : List (List ℕ)) (r : Result A Fault) → IfErr r (λ e. (e ≡ Memory) ⊎ QuestionNames s words (Err e)) → IfErr r (λ e. e ≢ Read)
+words_no_read s words (Ok x) told = tt
+words_no_read s words (Err e) told = λ is. no_read_of_words s words e told is

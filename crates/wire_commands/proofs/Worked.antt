@@ -12,19 +12,20 @@ use Rattle.wire_findings.specs.declared.finding.Finding.{Finding}
 use Rattle.wire_findings.specs.Findings.{AreFindings}
 use Rattle.wire_core.specs.EndsAfter.{plain_ends}
 use Rattle.wire_reader.specs.declared.Size.{Size}
-use Rattle.wire_commands.specs.declared.ended.Ended.{Ended}
-use Rattle.wire_commands.specs.declared.ended.Ended.TheVariants.{Clean, Found}
+use Rattle.wire_command.specs.declared.ended.Ended.{Ended}
+use Rattle.wire_command.specs.declared.ended.Ended.TheVariants.{Clean, Found}
 use Rattle.wire_commands.specs.declared.replay.Mode.{Mode}
-use Rattle.wire_commands.specs.Plain.{ReadAs}
-use Rattle.wire_commands.specs.Ending.{ended_with}
+use Rattle.wire_command.specs.Read.{ReadAs}
+use Rattle.wire_command.specs.Command.{WritesText}
+use Rattle.wire_command.specs.Ending.{ended_with}
 use Rattle.wire_report.specs.Report.{report_form}
 use Rattle.wire_standstill.specs.Told.{ReportsStandstill}
-use Rattle.wire_commands.specs.Replay.{TellsReplay, TellsEnd, TellsFound, IsReplay, WritesReplayOf, WritesOneEnd}
+use Rattle.wire_commands.specs.Replay.{TellsReplay, TellsEnd, TellsFound, IsReplay, WritesOneEnd}
 use Rattle.wire_commands.proofs.Checked.{judged_so}
 
 -- of a settled plan
 pub settled_told : (mode : Mode) (s shown : Scripts) (none : List Finding) (text : List ℕ) → none ≡ [] → ((none ≡ []) ↔ IsSettled (plan_of s)) → AreFindings s none →
-    shown ≡ s → TellsEnd mode.json mode.explain shown text → IsReplay mode s Clean text
+    shown ≡ s → TellsEnd mode.json mode.explain shown text → IsReplay mode s text Clean
 settled_told mode s shown (f ∷ fs) text is law those same told = let bad : f ∷ fs ≡ [] = is in absurd (cc)
 settled_told mode s shown [] text is law those same told =
     record { found = []; judged = judged_so s [] [] Clean law those refl refl; tells = subst (λ (t : Scripts). TellsEnd mode.json mode.explain t text) same told }
@@ -50,7 +51,7 @@ found_tells mode s (f ∷ fs) text some tells = tells
 
 pub found_told : (mode : Mode) (s : Scripts) (found counted : List Finding) (ended : Ended) (text : List ℕ) → ((found ≡ []) ↔ IsSettled (plan_of s)) → AreFindings s found → found ≢ [] →
     counted ≡ found → ended ≡ ended_with counted
-    → TellsFound mode.json mode.anyway s found text → IsReplay mode s ended text
+    → TellsFound mode.json mode.anyway s found text → IsReplay mode s text ended
 found_told mode s found counted ended text law those some count ends tells =
     record { found = found; judged = judged_so s found counted ended law those count ends; tells = found_tells mode s found text some tells }
 
@@ -66,10 +67,10 @@ clean_tells mode s [] ended text ends tells clean = tells
 clean_tells mode s (f ∷ fs) ended text ends tells clean = let bad : Found (length (f ∷ fs)) ≡ Clean = sym ends ∙ clean in absurd (cc)
 
 pub clean_writes : {size : Size} (mode : Mode) (coming old new : Option (List ℕ)) (s : Scripts) (ended : Ended) →
-    ReadAs size coming s → WritesReplayOf mode s ended old new → ended ≡ Clean → WritesOneEnd size mode coming old new
+    ReadAs size coming s → WritesText (λ text. IsReplay mode s text ended) old new → ended ≡ Clean → WritesOneEnd size mode coming old new
 clean_writes mode coming old new s ended read told clean =
-    let judged = told.replay.judged in
-    let tells = clean_tells mode s told.replay.found ended told.text judged.ends told.replay.tells clean in
+    let judged = told.tells.judged in
+    let tells = clean_tells mode s told.tells.found ended told.text judged.ends told.tells.tells clean in
     record { scripts = s; read = read; one_end = judged.one_end clean; text = told.text; tells = tells; wrote = told.wrote }
 
 -- a list that is empty

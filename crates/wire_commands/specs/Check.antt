@@ -1,7 +1,5 @@
 -- What `check` writes: all findings of the scripts that were to come from the reader.
 use Rattle.std.specs.Prelude.{◌≡◌, ◌⊎◌, ◌↔◌, ℕ, Bool, true, false, List, Option}
-use Rattle.std.specs.Io.KnownBytes.{Appends}
-use Rattle.wire_types.specs.Front.{WritesFront}
 use Rattle.wire_types.specs.declared.Fault.{Fault}
 use Rattle.wire_types.specs.declared.Fault.TheVariants.{Memory, Read}
 use Rattle.wire_types.specs.declared.OutputFormat.{OutputFormat}
@@ -19,11 +17,11 @@ use Rattle.wire_report.specs.Findings.{findings_form}
 use Rattle.wire_report.specs.Grouped.{AreGroupsOf}
 use Rattle.wire_report.specs.GroupedText.{IsLocatedText}
 use Rattle.wire_reader.specs.declared.Size.{Size}
-use Rattle.wire_commands.specs.declared.ended.Ended.{Ended}
-use Rattle.wire_commands.specs.declared.ended.Ended.TheVariants.{Clean}
+use Rattle.wire_command.specs.declared.ended.Ended.{Ended}
+use Rattle.wire_command.specs.declared.ended.Ended.TheVariants.{Clean}
 use Rattle.wire_commands.specs.CallsJson.{json_groups}
-use Rattle.wire_commands.specs.Ending.{ended_with}
-use Rattle.wire_commands.specs.Plain.{ReadAs, Refuses}
+use Rattle.wire_command.specs.Ending.{ended_with}
+use Rattle.wire_command.specs.Read.{ReadAs, Refuses}
 
 -- the two calls of each race among the findings are live, and no chain orders them
 abbrev pub NoneIsOrdered : Plan → List Finding → Type 0
@@ -58,40 +56,11 @@ TellsEach true json name rows scripts found text = IsGroupedText json name rows 
 abbrev pub TellsFindings : (form : OutputFormat) (name : List ℕ) (rows : List (List ℕ)) → Scripts → List Finding → List ℕ → Type 0
 TellsFindings form name rows scripts found text = TellsEach (has_places form) (is_json form) name rows scripts found text
 
--- all of a text went out that tells these findings
-pub record WritesFindings (form : OutputFormat) (name : List ℕ) (rows : List (List ℕ)) (scripts : Scripts) (found : List Finding)
-    (old new : Option (List ℕ)) : Type 0 where
-  pub text : List ℕ
-  pub tells : TellsFindings form name rows scripts found text
-  pub wrote : Appends old new text
-
--- exactly as many bytes of such a text went out as the fault says, which aren't all of it
-pub record BreaksOffFindings (form : OutputFormat) (name : List ℕ) (rows : List (List ℕ)) (scripts : Scripts) (found : List Finding)
-    (old new : Option (List ℕ)) (fault : Fault) : Type 0 where
-  pub text : List ℕ
-  pub tells : TellsFindings form name rows scripts found text
-  pub wrote : WritesFront old new text fault
-
 -- the text of all findings of the scripts, and how a check of them ends
 pub record IsVerdict (form : OutputFormat) (name : List ℕ) (scripts : Scripts) (rows : List (List ℕ)) (text : List ℕ) (ended : Ended) : Type 0 where
   pub found : List Finding
   pub judged : IsVerdictOf scripts found ended
   pub tells : TellsFindings form name rows scripts found text
-
--- all of the verdict on the scripts went out
-pub record WritesVerdict (form : OutputFormat) (name : List ℕ) (scripts : Scripts) (rows : List (List ℕ)) (ended : Ended)
-    (old new : Option (List ℕ)) : Type 0 where
-  pub text : List ℕ
-  pub verdict : IsVerdict form name scripts rows text ended
-  pub wrote : Appends old new text
-
--- exactly as many bytes of the verdict went out as the fault says, which aren't all of it
-pub record BreaksOffVerdict (form : OutputFormat) (name : List ℕ) (scripts : Scripts) (rows : List (List ℕ))
-    (old new : Option (List ℕ)) (fault : Fault) : Type 0 where
-  pub ended : Ended
-  pub text : List ℕ
-  pub verdict : IsVerdict form name scripts rows text ended
-  pub wrote : WritesFront old new text fault
 
 -- what was to come read as scripts, and every interleaving of their plan that can't go on ends in one state, the plain
 -- run's: the same reply to every call, and the same processes waiting

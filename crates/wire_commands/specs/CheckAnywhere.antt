@@ -14,10 +14,10 @@ use Rattle.wire_anywhere.specs.declared.placed.PlacedFinding.{PlacedFinding}
 use Rattle.wire_anywhere.specs.Anywhere.{AreFoundAnywhere, all_placed}
 use Rattle.wire_anywhere_report.specs.Forms.{TellsPlaced}
 use Rattle.wire_reader.specs.declared.Size.{Size}
-use Rattle.wire_commands.specs.declared.ended.Ended.{Ended}
-use Rattle.wire_commands.specs.declared.ended.Ended.TheVariants.{Clean}
-use Rattle.wire_commands.specs.Ending.{ended_of}
-use Rattle.wire_commands.specs.Plain.{ReadAs}
+use Rattle.wire_command.specs.declared.ended.Ended.{Ended}
+use Rattle.wire_command.specs.declared.ended.Ended.TheVariants.{Clean}
+use Rattle.wire_command.specs.Ending.{ended_of}
+use Rattle.wire_command.specs.Read.{ReadAs}
 
 -- nothing is found on any placing
 abbrev pub IsSettledEverywhere : Plan → Type 0

@@ -10,11 +10,11 @@ use Rattle.wire_runs.specs.Laws.{plain_end}
 use Rattle.wire_differing.specs.Differing.{IsUntold, AreDiffering}
 use Rattle.wire_anywhere_report.specs.Differing.{differing_form}
 use Rattle.wire_reader.specs.declared.Size.{Size}
-use Rattle.wire_commands.specs.declared.ended.Ended.{Ended}
-use Rattle.wire_commands.specs.declared.ended.Ended.TheVariants.{Clean}
+use Rattle.wire_command.specs.declared.ended.Ended.{Ended}
+use Rattle.wire_command.specs.declared.ended.Ended.TheVariants.{Clean}
 use Rattle.wire_commands.specs.CheckAnywhere.{EachHasOneEnd, IsSettledEverywhere, IsVerdictAnywhere}
-use Rattle.wire_commands.specs.Ending.{ended_of}
-use Rattle.wire_commands.specs.Plain.{ReadAs}
+use Rattle.wire_command.specs.Ending.{ended_of}
+use Rattle.wire_command.specs.Read.{ReadAs}
 
 -- nothing is found on any placing, so each has one end, and the text tells the answered calls whose replies aren't the same on all
 pub record TellsDiffering (form : OutputFormat) (name : List ℕ) (scripts : Scripts) (rows : List (List ℕ)) (text : List ℕ) (ended : Ended) : Type 0 where

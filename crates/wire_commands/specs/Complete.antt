@@ -1,32 +1,21 @@
 -- Whether every call of a replay succeeds, and which is the first that doesn't.
-use Rattle.std.specs.Prelude.{◌≡◌, ◌⊎◌, ℕ, ◌<◌, Bool, true, false, List, [], ◌++◌, Option, Some, None, Vec, codes}
+use Rattle.std.specs.Prelude.{◌≡◌, ◌⊎◌, ℕ, ◌<◌, true, false, List, [], ◌++◌, Option, Some, None, Vec, codes}
 use Rattle.std.specs.Prelude.{length, slice_get}
 use Rattle.std.specs.declared.alloc.Global.{Global}
 use Rattle.wire_types.specs.Outcome.{Ends}
 use Rattle.wire_types.specs.declared.CallAt.{CallAt}
 use Rattle.wire_types.specs.declared.CallEnd.{CallEnd}
-use Rattle.wire_types.specs.declared.CallEnd.TheVariants.{Replied, Unreached}
-use Rattle.wire_types.specs.declared.Status.{Status}
-use Rattle.wire_types.specs.declared.Status.TheVariants.{Success}
+use Rattle.wire_types.specs.declared.CallEnd.TheVariants.{Unreached}
 use Rattle.wire_scripts.specs.Scripts.{Scripts, call_at, calls_in}
 use Rattle.wire_words.specs.Words.{call_text, end_text, verb_text_in}
 use Rattle.wire_core.specs.EndsAfter.{plain_ends}
 use Rattle.wire_parallel_run.specs.Collect.{IsCompleteRun}
 use Rattle.wire_reader.specs.declared.Size.{Size}
-use Rattle.wire_commands.specs.declared.ended.Ended.{Ended}
-use Rattle.wire_commands.specs.declared.ended.Ended.TheVariants.{Clean, Found}
-use Rattle.wire_commands.specs.Ending.{status_of}
-use Rattle.wire_commands.specs.Plain.{ReadAs}
-
--- PMIX_SUCCESS
-abbrev pub is_success : Status → Bool
-is_success Success = true
-is_success _ = false
-
--- the call was answered PMIX_SUCCESS
-abbrev pub succeeds : CallEnd → Bool
-succeeds (Replied reply) = is_success reply.status
-succeeds _ = false
+use Rattle.wire_command.specs.declared.ended.Ended.{Ended}
+use Rattle.wire_command.specs.declared.ended.Ended.TheVariants.{Clean, Found}
+use Rattle.wire_command.specs.Ending.{status_of}
+use Rattle.wire_command.specs.Read.{ReadAs}
+use Rattle.wire_command.specs.Success.{succeeds}
 
 -- what became of a call, by the numbers of its process and of itself: unreached where the ends don't have it
 abbrev pub end_or_none : Option CallEnd → CallEnd

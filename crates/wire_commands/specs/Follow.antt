@@ -12,7 +12,7 @@ use Rattle.wire_runs.specs.State.{start}
 use Rattle.wire_runs.specs.Step.{is_enabled, run, IsInterleaving}
 use Rattle.wire_core.specs.EndsAfter.{ends_after}
 use Rattle.wire_report.specs.Report.{report_form}
-use Rattle.wire_commands.specs.Plain.{WereComing, ReadAs, Refuses}
+use Rattle.wire_command.specs.Read.{WereComing, ReadAs, Refuses}
 
 -- the report of the state after these steps, in lines or as JSON
 abbrev pub report_after : Bool → Scripts → List ℕ → List ℕ

@@ -1,6 +1,4 @@
-pub mod Ending
 pub mod Plain
-pub mod Answer
 pub mod CallsJson
 pub mod Check
 pub mod CheckAnywhere

@@ -1,16 +1,18 @@
 -- What `migrate` writes: the canonical text of what was to come from the reader, under version 2 of the format.
 use Rattle.std.specs.Prelude.{◌≡◌, ◌⊎◌, ℕ, ◌≤◌, List, Option, Ok, length}
 use Rattle.std.specs.Io.KnownBytes.{Appends}
-use Rattle.wire_types.specs.Front.{WritesFront}
 use Rattle.wire_types.specs.declared.Fault.{Fault}
 use Rattle.wire_types.specs.declared.Fault.TheVariants.{Memory, Read}
+use Rattle.wire_types.specs.declared.OutputFormat.TheVariants.{Lines}
 use Rattle.wire_scripts.specs.Scripts.{Scripts, under_version_2}
 use Rattle.wire_scripts.specs.Canonical.{canonical}
 use Rattle.wire_scripts.specs.Planned.{plan_of}
 use Rattle.wire_reader.specs.declared.Size.{Size}
 use Rattle.wire_reader.specs.Limits.{file_bytes}
 use Rattle.wire_reader.specs.Reads.{Reads}
-use Rattle.wire_commands.specs.Plain.{ReadAs, Refuses}
+use Rattle.wire_command.specs.declared.ended.Ended.{Ended}
+use Rattle.wire_command.specs.Read.{ReadAs, Refuses}
+use Rattle.wire_command.specs.Answer.{BreaksOff}
 
 -- the text of scripts under version 2
 abbrev pub migrated_text : Scripts → List ℕ
@@ -29,11 +31,13 @@ pub record WritesMigrated (size : Size) (coming old new : Option (List ℕ)) : T
   pub migrated : IsMigrated size scripts
   pub wrote : Appends old new (migrated_text scripts)
 
+-- the text is that of the scripts under version 2
+abbrev pub TellsMigrated : Scripts → List (List ℕ) → List ℕ → Ended → Type 0
+TellsMigrated scripts rows text ended = text ≡ migrated_text scripts
+
 -- exactly as many bytes of it went out as the fault says, which aren't all of it
-pub record BreaksOffMigrated (size : Size) (coming old new : Option (List ℕ)) (fault : Fault) : Type 0 where
-  pub scripts : Scripts
-  pub read : ReadAs size coming scripts
-  pub wrote : WritesFront old new (migrated_text scripts) fault
+abbrev pub BreaksOffMigrated : Size → (coming old new : Option (List ℕ)) → Fault → Type 0
+BreaksOffMigrated size coming old new fault = BreaksOff size Lines coming TellsMigrated old new fault
 
 -- why nothing is written: memory ran out, a read failed, or the file is refused
 abbrev pub StopsBeforeMigrated : Size → Option (List ℕ) → Fault → Type 0

@@ -1,26 +1,20 @@
 -- What `plain` writes: the report of the plain run of what was to come from the reader.
-use Rattle.std.specs.Prelude.{◌≡◌, ℕ, ◌<◌, List, Option, Ok, Err, IfSome, length, take}
+use Rattle.std.specs.Prelude.{◌≡◌, ℕ, ◌<◌, List, Option, length, take}
 use Rattle.std.specs.Io.KnownBytes.{Appends}
-use Rattle.wire_types.specs.declared.Fault.{Fault}
 use Rattle.wire_scripts.specs.Scripts.{Scripts}
 use Rattle.wire_reader.specs.declared.Size.{Size}
-use Rattle.wire_reader.specs.Reads.{Reads}
 use Rattle.wire_core.specs.EndsAfter.{plain_ends}
 use Rattle.wire_report.specs.Report.{report}
+use Rattle.wire_command.specs.declared.ended.Ended.{Ended}
+use Rattle.wire_command.specs.Read.{ReadAs}
 
 -- the report of the plain run
 abbrev pub plain_report : Scripts → List ℕ
 plain_report scripts = report scripts (plain_ends scripts)
 
--- the bytes that were to come from a reader, where that is known
-abbrev pub WereComing : Option (List ℕ) → List ℕ → Type 0
-WereComing coming bytes = IfSome coming (λ all. all ≡ bytes)
-
--- what was to come read as scripts
-pub record ReadAs (size : Size) (coming : Option (List ℕ)) (scripts : Scripts) : Type 0 where
-  pub bytes : List ℕ
-  pub came : WereComing coming bytes
-  pub reads : Reads size bytes (Ok scripts)
+-- the text is that report
+abbrev pub TellsPlain : Scripts → List (List ℕ) → List ℕ → Ended → Type 0
+TellsPlain scripts rows text ended = text ≡ plain_report scripts
 
 -- all of the report of what was to come went out
 pub record WritesReport (size : Size) (coming old new : Option (List ℕ)) : Type 0 where
@@ -34,9 +28,3 @@ pub record BreaksOffReport (size : Size) (coming old new : Option (List ℕ)) (n
   pub read : ReadAs size coming scripts
   pub wrote : Appends old new (take n (plain_report scripts))
   pub short : n < length (plain_report scripts)
-
--- the first fault of what was to come
-pub record Refuses (size : Size) (coming : Option (List ℕ)) (fault : Fault) : Type 0 where
-  pub bytes : List ℕ
-  pub came : WereComing coming bytes
-  pub reads : Reads size bytes (Err fault)

@@ -21,9 +21,9 @@ use Rattle.wire_reader.specs.declared.Size.{Size}
 use Rattle.wire_commands.specs.declared.replay.Verdict.{Verdict}
 use Rattle.wire_commands.specs.declared.replay.Verdict.TheVariants.{Clean as NothingFound, Found as SomeFound}
 use Rattle.wire_commands.specs.declared.replay.Mode.{Mode}
-use Rattle.wire_commands.specs.declared.ended.Ended.{Ended}
+use Rattle.wire_command.specs.declared.ended.Ended.{Ended}
 use Rattle.wire_commands.specs.Check.{IsVerdictOf, StopsBeforeFindings}
-use Rattle.wire_commands.specs.Plain.{ReadAs}
+use Rattle.wire_command.specs.Read.{ReadAs}
 
 -- what was judged is the plan of the scripts: settled, or with all that is found in it, which is something
 abbrev pub JudgesPlan : Scripts → Verdict → Type 0
@@ -53,36 +53,11 @@ abbrev pub TellsReplay : Mode → Scripts → List Finding → List ℕ → Type
 TellsReplay mode scripts [] text = TellsEnd mode.json mode.explain scripts text
 TellsReplay mode scripts (f ∷ fs) text = TellsFound mode.json mode.anyway scripts (f ∷ fs) text
 
--- how a replay of the scripts ends, and its text
-pub record IsReplay (mode : Mode) (scripts : Scripts) (ended : Ended) (text : List ℕ) : Type 0 where
+-- the text of a replay of the scripts, and how it ends
+pub record IsReplay (mode : Mode) (scripts : Scripts) (text : List ℕ) (ended : Ended) : Type 0 where
   pub found : List Finding
   pub judged : IsVerdictOf scripts found ended
   pub tells : TellsReplay mode scripts found text
-
--- all that is written where these are found went out
-pub record WritesFound (mode : Mode) (scripts : Scripts) (found : List Finding) (old new : Option (List ℕ)) : Type 0 where
-  pub text : List ℕ
-  pub tells : TellsFound mode.json mode.anyway scripts found text
-  pub wrote : Appends old new text
-
--- exactly as many bytes of it went out as the fault says, which aren't all of it
-pub record BreaksOffFound (mode : Mode) (scripts : Scripts) (found : List Finding) (old new : Option (List ℕ)) (fault : Fault) : Type 0 where
-  pub text : List ℕ
-  pub tells : TellsFound mode.json mode.anyway scripts found text
-  pub wrote : WritesFront old new text fault
-
--- all of a replay of the scripts went out
-pub record WritesReplayOf (mode : Mode) (scripts : Scripts) (ended : Ended) (old new : Option (List ℕ)) : Type 0 where
-  pub text : List ℕ
-  pub replay : IsReplay mode scripts ended text
-  pub wrote : Appends old new text
-
--- exactly as many bytes of it went out as the fault says, which aren't all of it
-pub record BreaksOffReplayOf (mode : Mode) (scripts : Scripts) (old new : Option (List ℕ)) (fault : Fault) : Type 0 where
-  pub ended : Ended
-  pub text : List ℕ
-  pub replay : IsReplay mode scripts ended text
-  pub wrote : WritesFront old new text fault
 
 -- what was to come read as scripts of which every interleaving that can't go on ends in one state, the plain run's, and
 -- the report of that state went out
@@ -99,7 +74,7 @@ pub record WritesReplay (size : Size) (mode : Mode) (coming : Option (List ℕ))
   pub scripts : Scripts
   pub read : ReadAs size coming scripts
   pub text : List ℕ
-  pub replay : IsReplay mode scripts ended text
+  pub replay : IsReplay mode scripts text ended
   pub wrote : Appends old new text
 
 -- exactly as many bytes of it went out as the fault says, which aren't all of it
@@ -108,7 +83,7 @@ pub record BreaksOffReplay (size : Size) (mode : Mode) (coming old new : Option 
   pub read : ReadAs size coming scripts
   pub ended : Ended
   pub text : List ℕ
-  pub replay : IsReplay mode scripts ended text
+  pub replay : IsReplay mode scripts text ended
   pub wrote : WritesFront old new text fault
 
 -- why nothing is written: there can't be so many workers, or it is a reason for which a check writes nothing

@@ -1,19 +1,18 @@
 -- What `why` writes: whether one call is before another, and the chain that shows it.
-use Rattle.std.specs.Prelude.{◌≡◌, ◌⊎◌, ℕ, Bool, true, false, List, [], Option, Result, Ok, Err, slice_index_or}
+use Rattle.std.specs.Prelude.{◌≡◌, ℕ, Bool, true, false, List, [], Option, Result, Ok, Err, slice_index_or}
 use Rattle.wire_types.specs.declared.CallAt.{CallAt}
 use Rattle.wire_types.specs.declared.Fault.{Fault}
-use Rattle.wire_types.specs.declared.Fault.TheVariants.{Memory, Read}
 use Rattle.wire_types.specs.declared.OutputFormat.{OutputFormat}
 use Rattle.wire_types.specs.Forms.{has_places, is_json}
 use Rattle.wire_scripts.specs.Scripts.{Scripts}
 use Rattle.wire_report.specs.Chain.{IsChainText}
 use Rattle.wire_reader.specs.declared.Size.{Size}
 use Rattle.wire_reader.specs.Question.{QuestionReads}
-use Rattle.wire_commands.specs.declared.ended.Ended.{Ended}
-use Rattle.wire_commands.specs.declared.ended.Ended.TheVariants.{Clean}
-use Rattle.wire_commands.specs.Answer.{Writes}
+use Rattle.wire_command.specs.declared.ended.Ended.{Ended}
+use Rattle.wire_command.specs.declared.ended.Ended.TheVariants.{Clean}
+use Rattle.wire_command.specs.Answer.{Writes}
+use Rattle.wire_command.specs.Command.{StopsBeforeCommand}
 use Rattle.wire_commands.specs.Chains.{IsPlacedChain}
-use Rattle.wire_commands.specs.Plain.{ReadAs, Refuses}
 
 abbrev pub word_at : List (List ℕ) → ℕ → List ℕ
 word_at words n = slice_index_or words n []
@@ -44,12 +43,6 @@ pub record ExplainsOrder (form : OutputFormat) (name : List ℕ) (words : List (
 abbrev pub WritesAnswer : Size → OutputFormat → Option (List ℕ) → (name : List ℕ) (words : List (List ℕ)) (old new : Option (List ℕ)) → Type 0
 WritesAnswer size form coming name words old new = (ended : Ended) × Writes size form coming (ExplainsOrder form name words) ended old new
 
--- the file reads as scripts, and a word of the question has this fault
-pub record RefusesQuestion (size : Size) (coming : Option (List ℕ)) (words : List (List ℕ)) (fault : Fault) : Type 0 where
-  pub scripts : Scripts
-  pub read : ReadAs size coming scripts
-  pub refuses : QuestionNames scripts words (Err fault)
-
 -- why nothing is written: memory ran out, a read failed, the file is refused, or a word of the question is
 abbrev pub StopsBeforeAnswer : Size → Option (List ℕ) → List (List ℕ) → Fault → Type 0
-StopsBeforeAnswer size coming words fault = (fault ≡ Memory) ⊎ ((fault ≡ Read) ⊎ (Refuses size coming fault ⊎ RefusesQuestion size coming words fault))
+StopsBeforeAnswer size coming words = StopsBeforeCommand size coming (λ scripts fault. QuestionNames scripts words (Err fault))

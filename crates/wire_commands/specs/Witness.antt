@@ -17,9 +17,9 @@ use Rattle.wire_witness.specs.declared.pair.PairSearch.{PairSearch}
 use Rattle.wire_witness.specs.declared.pair.PairSearch.TheVariants.{NoRace, NotShown, Shown}
 use Rattle.wire_witness.specs.declared.witness.Witness.{Witness}
 use Rattle.wire_witness.specs.Searches.{IsPairSearch, shown_by_pair}
-use Rattle.wire_commands.specs.declared.ended.Ended.{Ended}
+use Rattle.wire_command.specs.declared.ended.Ended.{Ended}
 use Rattle.wire_commands.specs.CallsJson.{json_witness}
-use Rattle.wire_commands.specs.Ending.{ended_of}
+use Rattle.wire_command.specs.Ending.{ended_of}
 use Rattle.wire_commands.specs.Why.{QuestionNames}
 
 -- in lines: the call that ends differently, how it ends in each run, and the orders of both

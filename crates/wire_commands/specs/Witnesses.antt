@@ -13,9 +13,9 @@ use Rattle.wire_report.specs.Views.{tried_line, counts_line}
 use Rattle.wire_witness.specs.declared.all.RaceSearch.{RaceSearch}
 use Rattle.wire_witness.specs.declared.tried.TriedRace.{TriedRace}
 use Rattle.wire_witness.specs.Searches.{IsRaceSearch, counts_of, shown_by_races}
-use Rattle.wire_commands.specs.declared.ended.Ended.{Ended}
+use Rattle.wire_command.specs.declared.ended.Ended.{Ended}
 use Rattle.wire_commands.specs.CallsJson.{json_races}
-use Rattle.wire_commands.specs.Ending.{ended_of}
+use Rattle.wire_command.specs.Ending.{ended_of}
 
 -- the line of a race: whether it is shown, and what `check` writes of it
 abbrev pub race_line : Scripts → TriedRace → List ℕ

@@ -1,6 +1,7 @@
 //! `check`: the findings of a plan, in lines or as JSON; with places in groups, each call with its line in the file
 //! (how one finding is written as JSON stands in `calls_json.rt`).
 
+ghost use Rattle.std.specs.Thread.{IsSync};
 ghost use Rattle.std.specs.Prelude.{◌≡◌, ◌≢◌, ◌⊎◌, Ok, Err, true, map, OnOk, IfOk, IfErr};
 ghost use Rattle.wire_types.specs.declared.Fault.TheVariants.{Memory, Read};
 ghost use Rattle.wire_types.specs.Counting.{one_more};
@@ -8,20 +9,20 @@ ghost use Rattle.wire_types.specs.Forms.{is_json};
 ghost use Rattle.wire_types.specs.Texts.{lists_of};
 ghost use Rattle.wire_findings.specs.Findings.{AreFindings};
 ghost use Rattle.wire_report.specs.Findings.{findings_form};
-ghost use Rattle.wire_commands.specs.declared.ended.Ended.TheVariants.{Clean};
-ghost use Rattle.wire_commands.specs.Answer.{BreaksOff, Writes, rows_in};
+ghost use Rattle.wire_command.specs.declared.ended.Ended.TheVariants.{Clean};
+ghost use Rattle.wire_command.specs.Answer.{BreaksOff, Writes, rows_in};
+ghost use Rattle.wire_command.specs.Command.{BreaksOffText, TellsSomehow, WritesText};
 ghost use Rattle.wire_commands.specs.CallsJson as spec;
-ghost use Rattle.wire_commands.specs.Check.{BreaksOffFindings, BreaksOffVerdict, EndsInOneState, IsGroupedText};
-ghost use Rattle.wire_commands.specs.Check.{IsVerdict, StopsBeforeFindings, TellsFindings, WritesFindings, WritesVerdict};
+ghost use Rattle.wire_commands.specs.Check.{EndsInOneState, IsGroupedText};
+ghost use Rattle.wire_commands.specs.Check.{IsVerdict, StopsBeforeFindings, TellsFindings};
 
-use crate::answer::Answer;
 use crate::calls_json::begin_finding;
-use crate::ended::Ended;
 use crate::json_builder::JsonBuilder;
-use crate::manner::{AnswerStyle, CommandOptions};
-use crate::shared_reading::read_in;
 use std::alloc::{AllocError, Global};
 use std::thread::Threads;
+use wire_command::{
+    Answer, AnswerStyle, CommandOptions, CommandRun, Ended, Shared, StreamedCommand, run_streamed,
+};
 use wire_findings::{Finding, FindingList};
 use wire_happens_before::HappensBefore;
 use wire_plan::Plan;
@@ -71,13 +72,36 @@ pub fn check_plan<R: Source, W: Sink>(
     ensures read_failed { result ≡ Err Read → R.failures reader.new ≡ one_more (R.failures reader.old) }
     ensures unfailed { IfErr result (λ e. e ≢ Memory → e ≢ Read → R.failures reader.new ≡ R.failures reader.old) }
 {
-    let (scripts, rows) = read_in(rt, alloc, manner.size, manner.form, reader)?;
-    let places = SourceLines {
-        name: manner.name,
-        rows: rows.as_slice(),
+    let run = CommandRun {
+        command: &OnItsNodes { rt },
+        lines: &Shared { rt },
+        options: manner,
     };
-    let form = manner.form;
-    check_scripts(rt, alloc, scripts, AnswerStyle { places, form }, writer)
+    run_streamed(alloc, run, reader, writer)
+}
+
+/// The check of a plan on its own placement. Its findings may be many, so they are written one after the other.
+#[derive(Drop)]
+struct OnItsNodes<'r, R> {
+    rt: &'r R,
+}
+
+impl<R: Threads + Sync> StreamedCommand for OnItsNodes<'_, R> {
+    ghost needs = { λ _. IsSync R.row };
+
+    ghost tells = { λ _ form name. IsVerdict form name };
+
+    ghost refuses = { λ _ _ _. ⊥ };
+
+    fn write<W: Sink>(
+        &self,
+        alloc: Global,
+        scripts: Scripts,
+        telling: AnswerStyle<'_>,
+        writer: &mut W,
+    ) -> Result<Ended, Fault> {
+        check_scripts(self.rt, alloc, scripts, telling, writer)
+    }
 }
 
 /// Writes all findings of scripts, and says how their check ends.
@@ -88,11 +112,11 @@ fn check_scripts<W: Sink>(
     telling: AnswerStyle<'_>,
     writer: &mut W,
 ) -> Result<Ended, Fault>
-    ensures ok { IfOk result (λ ended. WritesVerdict telling.entry.form telling.entry.places.name.now scripts (rows_in telling.entry.places) ended
-        (W.written writer.old) (W.written writer.new)) }
+    ensures ok { IfOk result (λ ended. WritesText (λ text. IsVerdict telling.entry.form telling.entry.places.name.now scripts
+        (rows_in telling.entry.places) text ended) (W.written writer.old) (W.written writer.new)) }
     ensures quiet { OnOk result (W.failures writer.new ≡ W.failures writer.old) }
     ensures err { IfErr result (λ e. ((e ≡ Memory) × (writer.new ≡ writer.old))
-        ⊎ (BreaksOffVerdict telling.entry.form telling.entry.places.name.now scripts (rows_in telling.entry.places)
+        ⊎ (BreaksOffText (TellsSomehow (IsVerdict telling.entry.form telling.entry.places.name.now scripts (rows_in telling.entry.places)))
         (W.written writer.old) (W.written writer.new) e × (W.failures writer.new ≡ one_more (W.failures writer.old)))) }
 {
     let plan = Plan::build(alloc, scripts)?;
@@ -109,11 +133,11 @@ fn check_built<W: Sink>(
     telling: AnswerStyle<'_>,
     writer: &mut W,
 ) -> Result<Ended, Fault>
-    ensures ok { IfOk result (λ ended. WritesVerdict telling.entry.form telling.entry.places.name.now plan.now (rows_in telling.entry.places) ended
-        (W.written writer.old) (W.written writer.new)) }
+    ensures ok { IfOk result (λ ended. WritesText (λ text. IsVerdict telling.entry.form telling.entry.places.name.now plan.now
+        (rows_in telling.entry.places) text ended) (W.written writer.old) (W.written writer.new)) }
     ensures quiet { OnOk result (W.failures writer.new ≡ W.failures writer.old) }
     ensures err { IfErr result (λ e. ((e ≡ Memory) × (writer.new ≡ writer.old))
-        ⊎ (BreaksOffVerdict telling.entry.form telling.entry.places.name.now plan.now (rows_in telling.entry.places)
+        ⊎ (BreaksOffText (TellsSomehow (IsVerdict telling.entry.form telling.entry.places.name.now plan.now (rows_in telling.entry.places)))
         (W.written writer.old) (W.written writer.new) e × (W.failures writer.new ≡ one_more (W.failures writer.old)))) }
 {
     let found = find_all(rt, alloc, plan)?;
@@ -191,11 +215,11 @@ fn write_found<W: Sink>(
     telling: AnswerStyle<'_>,
     writer: &mut W,
 ) -> Result<(), Fault>
-    ensures ok { OnOk result (WritesFindings telling.entry.form telling.entry.places.name.now (rows_in telling.entry.places) scripts.now found.now
+    ensures ok { OnOk result (WritesText (TellsFindings telling.entry.form telling.entry.places.name.now (rows_in telling.entry.places) scripts.now found.now)
         (W.written writer.old) (W.written writer.new)) }
     ensures quiet { OnOk result (W.failures writer.new ≡ W.failures writer.old) }
     ensures err { IfErr result (λ e. ((e ≡ Memory) × (writer.new ≡ writer.old))
-        ⊎ (BreaksOffFindings telling.entry.form telling.entry.places.name.now (rows_in telling.entry.places) scripts.now found.now
+        ⊎ (BreaksOffText (TellsFindings telling.entry.form telling.entry.places.name.now (rows_in telling.entry.places) scripts.now found.now)
         (W.written writer.old) (W.written writer.new) e × (W.failures writer.new ≡ one_more (W.failures writer.old)))) }
 {
     if !telling.form.has_places() {

@@ -1,27 +1,26 @@
 //! `check --anywhere`: the findings of all placements of a plan's ranks, in lines or as JSON; with places in groups.
 
+ghost use Rattle.std.specs.Thread.{IsSync};
 ghost use Rattle.std.specs.Prelude.{◌≡◌, ◌≢◌, ◌⊎◌, Ok, Err, OnOk, IfOk, IfErr, length};
 ghost use Rattle.wire_types.specs.declared.Fault.TheVariants.{Memory, Read};
 ghost use Rattle.wire_types.specs.Counting.{one_more};
 ghost use Rattle.wire_anywhere.specs.Anywhere.{AreFoundAnywhere};
-ghost use Rattle.wire_commands.specs.declared.ended.Ended.TheVariants.{Clean};
-ghost use Rattle.wire_commands.specs.Answer.{BreaksOff, Writes, rows_in};
+ghost use Rattle.wire_command.specs.declared.ended.Ended.TheVariants.{Clean};
+ghost use Rattle.wire_command.specs.Answer.{BreaksOff, Writes, rows_in};
 ghost use Rattle.wire_commands.specs.Check.{StopsBeforeFindings};
 ghost use Rattle.wire_commands.specs.CheckAnywhere.{EndsInOneStateAnywhere, IsVerdictAnywhere};
-ghost use Rattle.wire_commands.specs.Ending.{ended_of};
+ghost use Rattle.wire_command.specs.Ending.{ended_of};
 
-use crate::answer::{Answer, write_answer};
-use crate::ended::Ended;
-use crate::manner::{AnswerStyle, CommandOptions};
-use crate::shared_reading::read_in;
 use std::alloc::Global;
 use std::thread::Threads;
 use wire_anywhere::laws::settled_exactly;
 use wire_anywhere::{PlacedList, find_anywhere};
 use wire_anywhere_report::on_placement_text;
+use wire_command::{
+    Answer, AnswerStyle, Command, CommandOptions, CommandRun, Ended, Shared, run_command,
+};
 use wire_happens_before::{HappensBefore, MarkedPlan};
 use wire_plan::Plan;
-use wire_report::SourceLines;
 use wire_scripts::Scripts;
 use wire_types::{Fault, Sink, Source};
 
@@ -55,14 +54,35 @@ pub fn check_placements<R: Source, W: Sink>(
     ensures read_failed { result ≡ Err Read → R.failures reader.new ≡ one_more (R.failures reader.old) }
     ensures unfailed { IfErr result (λ e. e ≢ Memory → e ≢ Read → R.failures reader.new ≡ R.failures reader.old) }
 {
-    let (scripts, rows) = read_in(rt, alloc, manner.size, manner.form, reader)?;
-    let places = SourceLines {
-        name: manner.name,
-        rows: rows.as_slice(),
+    let run = CommandRun {
+        command: &Anywhere { rt },
+        lines: &Shared { rt },
+        options: manner,
     };
-    let form = manner.form;
-    let answer = answer_scripts(rt, alloc, scripts, AnswerStyle { places, form })?;
-    write_answer(writer, &answer)
+    run_command(alloc, run, reader, writer)
+}
+
+/// The answer about all placements.
+#[derive(Drop)]
+struct Anywhere<'r, R> {
+    rt: &'r R,
+}
+
+impl<R: Threads + Sync> Command for Anywhere<'_, R> {
+    ghost needs = { λ _. IsSync R.row };
+
+    ghost tells = { λ _ form name. IsVerdictAnywhere form name };
+
+    ghost refuses = { λ _ _ _. ⊥ };
+
+    fn answer(
+        &self,
+        alloc: Global,
+        scripts: Scripts,
+        telling: AnswerStyle<'_>,
+    ) -> Result<Answer, Fault> {
+        answer_scripts(self.rt, alloc, scripts, telling)
+    }
 }
 
 /// The answer about the placements of scripts.

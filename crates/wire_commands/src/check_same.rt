@@ -1,30 +1,29 @@
 //! `check --anywhere --same`: the findings of all placements of a plan's ranks, and where there are none the calls that
 //! don't reply the same on all of them.
 
+ghost use Rattle.std.specs.Thread.{IsSync};
 ghost use Rattle.std.specs.Prelude.{◌≡◌, ◌≢◌, ◌⊎◌, Ok, Err, OnOk, IfOk, IfErr};
 ghost use Rattle.wire_types.specs.declared.Fault.TheVariants.{Memory, Read};
 ghost use Rattle.wire_types.specs.Counting.{one_more};
 ghost use Rattle.wire_scripts.specs.Planned.{plan_of};
 ghost use Rattle.wire_runs.specs.Placings.{IsSettledAnywhere};
-ghost use Rattle.wire_commands.specs.declared.ended.Ended.TheVariants.{Clean};
-ghost use Rattle.wire_commands.specs.Answer.{BreaksOff, Writes, rows_in};
+ghost use Rattle.wire_command.specs.declared.ended.Ended.TheVariants.{Clean};
+ghost use Rattle.wire_command.specs.Answer.{BreaksOff, Writes, rows_in};
 ghost use Rattle.wire_commands.specs.Check.{StopsBeforeFindings};
 ghost use Rattle.wire_commands.specs.CheckSame.{IsSameEverywhere, IsSameVerdict, TellsDiffering};
 
-use crate::answer::{Answer, write_answer};
 use crate::check_anywhere::answer_found;
-use crate::ended::Ended;
-use crate::manner::{AnswerStyle, CommandOptions};
-use crate::shared_reading::read_in;
 use std::alloc::Global;
 use std::thread::Threads;
 use wire_anywhere::find_anywhere;
 use wire_anywhere::laws::settled_exactly;
 use wire_anywhere_report::same_text;
+use wire_command::{
+    Answer, AnswerStyle, Command, CommandOptions, CommandRun, Ended, Shared, run_command,
+};
 use wire_differing::find_differing;
 use wire_happens_before::{HappensBefore, MarkedPlan};
 use wire_plan::Plan;
-use wire_report::SourceLines;
 use wire_runs::placing_laws::settled_anywhere;
 use wire_scripts::Scripts;
 use wire_types::{Fault, Sink, Source};
@@ -59,14 +58,35 @@ pub fn check_replies<R: Source, W: Sink>(
     ensures read_failed { result ≡ Err Read → R.failures reader.new ≡ one_more (R.failures reader.old) }
     ensures unfailed { IfErr result (λ e. e ≢ Memory → e ≢ Read → R.failures reader.new ≡ R.failures reader.old) }
 {
-    let (scripts, rows) = read_in(rt, alloc, manner.size, manner.form, reader)?;
-    let places = SourceLines {
-        name: manner.name,
-        rows: rows.as_slice(),
+    let run = CommandRun {
+        command: &SameEverywhere { rt },
+        lines: &Shared { rt },
+        options: manner,
     };
-    let form = manner.form;
-    let answer = answer_scripts(rt, alloc, scripts, AnswerStyle { places, form })?;
-    write_answer(writer, &answer)
+    run_command(alloc, run, reader, writer)
+}
+
+/// The answer about all placements, and about the replies on them.
+#[derive(Drop)]
+struct SameEverywhere<'r, R> {
+    rt: &'r R,
+}
+
+impl<R: Threads + Sync> Command for SameEverywhere<'_, R> {
+    ghost needs = { λ _. IsSync R.row };
+
+    ghost tells = { λ _ form name. IsSameVerdict form name };
+
+    ghost refuses = { λ _ _ _. ⊥ };
+
+    fn answer(
+        &self,
+        alloc: Global,
+        scripts: Scripts,
+        telling: AnswerStyle<'_>,
+    ) -> Result<Answer, Fault> {
+        answer_scripts(self.rt, alloc, scripts, telling)
+    }
 }
 
 /// The answer about the placements of scripts.

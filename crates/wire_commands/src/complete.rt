@@ -3,6 +3,7 @@
 ghost use Rattle.std.specs.Prelude.{◌≡◌, ◌<◌, ◌^◌, ℕ, true, false, length, slice_get, IfOk, IfSome, IfNone};
 ghost use Rattle.wire_types.specs.Outcome.{ends_of};
 ghost use Rattle.wire_scripts.specs.Scripts.{calls_in};
+ghost use Rattle.wire_command.specs.Success as success;
 ghost use Rattle.wire_commands.specs.Complete as spec;
 ghost use Rattle.wire_commands.specs.Complete.{EverySucceeds, IsFirstFailure, TellsFailure, line_in};
 
@@ -13,7 +14,7 @@ use wire_words::{push_call, push_end, verb_at};
 
 /// Whether a call was answered `PMIX_SUCCESS`.
 fn succeeds(end: CallEnd) -> bool
-    ensures { result ≡ spec.succeeds end }
+    ensures { result ≡ success.succeeds end }
 {
     match end {
         CallEnd::Replied(reply) => reply.status == Status::Success,
@@ -36,9 +37,9 @@ fn end_at(outcome: &Outcome, proc: Proc, call: usize) -> CallEnd
 
 /// The first of so many calls of a process that doesn't succeed.
 fn find_failing_call(outcome: &Outcome, proc: Proc, calls: usize) -> Option<usize>
-    ensures some { IfSome result (λ n. (n < calls) × (spec.succeeds (spec.end_of (ends_of outcome.now) proc.number n) ≡ false)
-        × ((m : ℕ) → m < n → spec.succeeds (spec.end_of (ends_of outcome.now) proc.number m) ≡ true)) }
-    ensures none { IfNone result ((m : ℕ) → m < calls → spec.succeeds (spec.end_of (ends_of outcome.now) proc.number m) ≡ true) }
+    ensures some { IfSome result (λ n. (n < calls) × (success.succeeds (spec.end_of (ends_of outcome.now) proc.number n) ≡ false)
+        × ((m : ℕ) → m < n → success.succeeds (spec.end_of (ends_of outcome.now) proc.number m) ≡ true)) }
+    ensures none { IfNone result ((m : ℕ) → m < calls → success.succeeds (spec.end_of (ends_of outcome.now) proc.number m) ≡ true) }
 {
     for call in 0..calls {
         if !succeeds(end_at(outcome, proc, call)) {

@@ -12,13 +12,12 @@ ghost use Rattle.wire_runs.specs.Step.{run, IsInterleaving};
 ghost use Rattle.wire_runs.specs.Ends.{outcome};
 ghost use Rattle.wire_core.specs.Following.{Follows, NotEnabledAt};
 ghost use Rattle.wire_core.specs.Course.{plan_in, state_of};
-ghost use Rattle.wire_commands.specs.Plain.{ReadAs};
+ghost use Rattle.wire_command.specs.Read.{ReadAs};
 ghost use Rattle.wire_commands.specs.Follow.{WritesFollowed, BreaksOffFollowed, StopsBefore, OrdersAs, RefusesSteps};
 ghost use Rattle.wire_commands.specs.Follow.{StopsAfter, report_after};
 
-use crate::manner::CommandOptions;
-use crate::reading::{read_scripts, read_up_to};
 use std::alloc::Global;
+use wire_command::{Alone, CommandOptions, read_scripts, read_up_to};
 use wire_core::Core;
 use wire_plan::Plan;
 use wire_reader::{Size, read_order_sized};
@@ -59,7 +58,7 @@ pub fn follow_plan<R: Source, O: Source, W: Sink>(
     ensures unfailed { IfErr result (λ e. e ≢ Memory → e ≢ Read → (R.failures reader.new ≡ R.failures reader.old)
         × (O.failures order_reader.new ≡ O.failures order_reader.old)) }
 {
-    let scripts = read_scripts(alloc, manner.size, reader)?;
+    let scripts = read_scripts(&Alone, alloc, manner.size, reader)?;
     let order = match read_steps(alloc, manner.size, &scripts, order_reader) {
         Ok(order) => order,
         Err(fault) => {

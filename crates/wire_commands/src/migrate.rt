@@ -4,14 +4,15 @@ ghost use Rattle.std.specs.Prelude.{◌≡◌, ◌≢◌, ◌⊎◌, Err, OnOk, 
 ghost use Rattle.wire_types.specs.declared.Fault.TheVariants.{Memory, Read};
 ghost use Rattle.wire_types.specs.Counting.{one_more};
 ghost use Rattle.wire_commands.specs.Migrate as spec;
-ghost use Rattle.wire_commands.specs.Migrate.{WritesMigrated, BreaksOffMigrated, StopsBeforeMigrated};
+ghost use Rattle.wire_commands.specs.Migrate.{BreaksOffMigrated, StopsBeforeMigrated, TellsMigrated, WritesMigrated};
 
-use crate::reading::read_scripts;
 use std::alloc::Global;
+use wire_command::{
+    Alone, Answer, AnswerStyle, Command, CommandOptions, CommandRun, Ended, run_command,
+};
 use wire_reader::Size;
-use wire_report::write_text;
 use wire_scripts::Scripts;
-use wire_types::{Fault, Sink, Source};
+use wire_types::{Fault, OutputFormat, Sink, Source};
 
 /// The canonical text of scripts under version 2.
 fn migrated_text(alloc: Global, scripts: Scripts) -> Result<Vec<u8>, Fault>
@@ -33,6 +34,7 @@ fn migrated_text(alloc: Global, scripts: Scripts) -> Result<Vec<u8>, Fault>
 /// The fault of a file is the first that it has. After the fault `Write` the front of the text that it
 /// counts is written, after any other fault nothing. `Memory` may come in place of any other answer. What is
 /// said of bytes is said where the reader and the writer tell theirs.
+#[tactic(auto, using(crate::proofs::Written::writes_migrated))]
 pub fn migrate_plan<R: Source, W: Sink>(
     alloc: Global,
     size: Size,
@@ -51,7 +53,38 @@ pub fn migrate_plan<R: Source, W: Sink>(
     ensures read_failed { result ≡ Err Read → R.failures reader.new ≡ one_more (R.failures reader.old) }
     ensures unfailed { IfErr result (λ e. e ≢ Memory → e ≢ Read → R.failures reader.new ≡ R.failures reader.old) }
 {
-    let scripts = read_scripts(alloc, size, reader)?;
-    let text = migrated_text(alloc, scripts)?;
-    write_text(writer, text.as_slice())
+    let form = OutputFormat::Lines;
+    let name = b"".as_slice();
+    let run = CommandRun {
+        command: &UnderVersion2,
+        lines: &Alone,
+        options: CommandOptions { name, size, form },
+    };
+    match run_command(alloc, run, reader, writer) {
+        Ok(_) => Ok(()),
+        Err(fault) => Err(fault),
+    }
+}
+
+/// The text of a plan under version 2.
+#[derive(Drop)]
+struct UnderVersion2;
+
+impl Command for UnderVersion2 {
+    ghost needs = { λ _. Unit {0} };
+
+    ghost tells = { λ _ _ _. TellsMigrated };
+
+    ghost refuses = { λ _ _ _. ⊥ };
+
+    fn answer(
+        &self,
+        alloc: Global,
+        scripts: Scripts,
+        _telling: AnswerStyle<'_>,
+    ) -> Result<Answer, Fault> {
+        let text = migrated_text(alloc, scripts)?;
+        let ended = Ended::Clean;
+        Ok(Answer { text, ended })
+    }
 }

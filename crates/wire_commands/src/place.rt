@@ -7,14 +7,15 @@ ghost use Rattle.wire_scripts.specs.Canonical.{canonical};
 ghost use Rattle.wire_scripts.specs.Placed.{placed};
 ghost use Rattle.wire_scripts.specs.Scripts.{numbers_of};
 ghost use Rattle.wire_reader.specs.Ranks.{ranks_read};
-ghost use Rattle.wire_commands.specs.Place.{BreaksOffPlaced, IsPlacedText, StopsBeforePlaced, WritesPlaced};
+ghost use Rattle.wire_commands.specs.Place.{BreaksOffPlaced, IsPlacedText, RefusesRanks, StopsBeforePlaced, TellsMoved, WritesPlaced};
 
-use crate::reading::read_scripts;
 use std::alloc::Global;
+use wire_command::{
+    Alone, Answer, AnswerStyle, Command, CommandOptions, CommandRun, Ended, run_command,
+};
 use wire_reader::{Size, read_ranks};
-use wire_report::write_text;
 use wire_scripts::Scripts;
-use wire_types::{Fault, Proc, Sink, Source};
+use wire_types::{Fault, OutputFormat, Proc, Sink, Source};
 
 /// The canonical text of scripts with these ranks on the second node, and all others on the first.
 fn text_with(alloc: Global, scripts: Scripts, ranks: &[Proc]) -> Result<Vec<u8>, Fault>
@@ -69,7 +70,40 @@ pub fn place_plan<R: Source, W: Sink>(
     ensures read_failed { result ≡ Err Read → R.failures reader.new ≡ one_more (R.failures reader.old) }
     ensures unfailed { IfErr result (λ e. e ≢ Memory → e ≢ Read → R.failures reader.new ≡ R.failures reader.old) }
 {
-    let scripts = read_scripts(alloc, size, reader)?;
-    let text = moved_text(alloc, scripts, word)?;
-    write_text(writer, text.as_slice())
+    let form = OutputFormat::Lines;
+    let name = b"".as_slice();
+    let run = CommandRun {
+        command: &Moving { word },
+        lines: &Alone,
+        options: CommandOptions { name, size, form },
+    };
+    match run_command(alloc, run, reader, writer) {
+        Ok(_) => Ok(()),
+        Err(fault) => Err(fault),
+    }
+}
+
+/// The text of a plan with the ranks on the second node that the word lists.
+#[derive(Drop)]
+struct Moving<'w> {
+    word: &'w str,
+}
+
+impl Command for Moving<'_> {
+    ghost needs = { λ _. Unit {0} };
+
+    ghost tells = { λ moving _ _. TellsMoved moving.word.now };
+
+    ghost refuses = { λ moving. RefusesRanks moving.word.now };
+
+    fn answer(
+        &self,
+        alloc: Global,
+        scripts: Scripts,
+        _telling: AnswerStyle<'_>,
+    ) -> Result<Answer, Fault> {
+        let text = moved_text(alloc, scripts, self.word)?;
+        let ended = Ended::Clean;
+        Ok(Answer { text, ended })
+    }
 }

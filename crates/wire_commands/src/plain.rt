@@ -3,16 +3,19 @@
 ghost use Rattle.std.specs.Prelude.{◌≡◌, ◌≢◌, ◌⊎◌, ℕ, Err, OnOk, OnErr, IfOk, IfErr};
 ghost use Rattle.wire_types.specs.declared.Fault.TheVariants.{Memory, Read, Write};
 ghost use Rattle.wire_types.specs.Counting.{one_more};
-ghost use Rattle.wire_commands.specs.Plain.{plain_report, WritesReport, Refuses, BreaksOffReport};
+ghost use Rattle.wire_command.specs.Read.{Refuses};
+ghost use Rattle.wire_commands.specs.Plain.{BreaksOffReport, TellsPlain, WritesReport, plain_report};
 
-use crate::reading::read_scripts;
 use std::alloc::Global;
+use wire_command::{
+    Alone, Answer, AnswerStyle, Command, CommandOptions, CommandRun, Ended, run_command,
+};
 use wire_core::plain_outcome;
 use wire_plan::Plan;
 use wire_reader::Size;
-use wire_report::{report_text, write_text};
+use wire_report::report_text;
 use wire_scripts::Scripts;
-use wire_types::{Fault, Sink, Source};
+use wire_types::{Fault, OutputFormat, Sink, Source};
 
 /// The report of the plain run of a plan.
 fn report_of(alloc: Global, plan: &Plan) -> Result<Vec<u8>, Fault>
@@ -57,7 +60,39 @@ pub fn run_plainly<R: Source, W: Sink>(
     ensures write_failed { (n : ℕ) → result ≡ Err (Write n) → W.failures writer.new ≡ one_more (W.failures writer.old) }
     ensures untouched { OnErr result (((n : ℕ) → result ≢ Err (Write n)) → writer.new ≡ writer.old) }
 {
-    let scripts = read_scripts(alloc, Size::OfVersion, reader)?;
-    let text = plain_text(alloc, scripts)?;
-    write_text(writer, text.as_slice())
+    let size = Size::OfVersion;
+    let form = OutputFormat::Lines;
+    let name = b"".as_slice();
+    let run = CommandRun {
+        command: &PlainReport,
+        lines: &Alone,
+        options: CommandOptions { name, size, form },
+    };
+    match run_command(alloc, run, reader, writer) {
+        Ok(_) => Ok(()),
+        Err(fault) => Err(fault),
+    }
+}
+
+/// The report of the plain run.
+#[derive(Drop)]
+struct PlainReport;
+
+impl Command for PlainReport {
+    ghost needs = { λ _. Unit {0} };
+
+    ghost tells = { λ _ _ _. TellsPlain };
+
+    ghost refuses = { λ _ _ _. ⊥ };
+
+    fn answer(
+        &self,
+        alloc: Global,
+        scripts: Scripts,
+        _telling: AnswerStyle<'_>,
+    ) -> Result<Answer, Fault> {
+        let text = plain_text(alloc, scripts)?;
+        let ended = Ended::Clean;
+        Ok(Answer { text, ended })
+    }
 }

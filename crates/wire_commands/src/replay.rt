@@ -9,18 +9,17 @@ ghost use Rattle.wire_scripts.specs.Planned.{plan_of};
 ghost use Rattle.wire_happens_before.specs.Clocks.{AreMarks};
 ghost use Rattle.wire_findings.specs.Findings.{AreFindings};
 ghost use Rattle.wire_parallel_run.specs.Collect.{MayWork};
-ghost use Rattle.wire_commands.specs.declared.ended.Ended.TheVariants.{Clean};
+ghost use Rattle.wire_command.specs.declared.ended.Ended.TheVariants.{Clean};
+ghost use Rattle.wire_command.specs.Command.{BreaksOffText, TellsSomehow, WritesText};
 ghost use Rattle.wire_commands.specs.Complete.{TellsCalls, JudgesCalls, line_in, complete_status};
-ghost use Rattle.wire_commands.specs.Replay.{BreaksOffFound, BreaksOffReplayOf, IsReplay, JudgesPlan, TellsEnd, TellsRun};
-ghost use Rattle.wire_commands.specs.Replay.{WritesFound, WritesReplayOf};
+ghost use Rattle.wire_commands.specs.Replay.{IsReplay, JudgesPlan, TellsEnd, TellsFound, TellsRun};
 ghost use Rattle.wire_commands.specs.Replay.{WritesOneEnd, WritesReplay, BreaksOffReplay, StopsBeforeReplay};
 
 use crate::complete::tell_failure;
-use crate::ended::Ended;
-use crate::shared_reading::read_scripts;
 use std::alloc::Global;
 use std::sync::Wait;
 use std::thread::Threads;
+use wire_command::{Ended, Shared, read_scripts};
 use wire_findings::FindingList;
 use wire_happens_before::HappensBefore;
 use wire_parallel_run::{MOST_WORKERS, run_any, run_workers};
@@ -124,7 +123,7 @@ pub fn replay_plan<R: Source, W: Sink, T: Threads + Wait + Sync, G: Gate + Sync>
     if manner.workers < 1 || MOST_WORKERS < manner.workers {
         return Err(Fault::Workers);
     }
-    let scripts = read_scripts(rt, alloc, manner.size, reader)?;
+    let scripts = read_scripts(&Shared { rt }, alloc, manner.size, reader)?;
     replay_scripts(rt, alloc, scripts, manner, writer)
 }
 
@@ -223,7 +222,7 @@ fn run_settled<R: Threads + Wait + Sync, G: Gate + Sync>(
 ) -> Result<(Replayed, Vec<u8>), Fault>
     requires workers { MayWork manner.workers }
     requires none { AreFindings settled.now [] }
-    ensures ok { IfOk result (λ r. IsReplay manner.entry.mode settled.now r.0.ended r.1.items) }
+    ensures ok { IfOk result (λ r. IsReplay manner.entry.mode settled.now r.1.items r.0.ended) }
     ensures calls { IfOk result (λ r. TellsCalls settled.now r.0.ended (line_in r.0.failure)) }
     ensures err { IfErr result (λ e. e ≡ Memory) }
 {
@@ -245,11 +244,11 @@ fn replay_settled<R: Threads + Wait + Sync, G: Gate + Sync, W: Sink>(
 ) -> Result<Replayed, Fault>
     requires workers { MayWork manner.workers }
     requires none { AreFindings settled.now [] }
-    ensures ok { IfOk result (λ r. WritesReplayOf manner.entry.mode settled.now r.ended (W.written writer.old) (W.written writer.new)) }
+    ensures ok { IfOk result (λ r. WritesText (λ text. IsReplay manner.entry.mode settled.now text r.ended) (W.written writer.old) (W.written writer.new)) }
     ensures calls { IfOk result (λ r. TellsCalls settled.now r.ended (line_in r.failure)) }
     ensures quiet { OnOk result (W.failures writer.new ≡ W.failures writer.old) }
     ensures err { IfErr result (λ e. ((e ≡ Memory) × (writer.new ≡ writer.old))
-        ⊎ (BreaksOffReplayOf manner.entry.mode settled.now (W.written writer.old) (W.written writer.new) e
+        ⊎ (BreaksOffText (TellsSomehow (IsReplay manner.entry.mode settled.now)) (W.written writer.old) (W.written writer.new) e
         × (W.failures writer.new ≡ one_more (W.failures writer.old)))) }
 {
     let (replayed, text) = run_settled(rt, alloc, settled, manner)?;
@@ -287,10 +286,12 @@ fn write_found<R: Threads + Wait + Sync, G: Gate + Sync, W: Sink>(
     writer: &mut W,
 ) -> Result<(), Fault>
     requires { MayWork manner.workers }
-    ensures ok { OnOk result (WritesFound manner.entry.mode found.now.plan found.now.findings (W.written writer.old) (W.written writer.new)) }
+    ensures ok { OnOk result (WritesText (TellsFound manner.entry.mode.json manner.entry.mode.anyway found.now.plan found.now.findings)
+        (W.written writer.old) (W.written writer.new)) }
     ensures quiet { OnOk result (W.failures writer.new ≡ W.failures writer.old) }
     ensures err { IfErr result (λ e. ((e ≡ Memory) × (writer.new ≡ writer.old))
-        ⊎ (BreaksOffFound manner.entry.mode found.now.plan found.now.findings (W.written writer.old) (W.written writer.new) e
+        ⊎ (BreaksOffText (TellsFound manner.entry.mode.json manner.entry.mode.anyway found.now.plan found.now.findings)
+        (W.written writer.old) (W.written writer.new) e
         × (W.failures writer.new ≡ one_more (W.failures writer.old)))) }
 {
     if manner.mode.anyway {
@@ -312,11 +313,12 @@ fn replay_found<R: Threads + Wait + Sync, G: Gate + Sync, W: Sink>(
     requires workers { MayWork manner.workers }
     requires those { AreFindings found.now.plan found.now.findings }
     requires some { found.now.findings ≢ [] }
-    ensures ok { IfOk result (λ r. WritesReplayOf manner.entry.mode found.now.plan r.ended (W.written writer.old) (W.written writer.new)) }
+    ensures ok { IfOk result (λ r. WritesText (λ text. IsReplay manner.entry.mode found.now.plan text r.ended)
+        (W.written writer.old) (W.written writer.new)) }
     ensures calls { IfOk result (λ r. TellsCalls found.now.plan r.ended (line_in r.failure)) }
     ensures quiet { OnOk result (W.failures writer.new ≡ W.failures writer.old) }
     ensures err { IfErr result (λ e. ((e ≡ Memory) × (writer.new ≡ writer.old))
-        ⊎ (BreaksOffReplayOf manner.entry.mode found.now.plan (W.written writer.old) (W.written writer.new) e
+        ⊎ (BreaksOffText (TellsSomehow (IsReplay manner.entry.mode found.now.plan)) (W.written writer.old) (W.written writer.new) e
         × (W.failures writer.new ≡ one_more (W.failures writer.old)))) }
 {
     settled_exactly();
@@ -337,11 +339,11 @@ fn replay_scripts<R: Threads + Wait + Sync, G: Gate + Sync, W: Sink>(
     writer: &mut W,
 ) -> Result<Replayed, Fault>
     requires workers { MayWork manner.workers }
-    ensures ok { IfOk result (λ r. WritesReplayOf manner.entry.mode scripts r.ended (W.written writer.old) (W.written writer.new)) }
+    ensures ok { IfOk result (λ r. WritesText (λ text. IsReplay manner.entry.mode scripts text r.ended) (W.written writer.old) (W.written writer.new)) }
     ensures calls { IfOk result (λ r. TellsCalls scripts r.ended (line_in r.failure)) }
     ensures quiet { OnOk result (W.failures writer.new ≡ W.failures writer.old) }
     ensures err { IfErr result (λ e. ((e ≡ Memory) × (writer.new ≡ writer.old))
-        ⊎ (BreaksOffReplayOf manner.entry.mode scripts (W.written writer.old) (W.written writer.new) e
+        ⊎ (BreaksOffText (TellsSomehow (IsReplay manner.entry.mode scripts)) (W.written writer.old) (W.written writer.new) e
         × (W.failures writer.new ≡ one_more (W.failures writer.old)))) }
 {
     match judge_scripts(rt, alloc, scripts)? {

@@ -13,18 +13,17 @@ ghost use Rattle.wire_runs.specs.Ends.{calls_of};
 ghost use Rattle.wire_runs.specs.Plan.{event_count, event_of};
 ghost use Rattle.wire_report.specs.Chain.{AreDead};
 ghost use Rattle.wire_report.specs.There.{AreThere};
-ghost use Rattle.wire_commands.specs.Answer.{BreaksOff, Writes, rows_in};
+ghost use Rattle.wire_command.specs.Answer.{BreaksOff, Writes, rows_in};
 ghost use Rattle.wire_commands.specs.CallsJson as spec;
 ghost use Rattle.wire_commands.specs.Chains as chains;
 ghost use Rattle.wire_commands.specs.Why.{ExplainsOrder, QuestionNames, StopsBeforeAnswer, TellsOrder};
 
-use crate::answer::{Answer, write_answer};
 use crate::calls_json::{place_json, step_json};
-use crate::ended::Ended;
 use crate::json_builder::JsonBuilder;
-use crate::manner::{AnswerStyle, CommandOptions};
-use crate::reading::read_in;
 use std::alloc::{AllocError, Global};
+use wire_command::{
+    Alone, Answer, AnswerStyle, Command, CommandOptions, CommandRun, Ended, run_command,
+};
 use wire_happens_before::{HappensBefore, MarkedPlan};
 use wire_json::{ChainStep, which_word};
 use wire_plan::Plan;
@@ -67,14 +66,36 @@ pub fn explain_order<R: Source, W: Sink>(
     ensures read_failed { result ≡ Err Read → R.failures reader.new ≡ one_more (R.failures reader.old) }
     ensures unfailed { IfErr result (λ e. e ≢ Memory → e ≢ Read → R.failures reader.new ≡ R.failures reader.old) }
 {
-    let (scripts, rows) = read_in(alloc, manner.size, manner.form, reader)?;
-    let places = SourceLines {
-        name: manner.name,
-        rows: rows.as_slice(),
+    let run = CommandRun {
+        command: &OrderAsked { words },
+        lines: &Alone,
+        options: manner,
     };
-    let form = manner.form;
-    let answer = answer_scripts(alloc, scripts, AnswerStyle { places, form }, words)?;
-    write_answer(writer, &answer)
+    run_command(alloc, run, reader, writer)
+}
+
+/// The question in which order two calls come.
+#[derive(Drop)]
+struct OrderAsked<'w> {
+    words: [&'w str; 4],
+}
+
+impl Command for OrderAsked<'_> {
+    ghost needs = { λ _. Unit {0} };
+
+    ghost tells = { λ asked form name. ExplainsOrder form name (texts_of asked.words) };
+
+    ghost refuses = { λ asked scripts fault. QuestionNames scripts (texts_of asked.words) (Err fault) };
+
+    #[tactic(auto, using(crate::proofs::Questioned::words_no_read))]
+    fn answer(
+        &self,
+        alloc: Global,
+        scripts: Scripts,
+        telling: AnswerStyle<'_>,
+    ) -> Result<Answer, Fault> {
+        answer_scripts(alloc, scripts, telling, self.words)
+    }
 }
 
 /// The answer to a question about scripts.

@@ -7,21 +7,20 @@ ghost use Rattle.wire_types.specs.Counting.{one_more};
 ghost use Rattle.wire_types.specs.Forms.{is_json};
 ghost use Rattle.wire_types.specs.Texts.{lists_of, texts_of};
 ghost use Rattle.wire_scripts.specs.Scripts.{numbers_of};
-ghost use Rattle.wire_commands.specs.Answer.{BreaksOff, Writes, rows_in};
+ghost use Rattle.wire_command.specs.Answer.{BreaksOff, Writes, rows_in};
 ghost use Rattle.wire_commands.specs.CallsJson as json;
 ghost use Rattle.wire_commands.specs.Why.{QuestionNames, StopsBeforeAnswer};
 ghost use Rattle.wire_commands.specs.Witness as spec;
 ghost use Rattle.wire_commands.specs.Witness.{ShowsPair};
 
-use crate::answer::{Answer, write_answer};
 use crate::calls_json::call_json;
-use crate::ended::Ended;
 use crate::json_builder::JsonBuilder;
-use crate::manner::{AnswerStyle, CommandOptions};
-use crate::shared_reading::read_in;
 use crate::why::read_pair;
 use std::alloc::{AllocError, Global};
 use std::thread::Threads;
+use wire_command::{
+    Answer, AnswerStyle, Command, CommandOptions, CommandRun, Ended, Shared, run_command,
+};
 use wire_json::{RunTold, run_json, witness_json};
 use wire_plan::Plan;
 use wire_report::{
@@ -72,14 +71,30 @@ pub fn witness_pair<R: Source, W: Sink>(
     ensures read_failed { result ≡ Err Read → R.failures reader.new ≡ one_more (R.failures reader.old) }
     ensures unfailed { IfErr result (λ e. e ≢ Memory → e ≢ Read → R.failures reader.new ≡ R.failures reader.old) }
 {
-    let (scripts, rows) = read_in(rt, alloc, manner.size, manner.form, reader)?;
-    let places = SourceLines {
-        name: manner.name,
-        rows: rows.as_slice(),
+    let run = CommandRun {
+        command: &asked,
+        lines: &Shared { rt },
+        options: manner,
     };
-    let form = manner.form;
-    let answer = answer_scripts(alloc, scripts, AnswerStyle { places, form }, asked)?;
-    write_answer(writer, &answer)
+    run_command(alloc, run, reader, writer)
+}
+
+impl Command for PairAsked<'_> {
+    ghost needs = { λ _. Unit {0} };
+
+    ghost tells = { λ asked form name. ShowsPair form name (texts_of asked.words) asked.orders };
+
+    ghost refuses = { λ asked scripts fault. QuestionNames scripts (texts_of asked.words) (Err fault) };
+
+    #[tactic(auto, using(crate::proofs::Questioned::words_no_read))]
+    fn answer(
+        &self,
+        alloc: Global,
+        scripts: Scripts,
+        telling: AnswerStyle<'_>,
+    ) -> Result<Answer, Fault> {
+        answer_scripts(alloc, scripts, telling, *self)
+    }
 }
 
 /// The answer about two calls of scripts.

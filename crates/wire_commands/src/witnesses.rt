@@ -1,25 +1,25 @@
 //! `witness` without calls: the races of a plan, and which of them two runs show, in lines or as JSON; with places the
 //! calls of each race with their lines in the file.
 
+ghost use Rattle.std.specs.Thread.{IsSync};
 ghost use Rattle.std.specs.Prelude.{◌≡◌, ◌≢◌, ◌⊎◌, ◌++◌, true, Err, map, OnOk, IfOk, IfErr};
 ghost use Rattle.std.specs.List.{flat_map};
 ghost use Rattle.wire_types.specs.declared.Fault.TheVariants.{Memory, Read};
 ghost use Rattle.wire_types.specs.Counting.{one_more};
 ghost use Rattle.wire_types.specs.Texts.{lists_of};
-ghost use Rattle.wire_commands.specs.Answer.{BreaksOff, Writes, rows_in};
+ghost use Rattle.wire_command.specs.Answer.{BreaksOff, Writes, rows_in};
 ghost use Rattle.wire_commands.specs.CallsJson as json;
 ghost use Rattle.wire_commands.specs.Check.{StopsBeforeFindings};
 ghost use Rattle.wire_commands.specs.Witnesses as spec;
 ghost use Rattle.wire_commands.specs.Witnesses.{TriesRaces};
 
-use crate::answer::{Answer, write_answer};
 use crate::calls_json::{begin_finding, place_json};
-use crate::ended::Ended;
 use crate::json_builder::JsonBuilder;
-use crate::manner::{AnswerStyle, CommandOptions};
-use crate::shared_reading::read_in;
 use std::alloc::{AllocError, Global};
 use std::thread::Threads;
+use wire_command::{
+    Answer, AnswerStyle, Command, CommandOptions, CommandRun, Ended, Shared, run_command,
+};
 use wire_json::{counts_json, races_json};
 use wire_plan::Plan;
 use wire_report::{
@@ -61,15 +61,37 @@ pub fn witness_races<R: Source, W: Sink>(
     ensures read_failed { result ≡ Err Read → R.failures reader.new ≡ one_more (R.failures reader.old) }
     ensures unfailed { IfErr result (λ e. e ≢ Memory → e ≢ Read → R.failures reader.new ≡ R.failures reader.old) }
 {
-    let (scripts, rows) = read_in(rt, alloc, manner.size, manner.form, reader)?;
-    let places = SourceLines {
-        name: manner.name,
-        rows: rows.as_slice(),
+    let run = CommandRun {
+        command: &Races { rt, most },
+        lines: &Shared { rt },
+        options: manner,
     };
-    let form = manner.form;
-    let telling = AnswerStyle { places, form };
-    let answer = answer_scripts(rt, alloc, scripts, Tries { most, telling })?;
-    write_answer(writer, &answer)
+    run_command(alloc, run, reader, writer)
+}
+
+/// The answer about so many races at most.
+#[derive(Drop)]
+struct Races<'r, R> {
+    rt: &'r R,
+    most: usize,
+}
+
+impl<R: Threads + Sync> Command for Races<'_, R> {
+    ghost needs = { λ _. IsSync R.row };
+
+    ghost tells = { λ races form name. TriesRaces form name races.most };
+
+    ghost refuses = { λ _ _ _. ⊥ };
+
+    fn answer(
+        &self,
+        alloc: Global,
+        scripts: Scripts,
+        telling: AnswerStyle<'_>,
+    ) -> Result<Answer, Fault> {
+        let most = self.most;
+        answer_scripts(self.rt, alloc, scripts, Tries { most, telling })
+    }
 }
 
 /// How many races are tried at most, and how they are told.

@@ -12,10 +12,10 @@ use Rattle.wire_pattern.specs.Lawful.{IsSoundPattern}
 use Rattle.wire_cutoff.specs.Texts.{TextsSettled}
 use Rattle.wire_cutoff.specs.Judged.{HasFewTurns, HasManyTurns, IsJudgeFault, IsSweepFault, IsTextFault, IsWithinPatternLimits, largest_cast}
 use Rattle.wire_cutoff_laws.specs.Promised.{IsSettledForAll, HasOneEndForAll}
-use Rattle.wire_commands.specs.declared.answer.Answer.{Answer}
-use Rattle.wire_commands.specs.declared.ended.Ended.{Ended}
-use Rattle.wire_commands.specs.declared.ended.Ended.TheVariants.{Clean, Found}
-use Rattle.wire_commands.proofs.FileFaults as files
+use Rattle.wire_command.specs.declared.answer.Answer.{Answer}
+use Rattle.wire_command.specs.declared.ended.Ended.{Ended}
+use Rattle.wire_command.specs.declared.ended.Ended.TheVariants.{Clean, Found}
+use Rattle.wire_command.proofs.FileFaults as files
 use Rattle.wire_pattern_commands.specs.CheckPattern.{BreaksOffPatternVerdict, EndsInOneStateForAll, IsPatternVerdict, IsExplainedSaid, StopsBeforePattern}
 use Rattle.wire_pattern_commands.specs.CheckPattern.{IsJudgedPattern, WritesPatternVerdict}
 use Rattle.wire_pattern_commands.specs.declared.asked.PatternAsked.{PatternAsked}

@@ -6,7 +6,7 @@ use Rattle.wire_types.specs.declared.Fault.TheVariants.{Memory, Read}
 use Rattle.wire_types.specs.Front.{WritesFront}
 use Rattle.wire_pattern.specs.Pattern.{Pattern}
 use Rattle.wire_pattern.specs.Instances.{instance_lines, instance_text}
-use Rattle.wire_commands.proofs.FileFaults as files
+use Rattle.wire_command.proofs.FileFaults as files
 use Rattle.wire_pattern_commands.specs.Expand.{BreaksOffExpanded, IsExpanded, IsExpandFault, StopsBeforeExpanded, WritesExpanded}
 use Rattle.wire_pattern_commands.specs.Read.{HasNoPattern, ReadAsPattern}
 use Rattle.wire_pattern_commands.specs.declared.expand.Expansion.{Expansion}

@@ -20,7 +20,7 @@ use Rattle.wire_instances.specs.Views.{cast_by, choice_by}
 use Rattle.wire_instances.specs.Tables.{AreSizes}
 use Rattle.wire_instance_laws.specs.Reading.{InstancesRead}
 use Rattle.wire_reader.proofs.Limited.{whole_read}
-use Rattle.wire_commands.proofs.Came.{read_as, refuses}
+use Rattle.wire_command.proofs.Came.{read_as, refuses}
 use Rattle.wire_pattern_commands.specs.Expand.{IsCastAsked, IsExpanded, IsExpandFault, word_of}
 use Rattle.wire_pattern_commands.specs.Ranks.{AreSizesAsked}
 use Rattle.wire_pattern_commands.specs.Spread.{AreNodesAsked}

@@ -24,7 +24,7 @@ use Rattle.wire_pattern_answers.specs.declared.answers.LineAnswers.{LineAnswers}
 use Rattle.wire_pattern_answers.specs.Lines.{answers_text}
 use Rattle.wire_pattern_answers.specs.Answers.{AreAnswers}
 use Rattle.wire_pattern_commands.specs.declared.asked.PatternAsked.{PatternAsked}
-use Rattle.wire_commands.specs.Ending.{ended_of}
+use Rattle.wire_command.specs.Ending.{ended_of}
 use Rattle.wire_cutoff.specs.Judged.{IsCounterexample, IsSweepFault, IsWithinPatternLimits}
 use Rattle.wire_pattern_commands.specs.AtLeast.{least_text}
 use Rattle.wire_pattern_commands.specs.Beyond.{IsBeyond, is_never, beyond_text}
@@ -33,8 +33,8 @@ use Rattle.wire_pattern_commands.specs.Succeeding.{IsSuccessTold}
 use Rattle.wire_pattern_commands.specs.FirstWait.{ExplainsFirstWait}
 use Rattle.wire_pattern_commands.specs.PatternJson.{json_counterexample, json_settled}
 use Rattle.wire_pattern_commands.specs.Read.{ReadAsPattern, RefusesPattern}
-use Rattle.wire_commands.specs.declared.ended.Ended.{Ended}
-use Rattle.wire_commands.specs.declared.ended.Ended.TheVariants.{Clean, Found}
+use Rattle.wire_command.specs.declared.ended.Ended.{Ended}
+use Rattle.wire_command.specs.declared.ended.Ended.TheVariants.{Clean, Found}
 
 abbrev pub settled_line : List ℕ
 settled_line = codes "findings 0 for every number of ranks on every placement\n"

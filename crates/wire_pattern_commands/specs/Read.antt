@@ -4,7 +4,7 @@ use Rattle.wire_types.specs.declared.Fault.{Fault}
 use Rattle.wire_types.specs.declared.Fault.TheVariants.{Memory, Read}
 use Rattle.wire_pattern.specs.Pattern.{Pattern}
 use Rattle.wire_pattern_script.specs.Reads.{ReadsPattern}
-use Rattle.wire_commands.specs.Plain.{WereComing}
+use Rattle.wire_command.specs.Read.{WereComing}
 
 -- what was to come reads as the pattern
 pub record ReadAsPattern (coming : Option (List ℕ)) (p : Pattern) : Type 0 where

@@ -11,7 +11,7 @@ use Rattle.wire_pattern.specs.Pattern.{Pattern}
 use Rattle.wire_pattern.specs.Instances.{Cast, instance_text}
 use Rattle.wire_pattern_waits.specs.Waits.{alone}
 use Rattle.wire_cutoff.specs.Selections.{Selection, selections}
-use Rattle.wire_commands.specs.Complete.{succeeds}
+use Rattle.wire_command.specs.Success.{succeeds}
 
 -- every call of these scripts succeeds in their plain run
 abbrev pub all_succeed : Scripts → Bool

@@ -13,7 +13,7 @@ use crate::asked::PatternAsked;
 use crate::first_wait::{FirstWait, find_first_wait};
 use crate::strings::push_text;
 use std::alloc::{AllocError, Global};
-use wire_commands::Answer;
+use wire_command::Answer;
 use wire_json::push_quoted;
 use wire_pattern::{Pattern, Role};
 use wire_standstill::{list_standstill, tell_standstill};

@@ -7,7 +7,7 @@ ghost use Rattle.wire_pattern.specs.Lawful.{IsSoundPattern};
 ghost use Rattle.wire_pattern_commands.specs.Read.{HasNoPattern, ReadAsPattern};
 
 use std::alloc::Global;
-use wire_commands::read_up_to;
+use wire_command::read_up_to;
 use wire_pattern::Pattern;
 use wire_pattern_script::read_pattern;
 use wire_reader::Size;

@@ -13,7 +13,7 @@ ghost use Rattle.wire_cutoff.specs.Judged.{IsFewCast, IsJudgeFault};
 ghost use Rattle.wire_cutoff.specs.Selections.{selections, most_sizes};
 ghost use Rattle.wire_cutoff.specs.Views.{selection_by};
 ghost use Rattle.wire_cutoff_laws.specs.Sizes.{AreFewSizes, total_of};
-ghost use Rattle.wire_commands.specs.Complete.{succeeds};
+ghost use Rattle.wire_command.specs.Success.{succeeds};
 ghost use Rattle.wire_pattern_commands.specs.Succeeding as spec;
 ghost use Rattle.wire_pattern_commands.specs.Succeeding.{IsCastTold, IsSelectionTold, IsSuccessTold};
 

@@ -1,3 +1,4 @@
+pub mod Answered
 pub mod Told
 pub mod SpelledLines
 pub mod SpellingCame

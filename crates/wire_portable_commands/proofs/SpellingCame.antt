@@ -11,10 +11,10 @@ use Rattle.wire_reader.specs.Limits.{file_bytes}
 use Rattle.wire_reader.specs.Reads.{Reads}
 use Rattle.wire_portable.specs.declared.spelling.Spelt.{Spelt}
 use Rattle.wire_portable.specs.Spelling.{AreSetsNumbered, spelled_sets}
-use Rattle.wire_commands.specs.Answer.{AreRows, ReadIn}
-use Rattle.wire_commands.specs.Plain.{Refuses}
-use Rattle.wire_commands.proofs.Came.{refuses}
-use Rattle.wire_commands.proofs.Fits.{rows_fit}
+use Rattle.wire_command.specs.Answer.{AreRows, ReadIn}
+use Rattle.wire_command.specs.Read.{Refuses}
+use Rattle.wire_command.proofs.Came.{refuses}
+use Rattle.wire_command.proofs.Fits.{rows_fit}
 use Rattle.wire_portable_commands.specs.CheckPortable.{IsSpelled}
 use Rattle.wire_portable_commands.specs.Read.{AreLinesIn}
 

@@ -21,9 +21,9 @@ use Rattle.wire_portable.specs.declared.libraries.Library.TheVariants.{V4, V5, V
 use Rattle.wire_portable.specs.declared.listed.Unportable.{Unportable}
 use Rattle.wire_portable.specs.declared.spelling.Spelt.{Spelt}
 use Rattle.wire_reader.specs.declared.Size.{Size}
-use Rattle.wire_commands.specs.Answer.{ReadIn}
-use Rattle.wire_commands.specs.declared.ended.Ended.{Ended}
-use Rattle.wire_commands.specs.declared.ended.Ended.TheVariants.{Clean, Found}
+use Rattle.wire_command.specs.Answer.{ReadIn}
+use Rattle.wire_command.specs.declared.ended.Ended.{Ended}
+use Rattle.wire_command.specs.declared.ended.Ended.TheVariants.{Clean, Found}
 use Rattle.wire_portable_commands.specs.CheckPortable.{KeepsRules, KeepsRulesOn, IsVerdictOn, TellsLibraries, IsPortableVerdict, HasOneEndOn, EndsOnLibraries, ended_beside}
 use Rattle.wire_portable_commands.specs.Text.{whole_text}
 use Rattle.wire_portable_commands.specs.Words.{blamed_in, others, portable_in}

@@ -18,11 +18,11 @@ use Rattle.wire_portable.specs.declared.libraries.Library.{Library}
 use Rattle.wire_portable.specs.declared.listed.Unportable.{Unportable}
 use Rattle.wire_portable.specs.declared.spelling.Spelt.{Spelt}
 use Rattle.wire_reader.specs.declared.Size.{Size}
-use Rattle.wire_commands.specs.declared.ended.Ended.{Ended}
-use Rattle.wire_commands.specs.declared.ended.Ended.TheVariants.{Clean, Found}
+use Rattle.wire_command.specs.declared.ended.Ended.{Ended}
+use Rattle.wire_command.specs.declared.ended.Ended.TheVariants.{Clean, Found}
 use Rattle.wire_commands.specs.Check.{IsVerdict}
 use Rattle.wire_commands.specs.CheckAnywhere.{IsVerdictAnywhere}
-use Rattle.wire_commands.specs.Plain.{ReadAs}
+use Rattle.wire_command.specs.Read.{ReadAs}
 use Rattle.wire_portable_commands.specs.Text.{whole_text}
 use Rattle.wire_portable_commands.specs.Words.{portable_in}
 

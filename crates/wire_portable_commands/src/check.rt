@@ -5,8 +5,8 @@ ghost use Rattle.std.specs.Prelude.{◌≡◌, ◌≢◌, ◌⊎◌, Ok, Err, fa
 ghost use Rattle.wire_types.specs.declared.Fault.TheVariants.{Memory, Read};
 ghost use Rattle.wire_types.specs.Counting.{one_more};
 ghost use Rattle.wire_portable.specs.Unportable.{AreUnportableOn};
-ghost use Rattle.wire_commands.specs.declared.ended.Ended.TheVariants.{Clean};
-ghost use Rattle.wire_commands.specs.Answer.{BreaksOff, Writes, rows_in};
+ghost use Rattle.wire_command.specs.declared.ended.Ended.TheVariants.{Clean};
+ghost use Rattle.wire_command.specs.Answer.{BreaksOff, Writes, rows_in};
 ghost use Rattle.wire_commands.specs.Check.{StopsBeforeFindings};
 ghost use Rattle.wire_portable_commands.specs.CheckPortable as spec;
 ghost use Rattle.wire_portable_commands.specs.CheckPortable.{EndsOnLibraries, IsPortableVerdict, IsVerdictOn, TellsLibraries};
@@ -17,9 +17,8 @@ use std::alloc::{AllocError, Global};
 use std::thread::Threads;
 use wire_anywhere::find_anywhere;
 use wire_anywhere::laws::settled_exactly as settled_anywhere_exactly;
-use wire_commands::{
-    Answer, AnswerStyle, CommandOptions, Ended, answer_findings, answer_found, write_answer,
-};
+use wire_command::{Answer, AnswerStyle, CommandOptions, Ended, write_answer};
+use wire_commands::{answer_findings, answer_found};
 use wire_happens_before::{HappensBefore, MarkedPlan};
 use wire_library_laws::laws::{ends_by_rules, library_one_end, portable_there, refines};
 use wire_plan::Plan;

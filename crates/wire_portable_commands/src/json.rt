@@ -10,7 +10,7 @@ ghost use Rattle.wire_portable_commands.specs.Json as spec;
 
 use crate::words::{names_json, portable_in, rule_word};
 use std::alloc::{AllocError, Global};
-use wire_commands::AnswerStyle;
+use wire_command::AnswerStyle;
 use wire_json::{push_list, push_quoted};
 use wire_portable::Unportable;
 use wire_report::line_of;

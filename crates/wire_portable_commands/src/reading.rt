@@ -6,14 +6,14 @@ ghost use Rattle.wire_types.specs.Forms.{has_places};
 ghost use Rattle.wire_types.specs.declared.Fault.TheVariants.{Memory, Read};
 ghost use Rattle.wire_types.specs.Texts.{lists_of};
 ghost use Rattle.wire_reader.specs.Reads.{Reads};
-ghost use Rattle.wire_commands.specs.Answer.{ReadIn};
-ghost use Rattle.wire_commands.specs.Plain.{Refuses};
+ghost use Rattle.wire_command.specs.Answer.{ReadIn};
+ghost use Rattle.wire_command.specs.Read.{Refuses};
 ghost use Rattle.wire_portable_commands.specs.CheckPortable.{IsSpelled};
 ghost use Rattle.wire_portable_commands.specs.Read.{AreLinesIn};
 
 use std::alloc::Global;
 use std::thread::Threads;
-use wire_commands::{CommandOptions, read_up_to};
+use wire_command::{CommandOptions, read_up_to};
 use wire_portable::{Spelling, read_spelling};
 use wire_reader::{Size, read_located_shared, read_shared};
 use wire_scripts::Scripts;

@@ -8,7 +8,7 @@ use crate::groups::push_grouped;
 use crate::json::push_members;
 use crate::lines::push_lines;
 use std::alloc::{AllocError, Global};
-use wire_commands::AnswerStyle;
+use wire_command::AnswerStyle;
 use wire_portable::Unportable;
 use wire_scripts::Scripts;
 use wire_types::OutputFormat;

@@ -13,7 +13,7 @@ use Rattle.wire_reader.specs.declared.Size.{Size}
 use Rattle.wire_reader.specs.Reads.{Reads}
 use Rattle.wire_reader.proofs.Once.{reads_once}
 use Rattle.wire_reader.specs.Order.{order_read}
-use Rattle.wire_commands.specs.Plain.{ReadAs, Refuses}
+use Rattle.wire_command.specs.Read.{ReadAs, Refuses}
 use Rattle.wire_commands.specs.Follow.{OrdersAs, RefusesOrder, StopsInOrder, WritesFollowed, StopsBefore, report_after}
 use Rattle.wire_text_laws.specs.Again.{steps_text, ReadsAsOrder}
 use Rattle.wire_text_laws.specs.Following.{OrderIsFollowed}

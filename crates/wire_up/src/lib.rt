@@ -9,28 +9,30 @@ ghost use Rattle.wire_types.specs.Counting.{one_more};
 ghost use Rattle.wire_types.specs.Texts.{texts_of};
 ghost use Rattle.wire_scripts.specs.Scripts.{Scripts};
 ghost use Rattle.wire_parallel_run.specs.Collect.{MayWork};
-ghost use Rattle.wire_commands.specs.declared.ended.Ended.TheVariants.{Clean};
-ghost use Rattle.wire_commands.specs.Answer.{BreaksOff, Writes};
+ghost use Rattle.wire_command.specs.declared.ended.Ended.TheVariants.{Clean};
+ghost use Rattle.wire_command.specs.Answer.{BreaksOff, Writes};
 ghost use Rattle.wire_commands.specs.Check.{EndsInOneState, IsVerdict, StopsBeforeFindings};
 ghost use Rattle.wire_commands.specs.CheckAnywhere.{EndsInOneStateAnywhere, IsVerdictAnywhere};
 ghost use Rattle.wire_commands.specs.Follow.{BreaksOffFollowed, StopsBefore, WritesFollowed};
 ghost use Rattle.wire_commands.specs.Migrate.{BreaksOffMigrated, StopsBeforeMigrated, WritesMigrated};
 ghost use Rattle.wire_commands.specs.Place.{BreaksOffPlaced, StopsBeforePlaced, WritesPlaced};
-ghost use Rattle.wire_commands.specs.Plain.{BreaksOffReport, ReadAs, Refuses, WritesReport};
+ghost use Rattle.wire_command.specs.Read.{ReadAs, Refuses};
+ghost use Rattle.wire_commands.specs.Plain.{BreaksOffReport, WritesReport};
 ghost use Rattle.wire_commands.specs.Replay.{BreaksOffReplay, StopsBeforeReplay, WritesOneEnd, WritesReplay};
 ghost use Rattle.wire_commands.specs.Why.{ExplainsOrder, StopsBeforeAnswer, WritesAnswer};
 
 use std::alloc::Global;
 use std::sync::Wait;
 use std::thread::Threads;
+pub use wire_command::{CommandOptions, Ended};
 pub use wire_command_line::{
     Asked, CallPair, CallWords, CheckScope, Command, ExpandOptions, PairOptions, PatternOptions,
     Refusal, ReplayOptions, Request, Spread, asked, read_request, workers_of,
 };
 pub use wire_commands::{
-    CommandOptions, Ended, Mode, PairAsked, ReplaySettings, Replayed, check_placements, check_plan,
-    check_replies, explain_order, follow_plan, migrate_plan, place_plan, replay_plan, run_plainly,
-    witness_pair, witness_races,
+    Mode, PairAsked, ReplaySettings, Replayed, check_placements, check_plan, check_replies,
+    explain_order, follow_plan, migrate_plan, place_plan, replay_plan, run_plainly, witness_pair,
+    witness_races,
 };
 pub use wire_pattern_commands::{
     Expansion, PatternAsked, Spread as SpreadOver, check_pattern, expand_pattern,

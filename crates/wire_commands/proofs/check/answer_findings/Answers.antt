@@ -1,5 +1,5 @@
 use Rattle.std.proofs.Common.{refl}
-use Rattle.wire_commands.specs.Answer.{rows_in}
+use Rattle.wire_command.specs.Answer.{rows_in}
 use Rattle.wire_commands.proofs.Checked.{judged_told}
 use Rattle.wire_commands.proofs.check.answer_findings.Goals as goal
 

@@ -1,6 +1,6 @@
-use Rattle.wire_commands.specs.Answer.{rows_in}
+use Rattle.wire_command.specs.Answer.{rows_in}
 use Rattle.wire_commands.proofs.Checked.{told, told_broken}
-use Rattle.wire_commands.proofs.Handed.{handed_on}
+use Rattle.wire_command.proofs.Handed.{handed_on}
 use Rattle.wire_commands.proofs.check.check_built.Goals as goal
 
 pub returns-in_err-write_found-clause-err : goal.returns-in_err-write_found-clause-err

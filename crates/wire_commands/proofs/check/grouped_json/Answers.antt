@@ -1,6 +1,5 @@
-use Rattle.std.proofs.Common.{map}
 use Rattle.wire_commands.proofs.Grouped.{as_json}
-use Rattle.wire_commands.specs.Answer.{rows_in}
+use Rattle.wire_command.specs.Answer.{rows_in}
 use Rattle.wire_commands.proofs.check.grouped_json.Goals as goal
 
 pub returns-clause-ok : goal.returns-clause-ok

@@ -1,6 +1,6 @@
 use Rattle.std.proofs.Common.{◌∙◌, ap}
-use Rattle.wire_commands.specs.Answer.{rows_in}
-use Rattle.wire_commands.specs.Ending.{ended_of}
+use Rattle.wire_command.specs.Answer.{rows_in}
+use Rattle.wire_command.specs.Ending.{ended_of}
 use Rattle.wire_commands.proofs.CheckedAnywhere.{verdict_so}
 use Rattle.wire_commands.proofs.check_anywhere.answer_found.Goals as goal
 

@@ -1,5 +1,5 @@
 use Rattle.wire_scripts.specs.Planned.{plan_of}
-use Rattle.wire_commands.specs.Answer.{rows_in}
+use Rattle.wire_command.specs.Answer.{rows_in}
 use Rattle.wire_commands.proofs.CheckedAnywhere.{found_too, none_found, told_too}
 use Rattle.wire_commands.proofs.check_same.answer_plan.Goals as goal
 

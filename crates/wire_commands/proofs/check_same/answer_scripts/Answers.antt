@@ -1,5 +1,5 @@
 use Rattle.std.proofs.Common.{subst, IfOk}
-use Rattle.wire_commands.specs.Answer.{rows_in}
+use Rattle.wire_command.specs.Answer.{rows_in}
 use Rattle.wire_commands.specs.CheckSame.{IsSameVerdict}
 use Rattle.wire_commands.proofs.check_same.answer_scripts.Goals as goal
 

@@ -1,8 +1,8 @@
 use Rattle.std.proofs.Common.{◌≡◌, ◌∙◌, ap, arith, length, vec_len}
 use Rattle.wire_scripts.specs.Planned.{plan_of}
 use Rattle.wire_anywhere_report.specs.Differing.{differing_form}
-use Rattle.wire_commands.specs.Answer.{rows_in}
-use Rattle.wire_commands.specs.Ending.{ended_of}
+use Rattle.wire_command.specs.Answer.{rows_in}
+use Rattle.wire_command.specs.Ending.{ended_of}
 use Rattle.wire_commands.proofs.CheckedAnywhere.{differing_so}
 use Rattle.wire_commands.proofs.check_same.answer_settled.Goals as goal
 

@@ -2,8 +2,9 @@ use Rattle.std.proofs.Common.{inl, inr, ap, refl, Err}
 use Rattle.std.proofs.lemmas.Result.{on_ok_weaker}
 use Rattle.wire_types.specs.declared.Fault.TheVariants.{Read}
 use Rattle.wire_types.specs.Forms.{is_json}
-use Rattle.wire_commands.proofs.Handed.{handed_on, not_on_ok, same_error, no_read_writing}
-use Rattle.wire_commands.proofs.Followed.{of_file, of_order, of_steps, no_read_of_steps, followed_ok, followed_err, err_always}
+use Rattle.wire_command.proofs.Handed.{handed_on, not_on_ok, same_error, no_read_writing}
+use Rattle.wire_command.proofs.Handed.{err_always}
+use Rattle.wire_commands.proofs.Followed.{of_file, of_order, of_steps, no_read_of_steps, followed_ok, followed_err}
 use Rattle.wire_commands.proofs.follow.follow_plan.Goals as goal
 
 pub returns-in_err-scripts-clause-ok : goal.returns-in_err-scripts-clause-ok

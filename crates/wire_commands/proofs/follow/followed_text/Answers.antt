@@ -1,6 +1,6 @@
 use Rattle.std.proofs.Common.{inl}
 use Rattle.wire_scripts.specs.Scripts.{numbers_of}
-use Rattle.wire_commands.proofs.Handed.{handed_on, not_ok}
+use Rattle.wire_command.proofs.Handed.{handed_on, not_ok}
 use Rattle.wire_commands.proofs.Texts.{leads_too, stops_too}
 use Rattle.wire_commands.proofs.follow.followed_text.Goals as goal
 

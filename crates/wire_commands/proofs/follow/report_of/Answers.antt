@@ -2,7 +2,7 @@ use Rattle.std.proofs.Common.{inl}
 use Rattle.std.proofs.lemmas.Result.{IfErr-weaker}
 use Rattle.wire_types.specs.Outcome.{ends_of}
 use Rattle.wire_scripts.specs.Scripts.{numbers_of}
-use Rattle.wire_commands.proofs.Handed.{handed_on, not_ok}
+use Rattle.wire_command.proofs.Handed.{handed_on, not_ok}
 use Rattle.wire_commands.proofs.Texts.{followed_told}
 use Rattle.wire_commands.proofs.follow.report_of.Goals as goal
 

@@ -1,4 +1,4 @@
-use Rattle.wire_commands.proofs.Handed.{handed_on, not_ok}
+use Rattle.wire_command.proofs.Handed.{handed_on, not_ok}
 use Rattle.wire_commands.proofs.Texts.{plain_too}
 use Rattle.wire_commands.proofs.plain.plain_text.Goals as goal
 

@@ -1,5 +1,5 @@
 use Rattle.wire_types.specs.Outcome.{ends_of}
-use Rattle.wire_commands.proofs.Handed.{handed_on, not_ok}
+use Rattle.wire_command.proofs.Handed.{handed_on, not_ok}
 use Rattle.wire_commands.proofs.Texts.{plain_told}
 use Rattle.wire_commands.proofs.plain.report_of.Goals as goal
 

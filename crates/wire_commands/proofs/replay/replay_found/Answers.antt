@@ -1,4 +1,4 @@
-use Rattle.wire_commands.proofs.Handed.{handed_on}
+use Rattle.wire_command.proofs.Handed.{handed_on}
 use Rattle.wire_commands.proofs.ReplayWritten.{found_out, found_broken}
 use Rattle.wire_commands.proofs.replay.replay_found.Goals as goal
 

@@ -1,7 +1,7 @@
 use Rattle.std.proofs.Common.{inl, inr, refl, arith}
 use Rattle.std.proofs.lemmas.Result.{on_ok_weaker}
-use Rattle.wire_commands.proofs.Followed.{err_always}
-use Rattle.wire_commands.proofs.Handed.{handed_on}
+use Rattle.wire_command.proofs.Handed.{err_always}
+use Rattle.wire_command.proofs.Handed.{handed_on}
 use Rattle.wire_commands.proofs.ReplayWritten.{writes_replay, judges_calls, clean_one_end, breaks_off, no_failed_read}
 use Rattle.wire_commands.proofs.replay.replay_plan.Goals as goal
 

@@ -1,5 +1,5 @@
 use Rattle.std.proofs.Common.{inr}
-use Rattle.wire_commands.proofs.Handed.{handed_on}
+use Rattle.wire_command.proofs.Handed.{handed_on}
 use Rattle.wire_commands.proofs.ReplayWritten.{replay_broken}
 use Rattle.wire_commands.proofs.replay.replay_settled.Goals as goal
 

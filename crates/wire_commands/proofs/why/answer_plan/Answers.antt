@@ -1,5 +1,5 @@
-use Rattle.std.proofs.Common.{inl, refl, map}
-use Rattle.wire_commands.proofs.Handed.{handed_on, not_ok}
+use Rattle.std.proofs.Common.{inl, refl}
+use Rattle.wire_command.proofs.Handed.{handed_on, not_ok}
 use Rattle.wire_commands.proofs.Texts.{there_too}
 use Rattle.wire_commands.proofs.Questioned.{asked_too, refused_too}
 use Rattle.wire_types.specs.Texts.{texts_of}

@@ -7,7 +7,7 @@ use Rattle.wire_report.specs.There.{AreThere}
 use Rattle.wire_report.proofs.Chains.{shown_there, none_of}
 use Rattle.wire_commands.specs.Chains.{chain_form}
 use Rattle.wire_commands.proofs.Ordered.{places_before, places_after, places_unordered}
-use Rattle.wire_commands.specs.Answer.{rows_in}
+use Rattle.wire_command.specs.Answer.{rows_in}
 use Rattle.wire_types.specs.Forms.{is_json}
 use Rattle.wire_commands.proofs.why.placed_chain_text.Goals as goal
 

@@ -4,7 +4,7 @@ use Rattle.std.specs.List.{flat_map}
 use Rattle.wire_runs.specs.Plan.{event_of}
 use Rattle.wire_commands.specs.Chains.{placed_event}
 use Rattle.wire_commands.proofs.Listed.{one_more_line}
-use Rattle.wire_commands.specs.Answer.{rows_in}
+use Rattle.wire_command.specs.Answer.{rows_in}
 use Rattle.wire_commands.proofs.why.push_events.Goals as goal
 
 pub push_placed_event-requires : goal.push_placed_event-requires

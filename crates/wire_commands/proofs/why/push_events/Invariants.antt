@@ -2,7 +2,7 @@ use Rattle.std.proofs.Common.{◌≡◌, ◌++◌, map, drop}
 use Rattle.std.specs.List.{flat_map}
 use Rattle.wire_runs.specs.Plan.{event_of}
 use Rattle.wire_commands.specs.Chains.{placed_event}
-use Rattle.wire_commands.specs.Answer.{rows_in}
+use Rattle.wire_command.specs.Answer.{rows_in}
 use Rattle.wire_commands.proofs.why.push_events.Given as goal
 
 -- what is written, and the lines of the events that are left, are all lines

@@ -1,6 +1,6 @@
-use Rattle.std.proofs.Common.{◌∙◌, map}
+use Rattle.std.proofs.Common.{◌∙◌}
 use Rattle.wire_commands.specs.Chains.{unordered_form}
-use Rattle.wire_commands.specs.Answer.{rows_in}
+use Rattle.wire_command.specs.Answer.{rows_in}
 use Rattle.wire_types.specs.Forms.{is_json}
 use Rattle.wire_commands.proofs.why.unordered_text.Goals as goal
 

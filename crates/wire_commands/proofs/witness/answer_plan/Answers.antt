@@ -1,11 +1,10 @@
-use Rattle.std.proofs.Common.{map, ◌∙◌, ap}
-use Rattle.wire_commands.proofs.Handed.{handed_on, not_ok}
+use Rattle.std.proofs.Common.{◌∙◌, ap}
+use Rattle.wire_command.proofs.Handed.{handed_on, not_ok}
 use Rattle.wire_commands.proofs.Questioned.{asked_too, refused_too}
-use Rattle.wire_commands.specs.Ending.{ended_of}
+use Rattle.wire_command.specs.Ending.{ended_of}
 use Rattle.wire_commands.specs.Witness.{pair_text}
 use Rattle.wire_types.specs.Texts.{texts_of}
-use Rattle.wire_commands.specs.Answer.{rows_in}
-use Rattle.wire_types.specs.Forms.{is_json}
+use Rattle.wire_command.specs.Answer.{rows_in}
 use Rattle.wire_commands.proofs.witness.answer_plan.Goals as goal
 
 pub returns-in_err-calls-clause-ok : goal.returns-in_err-calls-clause-ok

@@ -1,11 +1,10 @@
-use Rattle.std.proofs.Common.{◌≡◌, ◌⊎◌, subst, inl, map, IfOk, IfErr, Err}
+use Rattle.std.proofs.Common.{◌≡◌, ◌⊎◌, subst, inl, IfOk, IfErr, Err}
 use Rattle.wire_types.specs.declared.Fault.TheVariants.{Memory}
 use Rattle.wire_commands.specs.Why.{QuestionNames}
-use Rattle.wire_commands.proofs.Handed.{handed_on, not_ok}
+use Rattle.wire_command.proofs.Handed.{handed_on, not_ok}
 use Rattle.wire_commands.specs.Witness.{ShowsPair}
 use Rattle.wire_types.specs.Texts.{texts_of}
-use Rattle.wire_commands.specs.Answer.{rows_in}
-use Rattle.wire_types.specs.Forms.{is_json}
+use Rattle.wire_command.specs.Answer.{rows_in}
 use Rattle.wire_commands.proofs.witness.answer_scripts.Goals as goal
 
 pub returns-in_err-plan-clause-ok : goal.returns-in_err-plan-clause-ok

@@ -1,7 +1,7 @@
-use Rattle.std.proofs.Common.{◌∙◌, ap, map}
-use Rattle.wire_commands.specs.Ending.{ended_of}
+use Rattle.std.proofs.Common.{◌∙◌, ap}
+use Rattle.wire_command.specs.Ending.{ended_of}
 use Rattle.wire_commands.specs.Witnesses.{races_form}
-use Rattle.wire_commands.specs.Answer.{rows_in}
+use Rattle.wire_command.specs.Answer.{rows_in}
 use Rattle.wire_commands.proofs.witnesses.answer_plan.Goals as goal
 
 pub returns-clause-ok : goal.returns-clause-ok

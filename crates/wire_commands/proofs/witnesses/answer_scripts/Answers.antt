@@ -1,6 +1,6 @@
-use Rattle.std.proofs.Common.{subst, map, IfOk}
+use Rattle.std.proofs.Common.{subst, IfOk}
 use Rattle.wire_commands.specs.Witnesses.{TriesRaces}
-use Rattle.wire_commands.specs.Answer.{rows_in}
+use Rattle.wire_command.specs.Answer.{rows_in}
 use Rattle.wire_commands.proofs.witnesses.answer_scripts.Goals as goal
 
 pub returns-clause-ok : goal.returns-clause-ok

@@ -1,8 +1,8 @@
-use Rattle.std.proofs.Common.{map, refl}
+use Rattle.std.proofs.Common.{refl}
 use Rattle.std.specs.List.{flat_map}
 use Rattle.wire_commands.specs.Witnesses.{placed_race}
 use Rattle.wire_commands.proofs.Listed.{one_more_line}
-use Rattle.wire_commands.specs.Answer.{rows_in}
+use Rattle.wire_command.specs.Answer.{rows_in}
 use Rattle.wire_commands.proofs.witnesses.push_races.Goals as goal
 
 pub loop-one-preserved : goal.loop-one-preserved

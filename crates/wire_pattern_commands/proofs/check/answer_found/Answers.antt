@@ -1,5 +1,5 @@
 use Rattle.std.proofs.Common.{inr, ap, length}
-use Rattle.wire_commands.specs.declared.ended.Ended.TheVariants.{Found}
+use Rattle.wire_command.specs.declared.ended.Ended.TheVariants.{Found}
 use Rattle.wire_instances.specs.Views.{cast_by}
 use Rattle.wire_pattern_commands.proofs.check.answer_found.Goals as goal
 

@@ -1,5 +1,5 @@
 use Rattle.std.proofs.Common.{inl, refl}
-use Rattle.wire_commands.proofs.Handed.{handed_on, same_error}
+use Rattle.wire_command.proofs.Handed.{handed_on, same_error}
 use Rattle.wire_pattern_commands.proofs.CheckedPattern.{file_stops, sweep_stops, no_read_judging, writes_verdict, verdict_err, clean_one_end}
 use Rattle.wire_pattern_commands.proofs.check.check_pattern.Goals as goal
 

@@ -1,5 +1,5 @@
 use Rattle.std.proofs.Common.{inl, refl}
-use Rattle.wire_commands.proofs.Handed.{handed_on, same_error}
+use Rattle.wire_command.proofs.Handed.{handed_on, same_error}
 use Rattle.wire_pattern_commands.proofs.Expanded.{file_stops, no_read_expanding}
 use Rattle.wire_pattern_commands.proofs.expand.expand_pattern.Goals as goal
 

@@ -1,6 +1,6 @@
 use Rattle.std.proofs.Common.{◌≡◌, drop}
 use Rattle.std.specs.List.{list_all}
-use Rattle.wire_commands.specs.Complete.{succeeds}
+use Rattle.wire_command.specs.Success.{succeeds}
 use Rattle.wire_pattern_commands.proofs.succeeding.row_succeeds.Given as goal
 
 abbrev pub invariant-loop-end : goal.invariant-loop-end

@@ -1,7 +1,7 @@
 use Rattle.std.proofs.Common.{◌≡◌, drop}
 use Rattle.std.specs.List.{list_all}
 use Rattle.wire_types.specs.Texts.{lists_of}
-use Rattle.wire_commands.specs.Complete.{succeeds}
+use Rattle.wire_command.specs.Success.{succeeds}
 use Rattle.wire_pattern_commands.proofs.succeeding.rows_succeed.Given as goal
 
 abbrev pub invariant-loop-row : goal.invariant-loop-row

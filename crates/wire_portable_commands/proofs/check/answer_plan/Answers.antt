@@ -1,5 +1,5 @@
 use Rattle.std.proofs.Common.{subst, IfOk}
-use Rattle.wire_commands.specs.Answer.{rows_in}
+use Rattle.wire_command.specs.Answer.{rows_in}
 use Rattle.wire_portable_commands.specs.CheckPortable.{TellsLibraries}
 use Rattle.wire_portable_commands.proofs.check.answer_plan.Goals as goal
 

@@ -1,10 +1,10 @@
 use Rattle.std.proofs.Common.{inl, refl, ap, Err}
 use Rattle.std.proofs.lemmas.Result.{on_ok_weaker}
-use Rattle.wire_commands.proofs.Handed.{handed_on, not_ok, not_on_ok, same_error, no_read_writing, memory_no_read}
-use Rattle.wire_commands.proofs.Followed.{err_always}
+use Rattle.wire_command.proofs.Handed.{handed_on, not_ok, not_on_ok, same_error, no_read_writing, memory_no_read}
+use Rattle.wire_command.proofs.Handed.{err_always}
 use Rattle.wire_commands.specs.Check.{StopsBeforeFindings}
 use Rattle.wire_portable_commands.specs.CheckPortable.{IsPortableVerdict}
-use Rattle.wire_commands.proofs.Answered.{wrote_all, wrote_front}
+use Rattle.wire_portable_commands.proofs.Answered.{wrote_all, wrote_front}
 use Rattle.wire_portable_commands.proofs.Told.{clean_kept}
 use Rattle.wire_portable_commands.proofs.check.check_portable.Goals as goal
 

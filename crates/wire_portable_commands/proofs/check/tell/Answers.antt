@@ -1,5 +1,5 @@
 use Rattle.std.proofs.Common.{◌∙◌, ap, sym, length}
-use Rattle.wire_commands.specs.Answer.{rows_in}
+use Rattle.wire_command.specs.Answer.{rows_in}
 use Rattle.wire_portable_commands.specs.CheckPortable.{ended_beside}
 use Rattle.wire_portable_commands.specs.Text.{whole_text}
 use Rattle.wire_portable_commands.proofs.Told.{portable_so}

@@ -1,0 +1,5 @@
+pub mod Ending
+pub mod Read
+pub mod Success
+pub mod Answer
+pub mod Command
