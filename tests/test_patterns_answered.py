@@ -1,14 +1,17 @@
 """`check --pattern` of the built program: whether every call is answered with any number of ranks,
 for the table of rows/answered.py, beside what `replay` says of instances of each pattern. And with
-`--explain`, who waits for ever in the first instance in which a rank does."""
+`--explain`, who waits for ever in the first instance in which a rank does, or in that of the first
+size with which one does."""
 import json
 import unittest
 from collections.abc import Iterator
+from typing import Optional
 
 import pattern_faults
 import pattern_reference
 from forms import one_line, pattern_as_json
-from pattern_reference import Ranks
+from pattern_grammar import Pattern
+from pattern_reference import Ranks, Wait
 from pattern_soaking import Instance
 from rows.answered import ANSWERED, ROWS, SIZES, UP_TO_3, Told
 from running import ProgramCase, Run, Runs, start
@@ -19,15 +22,29 @@ EXPLAIN = [*CHECK, "--explain"]
 WAIT = b"wire_up: ranks wait for ever\n"
 
 
+def instance(pattern: Pattern, size: int) -> Wait:
+    """The plan of a pattern in which all groups have so many ranks, with all turns, each rank on a
+    node of its own."""
+    ranks = Ranks(pattern, [1 if it.least is None else size for it in pattern.roles])
+    scripts = [ranks.script(it, frozenset()) for it in range(ranks.count)]
+    return Wait(ranks, Instance(ranks, scripts, [*range(ranks.count)]).text)
+
+
 def instances(row: Told) -> Iterator[tuple[int, bytes]]:
-    """The plans of a pattern in which all groups have so many ranks, with all turns, each rank on a
-    node of its own; from their largest `min` on, to SIZES."""
+    """These plans, from the largest `min` on, to SIZES."""
     pattern = pattern_reference.read_pattern(pattern_faults.text_of(row.lines))
     least = max(it.least or 0 for it in pattern.roles)
     for size in range(least, SIZES + 1):
-        ranks = Ranks(pattern, [1 if it.least is None else size for it in pattern.roles])
-        scripts = [ranks.script(it, frozenset()) for it in range(ranks.count)]
-        yield size, Instance(ranks, scripts, [*range(ranks.count)]).text
+        yield size, instance(pattern, size).text
+
+
+def find_shown(row: Told, pattern: Pattern) -> Optional[Wait]:
+    """The instance that is explained: the first that is judged in which a rank waits, or that with
+    as many ranks of each group as the first line says."""
+    first = pattern_reference.find_first_wait(pattern)
+    if first or not row.told.startswith(b"later "):
+        return first
+    return instance(pattern, int(row.told.split()[1]))
 
 
 class Answered(ProgramCase):
@@ -49,7 +66,7 @@ class Answered(ProgramCase):
         """What `--explain` adds, by what it adds to `replay` of the first plan that waits."""
         said = pattern_reference.CLEAN + b"\n" + row.told
         form = json.loads(pattern_as_json(said))
-        first = pattern_reference.find_first_wait(pattern_reference.read_pattern(given))
+        first = find_shown(row, pattern_reference.read_pattern(given))
         form["where"] = None
         if first:
             ran = start(self.program, Run(row.name, ["replay", "--explain"], first.text))

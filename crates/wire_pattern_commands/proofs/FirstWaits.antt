@@ -1,5 +1,5 @@
 -- The first instance in which a rank waits, and what is told of it.
-use Rattle.std.proofs.Common.{◌≡◌, ◌≢◌, ◌∙◌, ap, sym, subst, refl, ℕ, ◌+◌, ◌<◌, ◌≤◌, List, [], ◌∷◌, ◌++◌, length, map, drop, append-nil, Option, None, Some, Ok, Result, Err, IfOk, Bool, true, false, append_assoc, if◌then◌else◌, ◌==◌, arith}
+use Rattle.std.proofs.Common.{◌≡◌, ◌≢◌, ◌∙◌, ap, sym, subst, refl, ℕ, ◌+◌, ◌<◌, ◌≤◌, List, [], ◌∷◌, ◌++◌, length, map, drop, append-nil, Option, None, Some, Ok, Result, Err, IfOk, Bool, true, false, append_assoc, if◌then◌else◌, ◌==◌, inl, inr, arith}
 use Rattle.std.specs.Prelude.{Vec, MatchOption, slice_get, codes, not, OnOk, is_ok}
 use Rattle.std.specs.declared.alloc.Global.{Global}
 use Rattle.std.proofs.lemmas.Bool.{true≢false, not-true, not-false, eqb-true, eqb-false}
@@ -17,8 +17,15 @@ use Rattle.wire_pattern_waits.proofs.Judged.{EachBefore, listed_at, each_all}
 use Rattle.wire_cutoff.specs.declared.selections.Selection.{Selection as CodeSelection}
 use Rattle.wire_cutoff.specs.Selections.{Selection, selections}
 use Rattle.wire_cutoff.specs.Views.{selection_by}
+use Rattle.wire_pattern_later.specs.Later.{IsInstanceWith, IsPastLimits}
+use Rattle.wire_pattern_later.specs.declared.later.Later.{Later}
+use Rattle.wire_pattern_later.specs.declared.later.Instance.{Instance}
 use Rattle.wire_pattern_commands.specs.declared.first_wait.FirstWait.{FirstWait}
+use Rattle.wire_pattern_commands.specs.declared.beyond.Beyond.{Beyond}
+use Rattle.wire_pattern_commands.specs.declared.beyond.Beyond.TheVariants.{Unsaid, Never, First, Unknown}
+use Rattle.wire_pattern_commands.specs.Beyond.{first_ranks}
 use Rattle.wire_pattern_commands.specs.FirstWait.{RunsThrough, StandsAs, AllRunThrough, IsFirstWait, IsWaitOf, IsFirstWaitOf, sizes_words, size_words, first_line}
+use Rattle.wire_pattern_commands.specs.FirstWait.{IsLaterWait, IsNoLaterWait, IsLaterWaitOf, IsExplainedWaitOf}
 use Rattle.wire_pattern_commands.specs.FirstWait.{AddsLines, NoLines, WaitLines, AddsMember, NullMember, WaitMember, without_end, plan_members}
 use Rattle.wire_pattern_commands.specs.FirstWait.{TellsFirst, ListsFirst, LinesOf, MemberOf, ExplainsFirstWait}
 
@@ -105,35 +112,76 @@ pub no_member_told : (p : Pattern) (found : Option FirstWait) (text : List ℕ) 
 no_member_told p found text is none = subst (λ f. MemberOf p f text) (sym is) none
 
 -- what is added to a verdict
-pub lines_added : (p : Pattern) (verdict lines text : List ℕ) (found : Option FirstWait) → IsFirstWaitOf p found → LinesOf p found lines → text ≡ verdict ++ lines
-    → AddsLines p verdict text
-lines_added p verdict lines text None through none is = NoLines through (is ∙ ap (λ xs. verdict ++ xs) none ∙ append-nil verdict)
-lines_added p verdict lines text (Some it) first tells is =
-    WaitLines it.sizes.items it.text.items tells.told it.plan first tells.tells (is ∙ ap (λ xs. verdict ++ xs) tells.is)
+pub lines_added : (p : Pattern) (verdict lines text : List ℕ) (found : Option FirstWait) → LinesOf p found lines → text ≡ verdict ++ lines
+    → (beyond : Beyond) → IsExplainedWaitOf p beyond found → AddsLines p beyond verdict text
+lines_added p verdict lines text None none is beyond through = NoLines through (is ∙ ap (λ xs. verdict ++ xs) none ∙ append-nil verdict)
+lines_added p verdict lines text (Some it) tells is beyond shown =
+    WaitLines it.sizes.items it.text.items tells.told it.plan shown tells.tells (is ∙ ap (λ xs. verdict ++ xs) tells.is)
 
-pub member_added : (p : Pattern) (verdict member text : List ℕ) (found : Option FirstWait) → IsFirstWaitOf p found → MemberOf p found member
-    → text ≡ without_end verdict ++ member → AddsMember p verdict text
-member_added p verdict member text None through none is = NullMember through (is ∙ ap (λ xs. without_end verdict ++ xs) none)
-member_added p verdict member text (Some it) first lists is =
-    WaitMember it.sizes.items it.text.items lists.members it.plan first lists.lists (is ∙ ap (λ xs. without_end verdict ++ xs) lists.is)
+pub member_added : (p : Pattern) (verdict member text : List ℕ) (found : Option FirstWait) → MemberOf p found member → text ≡ without_end verdict ++ member
+    → (beyond : Beyond) → IsExplainedWaitOf p beyond found → AddsMember p beyond verdict text
+member_added p verdict member text None none is beyond through = NullMember through (is ∙ ap (λ xs. without_end verdict ++ xs) none)
+member_added p verdict member text (Some it) lists is beyond shown =
+    WaitMember it.sizes.items it.text.items lists.members it.plan shown lists.lists (is ∙ ap (λ xs. without_end verdict ++ xs) lists.is)
 
 -- in the form that is asked for
-pub member_explains : (json : Bool) (p : Pattern) (verdict : List ℕ) (r : Result (Vec ℕ Global) Fault) → json ≡ true
-    → IfOk r (λ t. AddsMember p verdict t.items) → IfOk r (λ t. ExplainsFirstWait true json p verdict t.items)
-member_explains true p verdict r is adds = adds
-member_explains false p verdict r is adds = absurd (true≢false (sym is))
+pub member_explains : (json : Bool) (p : Pattern) (verdict : List ℕ) (found : Option FirstWait) (r : Result (Vec ℕ Global) Fault) → json ≡ true
+    → IfOk r (λ t. (beyond : Beyond) → IsExplainedWaitOf p beyond found → AddsMember p beyond verdict t.items)
+    → IfOk r (λ t. (beyond : Beyond) → IsExplainedWaitOf p beyond found → ExplainsFirstWait true json p beyond verdict t.items)
+member_explains true p verdict found r is adds = adds
+member_explains false p verdict found r is adds = absurd (true≢false (sym is))
 
-pub lines_explain : (json : Bool) (p : Pattern) (verdict : List ℕ) (r : Result (Vec ℕ Global) Fault) → json ≡ false
-    → IfOk r (λ t. AddsLines p verdict t.items) → IfOk r (λ t. ExplainsFirstWait true json p verdict t.items)
-lines_explain false p verdict r is adds = adds
-lines_explain true p verdict r is adds = absurd (true≢false is)
+pub lines_explain : (json : Bool) (p : Pattern) (verdict : List ℕ) (found : Option FirstWait) (r : Result (Vec ℕ Global) Fault) → json ≡ false
+    → IfOk r (λ t. (beyond : Beyond) → IsExplainedWaitOf p beyond found → AddsLines p beyond verdict t.items)
+    → IfOk r (λ t. (beyond : Beyond) → IsExplainedWaitOf p beyond found → ExplainsFirstWait true json p beyond verdict t.items)
+lines_explain false p verdict found r is adds = adds
+lines_explain true p verdict found r is adds = absurd (true≢false is)
 
 -- where it is to be explained, and where it isn't
-pub explained_by : (explain json : Bool) (p : Pattern) (verdict shown text : List ℕ) → explain ≡ true → shown ≡ verdict → ExplainsFirstWait true json p shown text
-    → ExplainsFirstWait explain json p verdict text
-explained_by true json p verdict shown text is same explains = subst (λ v. ExplainsFirstWait true json p v text) same explains
-explained_by false json p verdict shown text is same explains = absurd (true≢false (sym is))
+pub explained_by : (explain json : Bool) (p : Pattern) (beyond : Beyond) (verdict shown text : List ℕ) → explain ≡ true → shown ≡ verdict
+    → ExplainsFirstWait true json p beyond shown text → ExplainsFirstWait explain json p beyond verdict text
+explained_by true json p beyond verdict shown text is same explains = subst (λ v. ExplainsFirstWait true json p beyond v text) same explains
+explained_by false json p beyond verdict shown text is same explains = absurd (true≢false (sym is))
 
-pub unexplained : (explain json : Bool) (p : Pattern) (text : List ℕ) → explain ≡ false → ExplainsFirstWait explain json p text text
-unexplained false json p text is = refl
-unexplained true json p text is = absurd (true≢false is)
+pub unexplained : (explain json : Bool) (p : Pattern) (beyond : Beyond) (text : List ℕ) → explain ≡ false → ExplainsFirstWait explain json p beyond text text
+unexplained false json p beyond text is = refl
+unexplained true json p beyond text is = absurd (true≢false is)
+
+-- the instance with so many ranks of each group, with its plan
+pub later_planned : (p : Pattern) (ranks : ℕ) (instance : Instance) (it : FirstWait) → IsInstanceWith p ranks instance.sizes.items instance.text.items instance.scripts
+    → (it.sizes ≡ instance.sizes) × (it.text ≡ instance.text) × (it.plan ≡ instance.scripts) → IsInstanceWith p ranks it.sizes.items it.text.items it.plan
+later_planned p ranks instance it stands same = record {
+  sizes_are = ap (λ (v : Vec ℕ Global). v.items) same.0 ∙ stands.sizes_are;
+  text_is = own ∙ stands.text_is;
+  reads = subst (λ t. Reads OfVersion t (Ok it.plan)) (sym own) (subst (λ s. Reads OfVersion instance.text.items (Ok s)) (sym same.2) stands.reads);
+}
+  where
+    own : it.text.items ≡ instance.text.items
+    own = ap (λ (v : Vec ℕ Global). v.items) same.1
+
+-- where something waits first with so many, that is the later one
+later_known : (p : Pattern) (beyond : Beyond) (later : Later) (found : Option FirstWait) → beyond ≡ First later
+    → MatchOption found (IsPastLimits p later.ranks) (λ it. IsInstanceWith p later.ranks it.sizes.items it.text.items it.plan) → IsLaterWaitOf p beyond found
+later_known p beyond later None is past = λ ranks first.
+    let same : Some later.ranks ≡ Some ranks = sym (ap first_ranks is) ∙ first in
+    let ranks_are : later.ranks ≡ ranks = cc in
+    subst (IsPastLimits p) ranks_are past
+later_known p beyond later (Some it) is stands = record { ranks = later.ranks; first = ap first_ranks is; stands = stands }
+
+pub later_waits : (p : Pattern) (beyond : Beyond) (later : Later) (r : Result (Option FirstWait) Fault) → beyond ≡ First later
+    → IfOk r (λ found. MatchOption found (IsPastLimits p later.ranks) (λ it. IsInstanceWith p later.ranks it.sizes.items it.text.items it.plan))
+    → IfOk r (IsLaterWaitOf p beyond)
+later_waits p beyond later (Ok found) is waits = later_known p beyond later found is waits
+later_waits p beyond later (Err fault) is waits = tt
+
+-- where no such number is known, there is none
+pub none_known : (p : Pattern) (beyond : Beyond) → first_ranks beyond ≡ None → IsNoLaterWait p beyond
+none_known p beyond is = λ ranks first. let no : None ≡ Some ranks = sym is ∙ first in cc
+
+-- the first that is judged comes first
+pub judged_shown : (p : Pattern) (beyond : Beyond) (found : Option FirstWait) (it : FirstWait) → found ≡ Some it → IsFirstWaitOf p found → IsExplainedWaitOf p beyond (Some it)
+judged_shown p beyond found it is first = inl (subst (IsFirstWaitOf p) is first)
+
+pub later_shown : (p : Pattern) (beyond : Beyond) (first found : Option FirstWait) → first ≡ None → IsFirstWaitOf p first → IsLaterWaitOf p beyond found → IsExplainedWaitOf p beyond found
+later_shown p beyond first None is through later = (subst (IsFirstWaitOf p) is through, later)
+later_shown p beyond first (Some it) is through later = inr (subst (IsFirstWaitOf p) is through, later)

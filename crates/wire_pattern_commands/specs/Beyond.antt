@@ -1,5 +1,5 @@
 -- What `check --pattern` says of instances that are larger than those that are judged, where no call waits in these.
-use Rattle.std.specs.Prelude.{◌≡◌, ◌≢◌, ◌==◌, ℕ, Bool, true, false, max, min, List, [], ◌∷◌, ◌++◌, codes, decimal, if◌then◌else◌}
+use Rattle.std.specs.Prelude.{◌≡◌, ◌≢◌, ◌==◌, ℕ, Bool, true, false, max, min, List, [], ◌∷◌, ◌++◌, Option, Some, None, codes, decimal, if◌then◌else◌}
 use Rattle.wire_pattern.specs.Pattern.{Role, Pattern}
 use Rattle.wire_cutoff_laws.specs.Sizes.{most_of}
 use Rattle.wire_reply_laws.specs.Promised.{IsAnsweredForAll, AreTextsAnswered}
@@ -22,6 +22,11 @@ judged_size roles = max (smallest 0 roles) 3
 abbrev pub is_never : Beyond → Bool
 is_never Never = true
 is_never _ = false
+
+-- with how many processes of each group something waits first, where that is known
+abbrev pub first_ranks : Beyond → Option ℕ
+first_ranks (First later) = Some later.ranks
+first_ranks _ = None
 
 -- what is so: something waits in the instances that are judged; or none does, and then no call waits in any instance,
 -- something waits first with so many processes of each group, or nothing does as far as is looked

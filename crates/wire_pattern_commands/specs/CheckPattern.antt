@@ -86,12 +86,11 @@ settled_end asked everywhere succeeding lines answers =
 -- if that is asked for how each get-now is answered. If nothing waits, each call of these instances has its reply; what is
 -- said of larger instances is so; and with `complete` the end tells whether each call of the instances that are judged
 -- succeeds
-pub record IsSettledSaid (p : Pattern) (asked : PatternAsked) (text : List ℕ) (ended : Ended) : Type 0 where
+pub record IsSettledSaid (p : Pattern) (asked : PatternAsked) (beyond : Beyond) (text : List ℕ) (ended : Ended) : Type 0 where
   pub lines : List CallLine
   pub waiting : AreWaiting p lines
   pub read : AllReadAsPlans p
   pub replied : lines ≡ [] → AllReplied p
-  pub beyond : Beyond
   pub beyond_is : IsBeyond p lines beyond
   pub succeeding : Bool
   pub told : asked.complete && is_never beyond ≡ true → IsSuccessTold p succeeding
@@ -103,8 +102,9 @@ pub record IsSettledSaid (p : Pattern) (asked : PatternAsked) (text : List ℕ) 
 -- the same, and if that is asked for who waits for ever
 pub record IsExplainedSaid (p : Pattern) (asked : PatternAsked) (text : List ℕ) (ended : Ended) : Type 0 where
   pub verdict : List ℕ
-  pub said : IsSettledSaid p asked verdict ended
-  pub explains : ExplainsFirstWait asked.explain asked.json p verdict text
+  pub beyond : Beyond
+  pub said : IsSettledSaid p asked beyond verdict ended
+  pub explains : ExplainsFirstWait asked.explain asked.json p beyond verdict text
 
 -- the text of each instance with the least number of each role at least, if it reads as a plan of whatever size, has one
 -- end: every interleaving that can't go on ends in one state

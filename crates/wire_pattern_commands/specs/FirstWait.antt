@@ -1,5 +1,6 @@
--- The first instance of a pattern in which a rank waits for ever, and what is told of it.
-use Rattle.std.specs.Prelude.{◌≡◌, ◌≢◌, ◌<◌, ◌-◌, ◌==◌, ℕ, Bool, true, false, List, [], ◌∷◌, ◌++◌, Some, Ok, MatchOption, Option, take, length, slice_get, codes, decimal, if◌then◌else◌}
+-- The first instance of a pattern in which a rank waits for ever, or that with the number of ranks of each group with which
+-- one does first, and what is told of it.
+use Rattle.std.specs.Prelude.{◌≡◌, ◌≢◌, ◌⊎◌, ◌<◌, ◌-◌, ◌==◌, ℕ, Bool, true, false, List, [], ◌∷◌, ◌++◌, Some, Ok, MatchOption, Option, take, length, slice_get, codes, decimal, if◌then◌else◌}
 use Rattle.wire_scripts.specs.Scripts.{Scripts}
 use Rattle.wire_reader.specs.declared.Size.TheVariants.{OfVersion}
 use Rattle.wire_reader.specs.Reads.{Reads}
@@ -7,10 +8,13 @@ use Rattle.wire_core.specs.EndsAfter.{plain_ends}
 use Rattle.wire_pattern.specs.Pattern.{Role, Pattern}
 use Rattle.wire_pattern.specs.Instances.{instance_text}
 use Rattle.wire_pattern_waits.specs.Waits.{alone}
+use Rattle.wire_pattern_later.specs.Later.{IsInstanceWith, IsPastLimits}
 use Rattle.wire_standstill.specs.Told.{TellsStandstill, ListsStandstill}
 use Rattle.wire_cutoff.specs.Selections.{Selection, selections}
 use Rattle.wire_json.specs.Json.{quoted}
 use Rattle.wire_pattern_commands.specs.Strings.{text_string}
+use Rattle.wire_pattern_commands.specs.Beyond.{first_ranks}
+use Rattle.wire_pattern_commands.specs.declared.beyond.Beyond.{Beyond}
 use Rattle.wire_pattern_commands.specs.declared.first_wait.FirstWait.{FirstWait}
 
 -- in the instance of this selection, each process on a node of its own, no rank waits where the plain run can't go on
@@ -38,6 +42,24 @@ pub record IsFirstWait (p : Pattern) (sizes text : List ℕ) (scripts : Scripts)
   pub stands : StandsAs p selection sizes text scripts
   pub before : (i : ℕ) (other : Selection) → i < number → slice_get (selections p) i ≡ Some other → RunsThrough p other
 
+-- the instance with the number of ranks of each group with which one does first, where that is known
+pub record IsLaterWait (p : Pattern) (beyond : Beyond) (sizes text : List ℕ) (scripts : Scripts) : Type 0 where
+  pub ranks : ℕ
+  pub first : first_ranks beyond ≡ Some ranks
+  pub stands : IsInstanceWith p ranks sizes text scripts
+
+-- the instance that is shown: the first that is judged in which a rank waits, or the later one where none does in these
+abbrev pub IsExplainedWait : Pattern → Beyond → List ℕ → List ℕ → Scripts → Type 0
+IsExplainedWait p beyond sizes text scripts = IsFirstWait p sizes text scripts ⊎ (AllRunThrough p × IsLaterWait p beyond sizes text scripts)
+
+-- no such number is known, or the instance is past the limits of a plan
+abbrev pub IsNoLaterWait : Pattern → Beyond → Type 0
+IsNoLaterWait p beyond = (ranks : ℕ) → first_ranks beyond ≡ Some ranks → IsPastLimits p ranks
+
+-- there is none to show
+abbrev pub IsNoneExplained : Pattern → Beyond → Type 0
+IsNoneExplained p beyond = AllRunThrough p × IsNoLaterWait p beyond
+
 -- how many ranks a group has; nothing of a role of one rank
 abbrev pub size_words : Role → ℕ → List ℕ
 size_words role size = if role.single then [] else codes ", " ++ (role.name ++ (codes "=" ++ decimal size))
@@ -60,11 +82,11 @@ with_words p sizes scripts = count_words (length scripts.processes) ++ sizes_wor
 abbrev pub first_line : Pattern → List ℕ → Scripts → List ℕ
 first_line p sizes scripts = codes "ranks wait for ever with " ++ (with_words p sizes scripts ++ codes ":\n")
 
--- nothing is added where no rank waits; else lines that tell who waits for ever in the first instance in which one does
-pub data AddsLines (p : Pattern) (verdict text : List ℕ) : Type 0 where
-  NoLines : AllRunThrough p → text ≡ verdict → AddsLines p verdict text
-  WaitLines : (sizes plan_text told : List ℕ) (scripts : Scripts) → IsFirstWait p sizes plan_text scripts → TellsStandstill scripts told
-      → text ≡ verdict ++ (first_line p sizes scripts ++ told) → AddsLines p verdict text
+-- nothing is added where there is no instance to show; else lines that tell who waits for ever in it
+pub data AddsLines (p : Pattern) (beyond : Beyond) (verdict text : List ℕ) : Type 0 where
+  NoLines : IsNoneExplained p beyond → text ≡ verdict → AddsLines p beyond verdict text
+  WaitLines : (sizes plan_text told : List ℕ) (scripts : Scripts) → IsExplainedWait p beyond sizes plan_text scripts → TellsStandstill scripts told
+      → text ≡ verdict ++ (first_line p sizes scripts ++ told) → AddsLines p beyond verdict text
 
 -- an object without the brace that closes it and the line feed
 abbrev pub without_end : List ℕ → List ℕ
@@ -76,16 +98,16 @@ plan_members p sizes text scripts =
     codes "\"plan\":" ++ (text_string text ++ (codes ",\"with\":" ++ (quoted (with_words p sizes scripts) ++ codes "}}\n")))
 
 -- the same as a last member of the object
-pub data AddsMember (p : Pattern) (verdict text : List ℕ) : Type 0 where
-  NullMember : AllRunThrough p → text ≡ without_end verdict ++ codes ",\"where\":null}\n" → AddsMember p verdict text
-  WaitMember : (sizes plan_text members : List ℕ) (scripts : Scripts) → IsFirstWait p sizes plan_text scripts → ListsStandstill scripts members
-      → text ≡ without_end verdict ++ (codes ",\"where\":" ++ (members ++ plan_members p sizes plan_text scripts)) → AddsMember p verdict text
+pub data AddsMember (p : Pattern) (beyond : Beyond) (verdict text : List ℕ) : Type 0 where
+  NullMember : IsNoneExplained p beyond → text ≡ without_end verdict ++ codes ",\"where\":null}\n" → AddsMember p beyond verdict text
+  WaitMember : (sizes plan_text members : List ℕ) (scripts : Scripts) → IsExplainedWait p beyond sizes plan_text scripts → ListsStandstill scripts members
+      → text ≡ without_end verdict ++ (codes ",\"where\":" ++ (members ++ plan_members p sizes plan_text scripts)) → AddsMember p beyond verdict text
 
 -- what becomes of a verdict, in lines or as JSON, where it is to be explained, and where it isn't
-abbrev pub ExplainsFirstWait : (explain json : Bool) → Pattern → List ℕ → List ℕ → Type 0
-ExplainsFirstWait false json p verdict text = text ≡ verdict
-ExplainsFirstWait true false p verdict text = AddsLines p verdict text
-ExplainsFirstWait true true p verdict text = AddsMember p verdict text
+abbrev pub ExplainsFirstWait : (explain json : Bool) → Pattern → Beyond → List ℕ → List ℕ → Type 0
+ExplainsFirstWait false json p beyond verdict text = text ≡ verdict
+ExplainsFirstWait true false p beyond verdict text = AddsLines p beyond verdict text
+ExplainsFirstWait true true p beyond verdict text = AddsMember p beyond verdict text
 
 -- the rest is for private contracts alone
 
@@ -96,6 +118,14 @@ IsWaitOf p selection found = MatchOption found (RunsThrough p selection) (λ it.
 -- the first instance in which one does, if there is one
 abbrev pub IsFirstWaitOf : Pattern → Option FirstWait → Type 0
 IsFirstWaitOf p found = MatchOption found (AllRunThrough p) (λ it. IsFirstWait p it.sizes.items it.text.items it.plan)
+
+-- the later one, if there is one
+abbrev pub IsLaterWaitOf : Pattern → Beyond → Option FirstWait → Type 0
+IsLaterWaitOf p beyond found = MatchOption found (IsNoLaterWait p beyond) (λ it. IsLaterWait p beyond it.sizes.items it.text.items it.plan)
+
+-- the instance that is shown, if there is one
+abbrev pub IsExplainedWaitOf : Pattern → Beyond → Option FirstWait → Type 0
+IsExplainedWaitOf p beyond found = MatchOption found (IsNoneExplained p beyond) (λ it. IsExplainedWait p beyond it.sizes.items it.text.items it.plan)
 
 -- the lines about it
 pub record TellsFirst (p : Pattern) (first : FirstWait) (text : List ℕ) : Type 0 where

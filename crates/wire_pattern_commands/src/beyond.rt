@@ -1,12 +1,10 @@
 //! What is said of instances that are larger than those that are judged.
 
-ghost use Rattle.std.specs.Prelude.{◌≡◌, ◌≢◌, ◌++◌, ◌<◌, ◌^◌, ◌==◌, [], true, min, map, codes, OnOk, IfOk, IfErr, if◌then◌else◌};
+ghost use Rattle.std.specs.Prelude.{◌≡◌, ◌++◌, ◌==◌, [], true, min, map, codes, OnOk, IfOk, IfErr, if◌then◌else◌};
 ghost use Rattle.wire_pattern.specs.Views.{role_by};
 ghost use Rattle.wire_size_laws.specs.Stages.{Stages};
 ghost use Rattle.wire_reply_laws.specs.Promised.{AllStaged};
 ghost use Rattle.wire_cutoff.specs.Judged.{IsJudgeFault};
-ghost use Rattle.wire_cutoff.specs.Selections.{most_sizes};
-ghost use Rattle.wire_cutoff_laws.specs.Sizes.{total_of};
 ghost use Rattle.wire_cutoff_laws.specs.Sizes as sizes;
 ghost use Rattle.wire_pattern_commands.specs.Beyond as spec;
 ghost use Rattle.wire_pattern_commands.specs.declared.beyond.Beyond.TheVariants.{Unknown};
@@ -16,8 +14,7 @@ use std::alloc::{AllocError, Global};
 use wire_cutoff::most_of;
 use wire_pattern::{Pattern, Role};
 use wire_pattern_later::{Later, later_lines, write_later};
-use wire_pattern_stages::stages_of;
-use wire_pattern_waits::CallLine;
+use wire_pattern_stages::Waiting;
 use wire_types::Fault;
 use wire_words::push_number;
 
@@ -46,19 +43,6 @@ impl Beyond {
     }
 }
 
-/// Whether stages are found that all instances that are judged keep.
-fn has_stages(alloc: Global, pattern: &Pattern) -> Result<bool, Fault>
-    requires { total_of (most_sizes pattern.now.roles) < 2 ^ 31 }
-    ensures ok { IfOk result (λ staged. staged ≡ true → (stages : Stages) × AllStaged pattern.now stages) }
-    ensures err { IfErr result (λ e. IsJudgeFault pattern.now e) }
-{
-    let Some(stages) = stages_of(alloc, pattern)? else {
-        return Ok(false);
-    };
-    drop(stages);
-    Ok(true)
-}
-
 /// Where something waits first, as far as is looked.
 fn find_first(alloc: Global, pattern: &Pattern) -> Result<Beyond, Fault>
     ensures ok { IfOk result (λ beyond. IsFoundBeyond pattern.now [] beyond) }
@@ -70,20 +54,20 @@ fn find_first(alloc: Global, pattern: &Pattern) -> Result<Beyond, Fault>
     }
 }
 
-/// What is known of larger instances, where something waits at these lines in those that are judged.
+/// What is known of larger instances, by what those show that are judged.
 pub(crate) fn find_beyond(
     alloc: Global,
     pattern: &Pattern,
-    lines: &[CallLine],
+    waiting: &Waiting,
 ) -> Result<Beyond, Fault>
-    requires { total_of (most_sizes pattern.now.roles) < 2 ^ 31 }
-    ensures ok { IfOk result (λ beyond. IsFoundBeyond pattern.now lines.now beyond) }
+    requires { waiting.now.staged ≡ true → (stages : Stages) × AllStaged pattern.now stages }
+    ensures ok { IfOk result (λ beyond. IsFoundBeyond pattern.now waiting.now.lines.items beyond) }
     ensures err { IfErr result (λ e. IsJudgeFault pattern.now e) }
 {
-    if !lines.is_empty() {
+    if !waiting.lines.as_slice().is_empty() {
         return Ok(Beyond::Unsaid);
     }
-    if has_stages(alloc, pattern)? {
+    if waiting.staged {
         return Ok(Beyond::Never);
     }
     let beyond = find_first(alloc, pattern)?;

@@ -33,7 +33,8 @@ use wire_cutoff::{Counterexample, judge_pattern};
 use wire_findings::Finding;
 use wire_pattern::Pattern;
 use wire_pattern_answers::{LineAnswers, find_answers, write_answers};
-use wire_pattern_waits::{CallLine, waiting_lines, write_waits};
+use wire_pattern_stages::find_waiting;
+use wire_pattern_waits::{CallLine, write_waits};
 use wire_reply_laws::laws::{all_answered, texts_answered};
 use wire_report::{push_count, push_finding};
 use wire_scripts::Scripts;
@@ -255,18 +256,25 @@ fn settled_form(
     }
 }
 
+/// An answer about a pattern in which nothing is found, and what it says of larger instances.
+#[derive(Drop)]
+struct Settled {
+    answer: Answer,
+    beyond: Beyond,
+}
+
 /// The answer about a pattern in which nothing is found.
-fn answer_settled(alloc: Global, pattern: &Pattern, asked: PatternAsked) -> Result<Answer, Fault>
+fn answer_settled(alloc: Global, pattern: &Pattern, asked: PatternAsked) -> Result<Settled, Fault>
     requires settled { IsSettledForAll pattern.now }
     requires few { total_of (most_sizes pattern.now.roles) < 2 ^ 31 }
-    ensures ok { IfOk result (λ answer. IsSettledSaid pattern.now asked answer.text.items answer.ended) }
+    ensures ok { IfOk result (λ it. IsSettledSaid pattern.now asked it.beyond it.answer.text.items it.answer.ended) }
     ensures err { IfErr result (λ e. IsJudgeFault pattern.now e) }
 {
     all_answered();
     texts_answered();
     note_sound(pattern);
-    let lines = waiting_lines(alloc, pattern)?;
-    let beyond = find_beyond(alloc, pattern, lines.as_slice())?;
+    let waiting = find_waiting(alloc, pattern)?;
+    let beyond = find_beyond(alloc, pattern, &waiting)?;
     let never = beyond.is_never();
     let succeeding = success_asked(alloc, pattern, asked, never)?;
     let answers = answers_asked(alloc, pattern, asked)?;
@@ -275,18 +283,19 @@ fn answer_settled(alloc: Global, pattern: &Pattern, asked: PatternAsked) -> Resu
         pattern,
         asked,
         &beyond,
-        lines.as_slice(),
+        waiting.lines.as_slice(),
         answers.as_slice(),
     )?;
-    Ok(Answer {
-        text,
-        ended: settled_end(
-            asked,
-            never,
-            succeeding,
-            lines.as_slice(),
-            answers.as_slice(),
-        ),
+    let ended = settled_end(
+        asked,
+        never,
+        succeeding,
+        waiting.lines.as_slice(),
+        answers.as_slice(),
+    );
+    Ok(Settled {
+        answer: Answer { text, ended },
+        beyond,
     })
 }
 
@@ -297,8 +306,9 @@ fn answer_explained(alloc: Global, pattern: &Pattern, asked: PatternAsked) -> Re
     ensures ok { IfOk result (λ answer. IsExplainedSaid pattern.now asked answer.text.items answer.ended) }
     ensures err { IfErr result (λ e. IsJudgeFault pattern.now e) }
 {
-    let answer = answer_settled(alloc, pattern, asked)?;
-    let explained = explain_answer(alloc, pattern, asked, answer)?;
+    let settled = answer_settled(alloc, pattern, asked)?;
+    let Settled { answer, beyond } = settled;
+    let explained = explain_answer(alloc, pattern, asked, &beyond, answer)?;
     Ok(explained)
 }
 
@@ -329,10 +339,10 @@ fn answer_pattern(
 
 /// Checks a pattern for every number of ranks on every placement: reads it to its end, and writes that nothing is
 /// found, for which numbers of ranks, at which call lines something waits, and if that is asked for with which statuses
-/// each get-now is answered, and who waits for ever in the first instance that is judged in which a rank does; or a
-/// counterexample: how many ranks it has, the text of its plan, and as comments what `check` finds in that. It is the
-/// first instance that is judged in which something is found. As JSON the text of the plan is one string, without the
-/// comments.
+/// each get-now is answered, and who waits for ever in the first instance that is judged in which a rank does, else in
+/// the larger one in which one does first; or a counterexample: how many ranks it has, the text of its plan, and as
+/// comments what `check` finds in that. It is the first instance that is judged in which something is found. As JSON the
+/// text of the plan is one string, without the comments.
 ///
 /// It answers `Clean` where nothing is found in any instance; but with `complete` the count of the call lines at which
 /// something waits; where there are none 1, unless it is known that no call waits with any number of ranks and every

@@ -1,4 +1,5 @@
-//! What `--explain` adds to a verdict without findings: who waits for ever in the first instance in which a rank does.
+//! What `--explain` adds to a verdict without findings: who waits for ever in the first instance in which a rank does, or
+//! in that which has as many ranks of each group as `later` says.
 
 ghost use Rattle.std.specs.Prelude.{◌≡◌, ◌++◌, ◌<◌, ◌^◌, ◌==◌, map, true, codes, if◌then◌else◌, OnOk, IfOk, IfErr};
 ghost use Rattle.wire_types.specs.declared.Fault.TheVariants.{Memory};
@@ -7,10 +8,12 @@ ghost use Rattle.wire_cutoff.specs.Judged.{IsJudgeFault};
 ghost use Rattle.wire_cutoff.specs.Selections.{most_sizes};
 ghost use Rattle.wire_cutoff_laws.specs.Sizes.{total_of};
 ghost use Rattle.wire_pattern_commands.specs.FirstWait as spec;
-ghost use Rattle.wire_pattern_commands.specs.FirstWait.{AddsLines, AddsMember, ExplainsFirstWait, IsFirstWaitOf, LinesOf, MemberOf, TellsFirst, ListsFirst};
+ghost use Rattle.wire_pattern_commands.specs.FirstWait.{AddsLines, AddsMember, ExplainsFirstWait, IsExplainedWaitOf, LinesOf, MemberOf, TellsFirst, ListsFirst};
+ghost use Rattle.wire_pattern_commands.specs.declared.beyond.Beyond.{Beyond as BeyondSpec};
 
 use crate::asked::PatternAsked;
-use crate::first_wait::{FirstWait, find_first_wait};
+use crate::beyond::Beyond;
+use crate::first_wait::{FirstWait, find_shown};
 use crate::strings::push_text;
 use std::alloc::{AllocError, Global};
 use wire_command::Answer;
@@ -104,7 +107,7 @@ fn first_text(alloc: Global, pattern: &Pattern, first: &FirstWait) -> Result<Vec
     Ok(text)
 }
 
-/// The lines about the first instance in which a rank waits, if there is one.
+/// The lines about the instance that is shown, if there is one.
 #[tactic(auto, using(crate::proofs::FirstWaits::lines_told, crate::proofs::FirstWaits::no_lines_told))]
 fn lines_of(alloc: Global, pattern: &Pattern, found: &Option<FirstWait>) -> Result<Vec<u8>, Fault>
     ensures ok { IfOk result (λ text. LinesOf pattern.now found.now text.items) }
@@ -142,7 +145,7 @@ fn first_json(alloc: Global, pattern: &Pattern, first: &FirstWait) -> Result<Vec
     Ok(text)
 }
 
-/// The member about the first instance in which a rank waits, and the end of the object.
+/// The member about the instance that is shown, and the end of the object.
 #[tactic(auto, using(crate::proofs::FirstWaits::member_told, crate::proofs::FirstWaits::no_member_told))]
 fn member_of(alloc: Global, pattern: &Pattern, found: &Option<FirstWait>) -> Result<Vec<u8>, Fault>
     ensures ok { IfOk result (λ text. MemberOf pattern.now found.now text.items) }
@@ -168,8 +171,8 @@ fn with_lines(
     verdict: &[u8],
     found: &Option<FirstWait>,
 ) -> Result<Vec<u8>, Fault>
-    requires { IsFirstWaitOf pattern.now found.now }
-    ensures ok { IfOk result (λ text. AddsLines pattern.now verdict.now text.items) }
+    ensures ok { IfOk result (λ text. (beyond : BeyondSpec) → IsExplainedWaitOf pattern.now beyond found.now
+        → AddsLines pattern.now beyond verdict.now text.items) }
     ensures err { IfErr result (λ e. e ≡ Memory) }
 {
     let lines = lines_of(alloc, pattern, found)?;
@@ -185,8 +188,8 @@ fn with_member(
     verdict: &[u8],
     found: &Option<FirstWait>,
 ) -> Result<Vec<u8>, Fault>
-    requires { IsFirstWaitOf pattern.now found.now }
-    ensures ok { IfOk result (λ text. AddsMember pattern.now verdict.now text.items) }
+    ensures ok { IfOk result (λ text. (beyond : BeyondSpec) → IsExplainedWaitOf pattern.now beyond found.now
+        → AddsMember pattern.now beyond verdict.now text.items) }
     ensures err { IfErr result (λ e. e ≡ Memory) }
 {
     let member = member_of(alloc, pattern, found)?;
@@ -196,7 +199,6 @@ fn with_member(
 }
 
 /// A verdict in the form that is asked for, with who waits.
-#[tactic(auto, using(crate::proofs::FirstWaits::member_explains, crate::proofs::FirstWaits::lines_explain))]
 fn with_first(
     alloc: Global,
     pattern: &Pattern,
@@ -204,8 +206,8 @@ fn with_first(
     verdict: &[u8],
     found: &Option<FirstWait>,
 ) -> Result<Vec<u8>, Fault>
-    requires { IsFirstWaitOf pattern.now found.now }
-    ensures ok { IfOk result (λ text. ExplainsFirstWait true json pattern.now verdict.now text.items) }
+    ensures ok { IfOk result (λ text. (beyond : BeyondSpec) → IsExplainedWaitOf pattern.now beyond found.now
+        → ExplainsFirstWait true json pattern.now beyond verdict.now text.items) }
     ensures err { IfErr result (λ e. e ≡ Memory) }
 {
     if json {
@@ -215,41 +217,44 @@ fn with_first(
     }
 }
 
-/// The text of a verdict, with who waits for ever in the first instance in which a rank does.
+/// The text of a verdict, with who waits for ever in the instance that is shown.
 fn explained_text(
     alloc: Global,
     pattern: &Pattern,
     json: bool,
+    beyond: &Beyond,
     verdict: &[u8],
 ) -> Result<Vec<u8>, Fault>
     requires { total_of (most_sizes pattern.now.roles) < 2 ^ 31 }
-    ensures ok { IfOk result (λ text. ExplainsFirstWait true json pattern.now verdict.now text.items) }
+    ensures ok { IfOk result (λ text. ExplainsFirstWait true json pattern.now beyond.now verdict.now text.items) }
     ensures err { IfErr result (λ e. IsJudgeFault pattern.now e) }
 {
-    let found = find_first_wait(alloc, pattern)?;
+    let found = find_shown(alloc, pattern, beyond)?;
     let text = with_first(alloc, pattern, json, verdict, &found);
     drop(found);
     let text = text?;
     Ok(text)
 }
 
-/// An answer without findings, and if that is asked for who waits for ever in the first instance in which a rank does.
+/// An answer without findings, and if that is asked for who waits for ever: in the first instance that is judged in which
+/// a rank does, else in that with as many ranks of each group as one does first.
 #[tactic(auto, using(crate::proofs::FirstWaits::explained_by, crate::proofs::FirstWaits::unexplained))]
 pub(crate) fn explain_answer(
     alloc: Global,
     pattern: &Pattern,
     asked: PatternAsked,
+    beyond: &Beyond,
     answer: Answer,
 ) -> Result<Answer, Fault>
     requires { total_of (most_sizes pattern.now.roles) < 2 ^ 31 }
     ensures ended { IfOk result (λ it. it.ended ≡ answer.ended) }
-    ensures ok { IfOk result (λ it. ExplainsFirstWait asked.explain asked.json pattern.now answer.text.items it.text.items) }
+    ensures ok { IfOk result (λ it. ExplainsFirstWait asked.explain asked.json pattern.now beyond.now answer.text.items it.text.items) }
     ensures err { IfErr result (λ e. IsJudgeFault pattern.now e) }
 {
     if !asked.explain {
         return Ok(answer);
     }
-    let text = explained_text(alloc, pattern, asked.json, answer.text.as_slice())?;
+    let text = explained_text(alloc, pattern, asked.json, beyond, answer.text.as_slice())?;
     let ended = answer.ended;
     Ok(Answer { text, ended })
 }

@@ -1,4 +1,4 @@
-//! The first instance of a pattern in which a rank waits for ever.
+//! The first instance of a pattern in which a rank waits for ever, or a larger one.
 
 ghost use Rattle.std.specs.Prelude.{◌≡◌, ◌≢◌, ◌<◌, ◌^◌, ◌==◌, not, map, IfOk, IfErr, MatchOption};
 ghost use Rattle.wire_types.specs.declared.Fault.TheVariants.{Memory};
@@ -7,12 +7,15 @@ ghost use Rattle.wire_cutoff.specs.Judged.{IsJudgeFault};
 ghost use Rattle.wire_cutoff.specs.Selections.{selections, most_sizes};
 ghost use Rattle.wire_cutoff.specs.Views.{selection_by};
 ghost use Rattle.wire_cutoff_laws.specs.Sizes.{AreFewSizes, total_of};
-ghost use Rattle.wire_pattern_commands.specs.FirstWait.{IsWaitOf, IsFirstWaitOf};
+ghost use Rattle.wire_pattern_commands.specs.FirstWait.{IsFirstWaitOf, IsLaterWaitOf, IsExplainedWaitOf, IsWaitOf};
+ghost use Rattle.wire_pattern_later.specs.Later.{IsInstanceWith, IsPastLimits};
 
+use crate::beyond::Beyond;
 use std::alloc::Global;
 use wire_core::plain_outcome;
 use wire_cutoff::{Selection, all_selections, cast_for, instance_scripts};
 use wire_pattern::Pattern;
+use wire_pattern_later::{Instance, instance_with};
 use wire_plan::Plan;
 use wire_scripts::Scripts;
 use wire_types::Fault;
@@ -111,11 +114,76 @@ fn wait_among(
 }
 
 /// The first instance that is judged in which a rank waits for ever, if there is one: one with the fewest processes.
-pub(crate) fn find_first_wait(alloc: Global, pattern: &Pattern) -> Result<Option<FirstWait>, Fault>
+fn find_first_wait(alloc: Global, pattern: &Pattern) -> Result<Option<FirstWait>, Fault>
     requires { total_of (most_sizes pattern.now.roles) < 2 ^ 31 }
     ensures ok { IfOk result (IsFirstWaitOf pattern.now) }
     ensures err { IfErr result (λ e. IsJudgeFault pattern.now e) }
 {
     let all = all_selections(alloc, pattern)?;
     wait_among(alloc, pattern, all.as_slice())
+}
+
+/// An instance, with its plan.
+fn planned(alloc: Global, instance: Instance) -> Result<FirstWait, Fault>
+    ensures ok { IfOk result (λ it. (it.sizes ≡ instance.sizes) × (it.text ≡ instance.text) × (it.plan ≡ instance.scripts)) }
+    ensures err { IfErr result (λ e. e ≡ Memory) }
+{
+    let Instance {
+        sizes,
+        text,
+        scripts,
+    } = instance;
+    let plan = Plan::build(alloc, scripts)?;
+    Ok(FirstWait { sizes, text, plan })
+}
+
+/// The instance with so many ranks of each group; none where that is past the limits of a plan.
+fn later_with(alloc: Global, pattern: &Pattern, ranks: u32) -> Result<Option<FirstWait>, Fault>
+    ensures ok { IfOk result (λ found. MatchOption found (IsPastLimits pattern.now ranks)
+        (λ it. IsInstanceWith pattern.now ranks it.sizes.items it.text.items it.plan)) }
+    ensures err { IfErr result (λ e. e ≡ Memory) }
+{
+    match instance_with(alloc, pattern, ranks)? {
+        Some(instance) => {
+            let found = planned(alloc, instance)?;
+            Ok(Some(found))
+        }
+        None => Ok(None),
+    }
+}
+
+/// The instance with the number of ranks of each group with which something waits first, if that is known.
+#[tactic(auto, using(crate::proofs::FirstWaits::none_known))]
+fn find_later_wait(
+    alloc: Global,
+    pattern: &Pattern,
+    beyond: &Beyond,
+) -> Result<Option<FirstWait>, Fault>
+    ensures ok { IfOk result (IsLaterWaitOf pattern.now beyond.now) }
+    ensures err { IfErr result (λ e. e ≡ Memory) }
+{
+    match beyond {
+        Beyond::First(later) => later_with(alloc, pattern, later.ranks),
+        Beyond::Unsaid | Beyond::Never | Beyond::Unknown => Ok(None),
+    }
+}
+
+/// The instance in which ranks wait that is shown: the first that is judged in which one does; or, where none does in
+/// these, that with the number of ranks of each group with which one does first, if that is known.
+pub(crate) fn find_shown(
+    alloc: Global,
+    pattern: &Pattern,
+    beyond: &Beyond,
+) -> Result<Option<FirstWait>, Fault>
+    requires { total_of (most_sizes pattern.now.roles) < 2 ^ 31 }
+    ensures ok { IfOk result (IsExplainedWaitOf pattern.now beyond.now) }
+    ensures err { IfErr result (λ e. IsJudgeFault pattern.now e) }
+{
+    match find_first_wait(alloc, pattern)? {
+        Some(found) => Ok(Some(found)),
+        None => {
+            let found = find_later_wait(alloc, pattern, beyond)?;
+            Ok(found)
+        }
+    }
 }

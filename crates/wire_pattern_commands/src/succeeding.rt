@@ -5,6 +5,7 @@ ghost use Rattle.std.specs.List.{list_all};
 ghost use Rattle.wire_types.specs.declared.Fault.TheVariants.{Memory};
 ghost use Rattle.wire_types.specs.Texts.{lists_of};
 ghost use Rattle.wire_scripts.specs.Placed.{placed};
+ghost use Rattle.wire_scripts.specs.Scripts.{Scripts as ScriptsSpec};
 ghost use Rattle.wire_reader.specs.declared.Size.TheVariants.{OfVersion};
 ghost use Rattle.wire_reader.specs.Reads.{Reads};
 ghost use Rattle.wire_pattern.specs.Instances.{instance_text};
@@ -23,7 +24,7 @@ use wire_cutoff::{Selection, all_selections, cast_for, instance_scripts};
 use wire_instances::Cast;
 use wire_pattern::Pattern;
 use wire_plan::Plan;
-use wire_reader::reads_once;
+use wire_reader::{Size, read_sized, reads_once};
 use wire_scripts::Scripts;
 use wire_types::{CallEnd, Fault, Status};
 
@@ -92,15 +93,29 @@ fn together_succeed(alloc: Global, scripts: Scripts) -> Result<bool, Fault>
     Ok(succeed)
 }
 
-/// The scripts of an instance.
-fn scripts_of(alloc: Global, pattern: &Pattern, cast: &Cast) -> Result<Scripts, Fault>
-    requires { IsFewCast pattern.now (cast_by cast.now) }
-    ensures ok { IfOk result (λ s. Reads OfVersion (instance_text pattern.now (cast_by cast.now)) (Ok s)) }
-    ensures err { IfErr result (λ e. IsJudgeFault pattern.now e) }
+/// The scripts that a text reads as which has been read.
+fn read_again(alloc: Global, text: &[u8]) -> Result<Scripts, Fault>
+    requires { (scripts : ScriptsSpec) × Reads OfVersion text.now (Ok scripts) }
+    ensures ok { IfOk result (λ s. Reads OfVersion text.now (Ok s)) }
+    ensures err { IfErr result (λ e. e ≡ Memory) }
 {
-    let (text, scripts) = instance_scripts(alloc, pattern, cast)?;
-    drop(text);
+    reads_once();
+    let scripts = read_sized(alloc, Size::OfVersion, text)?;
     Ok(scripts)
+}
+
+/// Whether every call of scripts succeeds on the nodes where the processes are, and with all of them on one. The text is
+/// what reads as these scripts.
+fn both_succeed(alloc: Global, text: &[u8], scripts: Scripts) -> Result<bool, Fault>
+    requires { Reads OfVersion text.now (Ok scripts) }
+    ensures ok { IfOk result (λ b. b ≡ spec.succeed_on_both scripts) }
+    ensures err { IfErr result (λ e. e ≡ Memory) }
+{
+    reads_once();
+    let apart = scripts_succeed(alloc, scripts)?;
+    let scripts = read_again(alloc, text)?;
+    let together = together_succeed(alloc, scripts)?;
+    Ok(apart && together)
 }
 
 /// Whether every call of an instance succeeds, on the nodes where its processes are and with all of them on one.
@@ -109,12 +124,9 @@ fn instance_succeeds(alloc: Global, pattern: &Pattern, cast: &Cast) -> Result<bo
     ensures ok { IfOk result (λ b. IsCastTold pattern.now (cast_by cast.now) b) }
     ensures err { IfErr result (λ e. IsJudgeFault pattern.now e) }
 {
-    reads_once();
-    let scripts = scripts_of(alloc, pattern, cast)?;
-    let apart = scripts_succeed(alloc, scripts)?;
-    let scripts = scripts_of(alloc, pattern, cast)?;
-    let together = together_succeed(alloc, scripts)?;
-    Ok(apart && together)
+    let (text, scripts) = instance_scripts(alloc, pattern, cast)?;
+    let succeed = both_succeed(alloc, text.as_slice(), scripts)?;
+    Ok(succeed)
 }
 
 /// Whether every call of the instance of a selection does.

@@ -1,7 +1,7 @@
 -- The instance with as many processes of each group, and where its processes wait.
-use Rattle.std.proofs.Common.{◌≡◌, ◌≢◌, ◌∙◌, ap, sym, subst, refl, ℕ, zero, suc, ◌+◌, ◌<◌, ◌≤◌, ◌^◌, List, [], ◌∷◌, Bool, true, length, map, Option, Some, None, Ok, Err, Result, ◌↔◌, inl, inr, nat_lt, add-zero, arith, if◌then◌else◌}
-use Rattle.std.specs.Prelude.{slice_get, slice_index_or, take, ◌⊎◌, ◌==◌, IfOk, IfSome}
-use Rattle.std.proofs.lemmas.Bool.{cases_eq, eqb-true, lt-ltb}
+use Rattle.std.proofs.Common.{◌≡◌, ◌≢◌, ◌∙◌, ap, sym, subst, refl, ℕ, zero, suc, ◌+◌, ◌<◌, ◌≤◌, ◌^◌, List, [], ◌∷◌, Bool, true, false, length, map, Option, Some, None, Ok, Err, Result, ◌↔◌, inl, inr, nat_lt, add-zero, arith, if◌then◌else◌}
+use Rattle.std.specs.Prelude.{slice_get, slice_index_or, take, ◌⊎◌, ◌==◌, IfOk, IfSome, MatchOption}
+use Rattle.std.proofs.lemmas.Bool.{cases_eq, eqb-true, lt-ltb, true≢false}
 use Rattle.std.specs.List.{range_with_len, list_all}
 use Rattle.std.proofs.lemmas.List.{length-map}
 use Rattle.std.proofs.lemmas.List.FromFn.{length-range_with_len}
@@ -22,8 +22,9 @@ use Rattle.wire_pattern_waits.specs.declared.lines.CallLine.{CallLine}
 use Rattle.wire_pattern_waits.specs.LineSets.{has_line}
 use Rattle.wire_pattern_waits.specs.Stops.{StuckAt}
 use Rattle.wire_reader.specs.Limits.{file_bytes}
-use Rattle.wire_reader.proofs.Limited.{reads_limited}
-use Rattle.wire_pattern_later.specs.Later.{sizes_with, grown, StopsWith, IsReadWith, AreWaitingWith, AreLater, NoneBelow, IsNoneLater, IsPastLimits}
+use Rattle.wire_reader.proofs.Limited.{reads_limited, whole_read}
+use Rattle.wire_pattern_later.specs.Later.{sizes_with, grown, StopsWith, IsReadWith, AreWaitingWith, AreLater, NoneBelow, IsNoneLater, IsPastLimits, IsInstanceWith}
+use Rattle.wire_pattern_later.specs.declared.later.Instance.{Instance}
 use Rattle.wire_pattern_later.specs.Through.{first_size, last_size}
 
 counted : (xs : List ℕ) (a n : ℕ) → length xs ≡ n → ((v : ℕ) → v < n → slice_index_or xs v 0 ≡ a + v) → xs ≡ range_with_len a n
@@ -90,6 +91,14 @@ waits_grown p n cast scripts noted once is reads told role line = (to, from)
 pub read_grown : (p : Pattern) (n : ℕ) (cast : spec.Cast) (scripts : Scripts) → cast ≡ grown p n → Reads OfVersion (instance_text p cast) (Ok scripts) → IsReadWith p n
 read_grown p n cast scripts is reads = (scripts, subst (λ c. Reads OfVersion (instance_text p c) (Ok scripts)) is reads)
 
+-- what is noted from nothing on
+pub noted_first : (old new : Bool) (those : Type 0) → old ≡ false → (new ≡ true) ↔ ((old ≡ true) ⊎ those) → (new ≡ true) ↔ those
+noted_first old new those none both = ((λ h. to (both.0 h)), λ x. both.1 (inr x))
+  where
+    to : (old ≡ true) ⊎ those → those
+    to (inl h) = absurd (true≢false (sym h ∙ none))
+    to (inr x) = x
+
 -- a text that doesn't read as a plan is past the limits
 pub unread_grown : (p : Pattern) (n : ℕ) (cast : spec.Cast) (fault : Fault) → cast ≡ grown p n → Reads OfVersion (instance_text p cast) (Err fault) → IsPastLimits p n
 unread_grown p n cast fault is reads = inr (inr (fault, subst (λ c. Reads OfVersion (instance_text p c) (Err fault)) is reads))
@@ -141,6 +150,12 @@ pub reads_text : (p : Pattern) (cast : spec.Cast) (now text : List ℕ) (r : Res
     → text ≡ take (file_bytes OfVersion + 1) (instance_text p cast) → Reads OfVersion now r → Reads OfVersion (instance_text p cast) r
 reads_text p cast now text r is was reads = front_reads p cast now r (is ∙ was) reads
 
+-- all of it is written where it reads as scripts
+pub text_whole : (p : Pattern) (cast : spec.Cast) (now text : List ℕ) (scripts : Scripts) → now ≡ text
+    → text ≡ take (file_bytes OfVersion + 1) (instance_text p cast) → Reads OfVersion now (Ok scripts) → text ≡ instance_text p cast
+text_whole p cast now text scripts is was reads =
+    was ∙ whole_read OfVersion (instance_text p cast) scripts (reads_text p cast now text (Ok scripts) is was reads)
+
 -- a text that isn't read, not for want of memory
 pub none_read : (p : Pattern) (cast : spec.Cast) (now text : List ℕ) (fault : Fault) → fault ≢ Memory → now ≡ text
     → text ≡ take (file_bytes OfVersion + 1) (instance_text p cast) → (fault ≡ Memory) ⊎ Reads OfVersion now (Err fault)
@@ -156,3 +171,15 @@ nothing_read those (Err e) is = tt
 pub none_there : {A : Type 0} (xs : List A) → (length xs == 0) ≡ true → xs ≡ []
 none_there [] h = refl
 none_there (x ∷ xs) h = absurd (omega (arith, eqb-true (length (x ∷ xs)) 0 h))
+
+-- the instance with so many processes, or none where that is past the limits
+pub instance_told : (p : Pattern) (n : ℕ) (cast : spec.Cast) (found : Option Instance) → cast ≡ grown p n → IfSome found (λ it. it.sizes.items ≡ cast.sizes)
+    → IfSome found (λ it. it.text.items ≡ instance_text p cast) → IfSome found (λ it. Reads OfVersion (instance_text p cast) (Ok it.scripts))
+    → (found ≡ None → (fault : Fault) × Reads OfVersion (instance_text p cast) (Err fault))
+    → MatchOption found (IsPastLimits p n) (λ it. IsInstanceWith p n it.sizes.items it.text.items it.scripts)
+instance_told p n cast None is sizes text reads none = let unread = none refl in unread_grown p n cast unread.0 is unread.1
+instance_told p n cast (Some it) is sizes text reads none = record {
+  sizes_are = sizes ∙ ap (λ (c : spec.Cast). c.sizes) is;
+  text_is = text ∙ ap (instance_text p) is;
+  reads = subst (λ t. Reads OfVersion t (Ok it.scripts)) (sym text) reads;
+}

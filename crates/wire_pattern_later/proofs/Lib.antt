@@ -1,4 +1,3 @@
 mod Loops
 mod Grown
-mod Noted
 mod Written

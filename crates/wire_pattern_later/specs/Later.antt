@@ -45,6 +45,12 @@ pub record AreWaitingWith (p : Pattern) (n : ℕ) (lines : List CallLine) : Type
   pub tells : (role line : ℕ) → (waits role line ≡ true) ↔ StopsWith p n role line
   pub are : lines ≡ filter (λ line. waits line.role line.number) (call_lines p)
 
+-- the instance with n processes of each group: how many each role has, its text, and what that reads as
+pub record IsInstanceWith (p : Pattern) (n : ℕ) (sizes text : List ℕ) (scripts : Scripts) : Type 0 where
+  pub sizes_are : sizes ≡ sizes_with n p.roles
+  pub text_is : text ≡ instance_text p (grown p n)
+  pub reads : Reads OfVersion text (Ok scripts)
+
 -- so many processes are too many, or the text of the instance doesn't read as a plan
 abbrev pub IsPastLimits : Pattern → ℕ → Type 0
 IsPastLimits p n =

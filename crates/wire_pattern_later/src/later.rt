@@ -1,6 +1,6 @@
 //! Where something waits first in larger instances.
 
-ghost use Rattle.std.specs.Prelude.{◌≡◌, ◌≢◌, ◌<◌, ◌≤◌, ◌^◌, ◌↔◌, true, ℕ, Ok, Err, None, IfOk, IfErr, IfSome, map};
+ghost use Rattle.std.specs.Prelude.{◌≡◌, ◌≢◌, ◌<◌, ◌≤◌, ◌^◌, ◌↔◌, true, ℕ, Ok, Err, None, IfOk, IfErr, IfSome, MatchOption, map};
 ghost use Rattle.wire_types.specs.declared.Fault.{Fault as FaultSpec};
 ghost use Rattle.wire_types.specs.declared.Fault.TheVariants.{Memory};
 ghost use Rattle.wire_reader.specs.declared.Size.TheVariants.{OfVersion};
@@ -10,16 +10,15 @@ ghost use Rattle.wire_pattern.specs.Views.{role_by};
 ghost use Rattle.wire_instances.specs.Views.{cast_by};
 ghost use Rattle.wire_cutoff_laws.specs.Sizes.{total_of};
 ghost use Rattle.wire_pattern_waits.specs.LineSets.{has_line};
+ghost use Rattle.wire_pattern_waits.specs.Stops.{StuckAt};
 ghost use Rattle.wire_pattern_later.specs.Later as spec;
-ghost use Rattle.wire_pattern_later.specs.Later.{AreLater, AreWaitingWith, IsNoneLater, IsPastLimits, IsReadWith, StopsWith};
+ghost use Rattle.wire_pattern_later.specs.Later.{AreLater, AreWaitingWith, IsInstanceWith, IsNoneLater, IsPastLimits, IsReadWith, StopsWith};
 
-use crate::listing::noted_lines;
-use crate::noting::waits_of;
 use crate::through::{end_size, first_size};
 use std::alloc::{AllocError, Global};
 use wire_instances::{Cast, all_alone, process_total, write_front};
 use wire_pattern::{Pattern, Role};
-use wire_pattern_waits::{CallLine, LineSet};
+use wire_pattern_waits::{CallLine, LineSet, ends_of_run, note_waits, noted_lines};
 use wire_reader::{Size, read_sized, reads_once};
 use wire_scripts::Scripts;
 use wire_types::Fault;
@@ -29,6 +28,14 @@ use wire_types::Fault;
 pub struct Later {
     pub ranks: u32,
     pub lines: Vec<CallLine>,
+}
+
+/// An instance: how many processes each role has, its text, and what that reads as.
+#[derive(Drop)]
+pub struct Instance {
+    pub sizes: Vec<u32>,
+    pub text: Vec<u8>,
+    pub scripts: Scripts,
 }
 
 /// So many processes of each group, and one of each single role.
@@ -62,7 +69,7 @@ fn grown(alloc: Global, pattern: &Pattern, ranks: u32) -> Result<Option<Cast>, A
 }
 
 /// Nothing, where a text has this fault; a fault of memory says nothing about the text.
-fn unread(fault: Fault) -> Result<Option<Scripts>, Fault>
+fn unread(fault: Fault) -> Result<Option<Instance>, Fault>
     ensures ok { IfOk result (λ r. r ≡ None) }
     ensures none { result ≡ Ok None → fault ≢ Memory }
     ensures err { IfErr result (λ e. e ≡ Memory) }
@@ -73,18 +80,65 @@ fn unread(fault: Fault) -> Result<Option<Scripts>, Fault>
     }
 }
 
-/// The scripts of an instance, by its text; none where that doesn't read as a plan.
-fn scripts_of(alloc: Global, pattern: &Pattern, cast: &Cast) -> Result<Option<Scripts>, Fault>
+/// The instance of a cast; none where its text doesn't read as a plan.
+fn instance_of(alloc: Global, pattern: &Pattern, cast: &Cast) -> Result<Option<Instance>, Fault>
     requires { IsCast pattern.now (cast_by cast.now) }
-    ensures ok { IfOk result (λ r. IfSome r (λ s. Reads OfVersion (instance_text pattern.now (cast_by cast.now)) (Ok s))) }
+    ensures sizes { IfOk result (λ r. IfSome r (λ it. it.sizes.items ≡ (cast_by cast.now).sizes)) }
+    ensures text { IfOk result (λ r. IfSome r (λ it. it.text.items ≡ instance_text pattern.now (cast_by cast.now))) }
+    ensures reads { IfOk result (λ r. IfSome r (λ it. Reads OfVersion (instance_text pattern.now (cast_by cast.now)) (Ok it.scripts))) }
     ensures none { result ≡ Ok None → (fault : FaultSpec) × Reads OfVersion (instance_text pattern.now (cast_by cast.now)) (Err fault) }
     ensures err { IfErr result (λ e. e ≡ Memory) }
 {
+    let sizes = Vec::from_slice(alloc, cast.sizes.as_slice())?;
     let text = write_front(alloc, pattern, cast, Size::OfVersion.file_bytes() + 1)?;
     match read_sized(alloc, Size::OfVersion, text.as_slice()) {
-        Ok(scripts) => Ok(Some(scripts)),
+        Ok(scripts) => Ok(Some(Instance {
+            sizes,
+            text,
+            scripts,
+        })),
         Err(fault) => unread(fault),
     }
+}
+
+/// The instance with so many processes of each group, each on a node of its own, with all turns; none where that is past
+/// the limits of a plan.
+pub fn instance_with(
+    alloc: Global,
+    pattern: &Pattern,
+    ranks: u32,
+) -> Result<Option<Instance>, Fault>
+    ensures ok { IfOk result (λ r. MatchOption r (IsPastLimits pattern.now ranks)
+        (λ it. IsInstanceWith pattern.now ranks it.sizes.items it.text.items it.scripts)) }
+    ensures err { IfErr result (λ e. e ≡ Memory) }
+{
+    let Some(cast) = grown(alloc, pattern, ranks)? else {
+        return Ok(None);
+    };
+    let found = instance_of(alloc, pattern, &cast)?;
+    Ok(found)
+}
+
+/// The call lines at which the processes of this instance wait: these, and no others.
+fn waits_of(
+    alloc: Global,
+    pattern: &Pattern,
+    cast: &Cast,
+    instance: Instance,
+) -> Result<LineSet, Fault>
+    requires { IsCast pattern.now (cast_by cast.now) }
+    ensures ok { IfOk result (λ v. (role line : ℕ) → (has_line v role line ≡ true) ↔ StuckAt pattern.now (cast_by cast.now) instance.scripts role line) }
+    ensures err { IfErr result (λ e. e ≡ Memory) }
+{
+    let Instance {
+        sizes: _,
+        text: _,
+        scripts,
+    } = instance;
+    let outcome = ends_of_run(alloc, scripts)?;
+    let mut noted = LineSet::new(alloc);
+    note_waits(&mut noted, alloc, pattern, cast, outcome.rows.as_slice())?;
+    Ok(noted)
 }
 
 /// The call lines at which something waits in this instance: these, and no others. None where its text doesn't read as
@@ -103,10 +157,10 @@ fn waits_there(
     ensures err { IfErr result (λ e. e ≡ Memory) }
 {
     reads_once();
-    let Some(scripts) = scripts_of(alloc, pattern, cast)? else {
+    let Some(instance) = instance_of(alloc, pattern, cast)? else {
         return Ok(None);
     };
-    let noted = waits_of(alloc, pattern, cast, scripts)?;
+    let noted = waits_of(alloc, pattern, cast, instance)?;
     Ok(Some(noted))
 }
 

@@ -2,10 +2,8 @@
 #![tactic(auto)]
 
 mod later;
-mod listing;
-mod noting;
 mod text;
 mod through;
 
-pub use later::{Later, later_lines};
+pub use later::{Instance, Later, instance_with, later_lines};
 pub use text::write_later;

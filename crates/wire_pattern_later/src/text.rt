@@ -1,30 +1,11 @@
 //! The lines that tell where something waits first with more ranks.
 
 ghost use Rattle.std.specs.Prelude.{◌≡◌, ◌++◌, OnOk};
-ghost use Rattle.wire_types.specs.Verbs as verbs;
 ghost use Rattle.wire_pattern_later.specs.Later as spec;
 
 use std::alloc::AllocError;
 use wire_pattern::Pattern;
-use wire_pattern_waits::{CallLine, write_number, write_role};
-use wire_types::Verb;
-
-/// How a verb is spelled.
-fn text_of_verb(verb: Verb) -> &'static str
-    ensures { result.now ≡ verbs.text_of_verb verb }
-{
-    match verb {
-        Verb::Put => "put",
-        Verb::Commit => "commit",
-        Verb::Get => "get",
-        Verb::GetNow => "get-now",
-        Verb::Fence => "fence",
-        Verb::Publish => "publish",
-        Verb::Lookup => "lookup",
-        Verb::LookupWait => "lookup-wait",
-        Verb::Unpublish => "unpublish",
-    }
-}
+use wire_pattern_waits::{CallLine, text_of_verb, write_number, write_role};
 
 /// Appends that something waits at a call line first with so many processes of each group.
 fn write_line(

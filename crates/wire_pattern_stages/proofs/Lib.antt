@@ -2,3 +2,4 @@ mod Lists
 mod Sources
 mod Kept
 mod Swept
+mod Seen

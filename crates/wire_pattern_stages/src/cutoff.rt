@@ -1,6 +1,6 @@
-//! Whether all instances that are judged keep stages.
+//! What the instances that are judged show: at which call lines something waits, and whether they keep stages.
 
-ghost use Rattle.std.specs.Prelude.{◌≡◌, ◌<◌, ◌^◌, true, IfOk, IfErr, IfSome, map};
+ghost use Rattle.std.specs.Prelude.{◌≡◌, ◌↔◌, ◌⊎◌, ◌<◌, ◌^◌, [], ℕ, true, OnOk, IfOk, IfErr, map};
 ghost use Rattle.wire_types.specs.declared.Fault.TheVariants.{Memory};
 ghost use Rattle.wire_scripts.specs.Planned.{plan_of};
 ghost use Rattle.wire_pattern.specs.Instances.{IsCast, cast_of};
@@ -11,6 +11,10 @@ ghost use Rattle.wire_cutoff.specs.Selections.{selections, most_sizes};
 ghost use Rattle.wire_cutoff.specs.Views.{selection_by};
 ghost use Rattle.wire_cutoff_laws.specs.Sizes as counted;
 ghost use Rattle.wire_cutoff_laws.specs.Sizes.{AreFewSizes};
+ghost use Rattle.wire_pattern_waits.specs.LineSets.{has_line};
+ghost use Rattle.wire_pattern_waits.specs.Stops.{StuckAt};
+ghost use Rattle.wire_pattern_waits.specs.Waits.{AllReadAsPlans, AllReplied, AreWaiting, ReadsAsPlan, StopsIn, Waits};
+ghost use Rattle.wire_size_laws.specs.Stages.{Stages as StagesSpec};
 ghost use Rattle.wire_reply_laws.specs.Kept.{KeepsStages};
 ghost use Rattle.wire_reply_laws.specs.Promised.{AllStaged};
 ghost use Rattle.wire_pattern_stages.specs.Views.{stages_by};
@@ -18,17 +22,42 @@ ghost use Rattle.wire_pattern_stages.specs.Staged.{SelectionKeeps};
 
 use crate::instance::{View, is_plan_right};
 use crate::labels::all_labels;
-use crate::search::search_stages;
+use crate::last::last_stages;
 use crate::stage::Stages;
 use std::alloc::{AllocError, Global};
+use wire_core::plain_outcome;
 use wire_cutoff::{Selection, all_selections, cast_for, instance_scripts};
+use wire_instance_laws::laws::instances_read;
 use wire_instances::Cast;
 use wire_pattern::Pattern;
-use wire_pattern_waits::process_roles;
+use wire_pattern_waits::{CallLine, LineSet, note_waits, noted_lines, process_roles};
 use wire_plan::Plan;
 use wire_reader::reads_once;
 use wire_scripts::Scripts;
 use wire_types::Fault;
+
+/// At which call lines something waits in the instances that are judged, and whether all of them are known to keep the
+/// same stages.
+#[derive(Drop)]
+pub struct Waiting {
+    pub lines: Vec<CallLine>,
+    pub staged: bool,
+}
+
+/// What is asked of an instance of a pattern: whether it keeps these stages, unless that isn't asked any more.
+#[derive(Clone, Copy)]
+struct Question<'a> {
+    pattern: &'a Pattern,
+    stages: &'a Stages,
+    asked: bool,
+}
+
+/// What is seen of instances: the call lines at which something waits, and whether all keep the stages.
+#[derive(Drop)]
+struct Seen {
+    noted: LineSet,
+    kept: bool,
+}
 
 /// Whether the plan of an instance keeps stages.
 fn plan_keeps(
@@ -53,171 +82,165 @@ fn plan_keeps(
     Ok(is_plan_right(&view))
 }
 
-/// Whether the plan that these scripts are keeps stages.
-fn scripts_keep(
+/// Whether it does, if that is asked.
+fn keeps_asked(
     alloc: Global,
-    pattern: &Pattern,
-    cast: &Cast,
-    stages: &Stages,
-    scripts: Scripts,
-) -> Result<bool, Fault>
-    requires { IsCast pattern.now (cast_by cast.now) }
-    ensures ok { IfOk result (λ kept. kept ≡ true
-        → KeepsStages (stages_by stages.now) (pattern_of pattern.now) (cast_of (cast_by cast.now)) (plan_of scripts)) }
-    ensures err { IfErr result (λ e. e ≡ Memory) }
-{
-    let plan = Plan::build(alloc, scripts)?;
-    let kept = plan_keeps(alloc, pattern, cast, stages, &plan);
-    drop(plan);
-    let kept = kept?;
-    Ok(kept)
-}
-
-/// Whether the instance of a selection keeps stages.
-fn selection_keeps(
-    alloc: Global,
-    pattern: &Pattern,
-    stages: &Stages,
-    selection: &Selection,
-) -> Result<bool, Fault>
-    requires sizes { AreFewSizes pattern.now.roles selection.now.sizes.items }
-    requires few { counted.total_of selection.now.sizes.items < 2 ^ 31 }
-    ensures ok { IfOk result (λ kept. kept ≡ true → SelectionKeeps pattern.now (stages_by stages.now) (selection_by selection.now)) }
-    ensures err { IfErr result (λ e. IsJudgeFault pattern.now e) }
-{
-    reads_once();
-    let cast = cast_for(alloc, pattern, selection)?;
-    let (text, scripts) = instance_scripts(alloc, pattern, &cast)?;
-    drop(text);
-    let kept = scripts_keep(alloc, pattern, &cast, stages, scripts)?;
-    Ok(kept)
-}
-
-/// Whether the instance of each of these selections keeps stages.
-fn all_keep(
-    alloc: Global,
-    pattern: &Pattern,
-    stages: &Stages,
-    all: &[Selection],
-) -> Result<bool, Fault>
-    requires all { map selection_by all.now ≡ selections pattern.now }
-    requires few { counted.total_of (most_sizes pattern.now.roles) < 2 ^ 31 }
-    ensures ok { IfOk result (λ kept. kept ≡ true → AllStaged pattern.now (stages_by stages.now)) }
-    ensures err { IfErr result (λ e. IsJudgeFault pattern.now e) }
-{
-    for selection in all {
-        let kept = selection_keeps(alloc, pattern, stages, selection)?;
-        if !kept {
-            return Ok(false);
-        }
-    }
-    Ok(true)
-}
-
-/// Whether all instances that are judged keep stages. If it says so, and nothing is found and no call waits in them, no
-/// call waits for ever in any instance, with any number of processes (`all_answered` in `wire_reply_laws`).
-pub fn keeps_stages(alloc: Global, pattern: &Pattern, stages: &Stages) -> Result<bool, Fault>
-    requires { counted.total_of (most_sizes pattern.now.roles) < 2 ^ 31 }
-    ensures ok { IfOk result (λ kept. kept ≡ true → AllStaged pattern.now (stages_by stages.now)) }
-    ensures err { IfErr result (λ e. IsJudgeFault pattern.now e) }
-{
-    let all = all_selections(alloc, pattern)?;
-    let kept = all_keep(alloc, pattern, stages, all.as_slice())?;
-    Ok(kept)
-}
-
-/// Stages that the plan of an instance may keep, or none where none are found.
-fn plan_stages(
-    alloc: Global,
-    pattern: &Pattern,
+    question: &Question,
     cast: &Cast,
     plan: &Plan,
-) -> Result<Option<Stages>, AllocError>
-    requires { IsCast pattern.now (cast_by cast.now) }
+) -> Result<bool, AllocError>
+    requires { IsCast question.now.pattern.now (cast_by cast.now) }
+    ensures { IfOk result (λ kept. kept ≡ true → (question.now.asked ≡ true) × KeepsStages (stages_by question.now.stages.now)
+        (pattern_of question.now.pattern.now) (cast_of (cast_by cast.now)) (plan_of plan.now)) }
 {
-    let roles = process_roles(alloc, pattern, cast)?;
-    let labels = all_labels(alloc, pattern, cast, roles.as_slice())?;
-    search_stages(alloc, pattern, plan, roles.as_slice(), labels.as_slice())
+    if !question.asked {
+        return Ok(false);
+    }
+    let kept = plan_keeps(alloc, question.pattern, cast, question.stages, plan)?;
+    Ok(kept)
 }
 
-/// The same of the plan that these scripts are.
-fn scripts_stages(
+/// Notes the call lines at which the processes of an instance wait that is this plan. Answers whether it keeps the stages.
+fn see_plan(
+    noted: &mut LineSet,
     alloc: Global,
-    pattern: &Pattern,
+    question: &Question,
+    cast: &Cast,
+    plan: &Plan,
+) -> Result<bool, Fault>
+    requires { IsCast question.now.pattern.now (cast_by cast.now) }
+    ensures waits { OnOk result ((role line : ℕ) → (has_line noted.new role line ≡ true)
+        ↔ ((has_line noted.old role line ≡ true) ⊎ StuckAt question.now.pattern.now (cast_by cast.now) plan.now role line)) }
+    ensures kept { IfOk result (λ kept. kept ≡ true → (question.now.asked ≡ true) × KeepsStages (stages_by question.now.stages.now)
+        (pattern_of question.now.pattern.now) (cast_of (cast_by cast.now)) (plan_of plan.now)) }
+    ensures err { IfErr result (λ e. e ≡ Memory) }
+{
+    let outcome = plain_outcome(alloc, plan)?;
+    note_waits(
+        noted,
+        alloc,
+        question.pattern,
+        cast,
+        outcome.rows.as_slice(),
+    )?;
+    let kept = keeps_asked(alloc, question, cast, plan)?;
+    Ok(kept)
+}
+
+/// The same of an instance that reads as these scripts.
+fn see_scripts(
+    noted: &mut LineSet,
+    alloc: Global,
+    question: &Question,
     cast: &Cast,
     scripts: Scripts,
-) -> Result<Option<Stages>, Fault>
-    requires { IsCast pattern.now (cast_by cast.now) }
+) -> Result<bool, Fault>
+    requires { IsCast question.now.pattern.now (cast_by cast.now) }
+    ensures waits { OnOk result ((role line : ℕ) → (has_line noted.new role line ≡ true)
+        ↔ ((has_line noted.old role line ≡ true) ⊎ StuckAt question.now.pattern.now (cast_by cast.now) scripts role line)) }
+    ensures kept { IfOk result (λ kept. kept ≡ true → (question.now.asked ≡ true) × KeepsStages (stages_by question.now.stages.now)
+        (pattern_of question.now.pattern.now) (cast_of (cast_by cast.now)) (plan_of scripts)) }
     ensures err { IfErr result (λ e. e ≡ Memory) }
 {
     let plan = Plan::build(alloc, scripts)?;
-    let found = plan_stages(alloc, pattern, cast, &plan);
+    let kept = see_plan(noted, alloc, question, cast, &plan);
     drop(plan);
-    let found = found?;
-    Ok(found)
+    kept
 }
 
 /// The same of the instance of a selection.
-fn selection_stages(
+fn see_selection(
+    noted: &mut LineSet,
     alloc: Global,
-    pattern: &Pattern,
+    question: &Question,
     selection: &Selection,
-) -> Result<Option<Stages>, Fault>
-    requires sizes { AreFewSizes pattern.now.roles selection.now.sizes.items }
+) -> Result<bool, Fault>
+    requires sizes { AreFewSizes question.now.pattern.now.roles selection.now.sizes.items }
     requires few { counted.total_of selection.now.sizes.items < 2 ^ 31 }
-    ensures err { IfErr result (λ e. IsJudgeFault pattern.now e) }
+    ensures waits { OnOk result ((role line : ℕ) → (has_line noted.new role line ≡ true)
+        ↔ ((has_line noted.old role line ≡ true) ⊎ StopsIn question.now.pattern.now (selection_by selection.now) role line)) }
+    ensures read { OnOk result (ReadsAsPlan question.now.pattern.now (selection_by selection.now)) }
+    ensures kept { IfOk result (λ kept. kept ≡ true → (question.now.asked ≡ true)
+        × SelectionKeeps question.now.pattern.now (stages_by question.now.stages.now) (selection_by selection.now)) }
+    ensures err { IfErr result (λ e. IsJudgeFault question.now.pattern.now e) }
 {
-    let cast = cast_for(alloc, pattern, selection)?;
-    let (text, scripts) = instance_scripts(alloc, pattern, &cast)?;
+    reads_once();
+    let cast = cast_for(alloc, question.pattern, selection)?;
+    let (text, scripts) = instance_scripts(alloc, question.pattern, &cast)?;
     drop(text);
-    let found = scripts_stages(alloc, pattern, &cast, scripts)?;
-    Ok(found)
+    let kept = see_scripts(noted, alloc, question, &cast, scripts)?;
+    Ok(kept)
 }
 
-/// The same of the last of these selections: the one with the most processes, and with all turns.
-fn last_stages(alloc: Global, pattern: &Pattern, all: &[Selection]) -> Result<Option<Stages>, Fault>
-    requires all { map selection_by all.now ≡ selections pattern.now }
-    requires few { counted.total_of (most_sizes pattern.now.roles) < 2 ^ 31 }
-    ensures err { IfErr result (λ e. IsJudgeFault pattern.now e) }
+/// What is seen of the instances of all selections.
+fn see_all(alloc: Global, question: &Question, all: &[Selection]) -> Result<Seen, Fault>
+    requires all { map selection_by all.now ≡ selections question.now.pattern.now }
+    requires few { counted.total_of (most_sizes question.now.pattern.now.roles) < 2 ^ 31 }
+    ensures waits { IfOk result (λ s. (role line : ℕ) → (has_line s.noted role line ≡ true) ↔ Waits question.now.pattern.now role line) }
+    ensures read { IfOk result (λ s. AllReadAsPlans question.now.pattern.now) }
+    ensures kept { IfOk result (λ s. s.kept ≡ true → AllStaged question.now.pattern.now (stages_by question.now.stages.now)) }
+    ensures err { IfErr result (λ e. IsJudgeFault question.now.pattern.now e) }
 {
-    if all.len() == 0 {
-        return Ok(None);
+    let mut noted = LineSet::new(alloc);
+    let mut kept = question.asked;
+    for selection in all {
+        let now = Question {
+            pattern: question.pattern,
+            stages: question.stages,
+            asked: kept,
+        };
+        kept = see_selection(&mut noted, alloc, &now, selection)?;
     }
-    let found = selection_stages(alloc, pattern, &all[all.len() - 1])?;
-    Ok(found)
+    Ok(Seen { noted, kept })
 }
 
-/// These stages, if the instance of each of these selections keeps them.
-fn stages_kept(
+/// The same, with stages that were found, if any were.
+fn see_with(
     alloc: Global,
     pattern: &Pattern,
-    stages: Stages,
+    found: Option<Stages>,
     all: &[Selection],
-) -> Result<Option<Stages>, Fault>
+) -> Result<Seen, Fault>
     requires all { map selection_by all.now ≡ selections pattern.now }
     requires few { counted.total_of (most_sizes pattern.now.roles) < 2 ^ 31 }
-    ensures ok { IfOk result (λ found. IfSome found (λ s. AllStaged pattern.now (stages_by s))) }
+    ensures waits { IfOk result (λ s. (role line : ℕ) → (has_line s.noted role line ≡ true) ↔ Waits pattern.now role line) }
+    ensures read { IfOk result (λ s. AllReadAsPlans pattern.now) }
+    ensures kept { IfOk result (λ s. s.kept ≡ true → (stages : StagesSpec) × AllStaged pattern.now stages) }
     ensures err { IfErr result (λ e. IsJudgeFault pattern.now e) }
 {
-    let kept = all_keep(alloc, pattern, &stages, all)?;
-    if !kept {
-        return Ok(None);
-    }
-    Ok(Some(stages))
+    let asked = found.is_some();
+    let stages = Stages::or_none(alloc, found);
+    let question = Question {
+        pattern,
+        stages: &stages,
+        asked,
+    };
+    let seen = see_all(alloc, &question, all)?;
+    Ok(seen)
 }
 
-/// Stages that all instances that are judged keep; none where the search finds none that they do. Where there are some,
-/// and nothing is found and no call waits in these instances, no call waits for ever in any instance, with any number of
+/// The call lines of a pattern at which something waits, in the order of roles and lines: in the instance of some
+/// selection a process stands there where the plain run can't go on. The text of each of these instances reads as a
+/// plan; and if there is no such line, every call of them has its reply. Whether stages were found that all of them keep:
+/// then, if nothing is found and no call waits in them, no call waits for ever in any instance, with any number of
 /// processes (`all_answered` in `wire_reply_laws`).
-pub fn stages_of(alloc: Global, pattern: &Pattern) -> Result<Option<Stages>, Fault>
+pub fn find_waiting(alloc: Global, pattern: &Pattern) -> Result<Waiting, Fault>
     requires { counted.total_of (most_sizes pattern.now.roles) < 2 ^ 31 }
-    ensures ok { IfOk result (λ found. IfSome found (λ s. AllStaged pattern.now (stages_by s))) }
+    ensures waits { IfOk result (λ w. AreWaiting pattern.now w.lines.items) }
+    ensures read { IfOk result (λ w. AllReadAsPlans pattern.now) }
+    ensures replied { IfOk result (λ w. w.lines.items ≡ [] → AllReplied pattern.now) }
+    ensures staged { IfOk result (λ w. w.staged ≡ true → (stages : StagesSpec) × AllStaged pattern.now stages) }
     ensures err { IfErr result (λ e. IsJudgeFault pattern.now e) }
 {
+    // The roles are sound, and the text of an instance has as many calls as its script says.
+    let _roles = pattern.roles();
+    instances_read();
     let all = all_selections(alloc, pattern)?;
-    let Some(stages) = last_stages(alloc, pattern, all.as_slice())? else {
-        return Ok(None);
-    };
-    let found = stages_kept(alloc, pattern, stages, all.as_slice())?;
-    Ok(found)
+    let found = last_stages(alloc, pattern, all.as_slice())?;
+    let seen = see_with(alloc, pattern, found, all.as_slice())?;
+    let lines = noted_lines(alloc, pattern, &seen.noted)?;
+    Ok(Waiting {
+        lines,
+        staged: seen.kept,
+    })
 }

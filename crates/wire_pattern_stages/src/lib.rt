@@ -1,13 +1,13 @@
-//! Stages of a pattern: an order of its lines, and within a stage of turns, in which no process waits for what comes later.
-//! Whether the instances that are judged keep given stages.
+//! At which call lines of a pattern something waits in the instances that are judged, and whether all of these keep stages:
+//! an order of the lines, and within a stage of turns, in which no process waits for what comes later.
 #![tactic(auto)]
 
 mod cutoff;
 mod instance;
 mod key;
 mod labels;
+mod last;
 mod search;
 mod stage;
 
-pub use cutoff::{keeps_stages, stages_of};
-pub use stage::{By, LineStages, Stage, Stages};
+pub use cutoff::{Waiting, find_waiting};

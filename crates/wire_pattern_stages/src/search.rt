@@ -1,4 +1,4 @@
-//! A search for stages. Nothing rests on how it searches: what it finds is judged by [`crate::keeps_stages`].
+//! A search for stages. Nothing rests on how it searches: what it finds is judged by [`crate::find_waiting`].
 
 ghost use Rattle.std.specs.Prelude.{◌<◌};
 ghost use Rattle.wire_runs.specs.Plan.{event_count};

@@ -4,10 +4,12 @@ ghost use Rattle.std.specs.Prelude.{◌≡◌};
 ghost use Rattle.wire_pattern_stages.specs.Views as spec;
 ghost use Rattle.std.specs.Prelude.{slice_get};
 
+use std::alloc::Global;
+
 /// By which process the turns of a stage come in order: by none, the caller, the one whose turn it is, or the lower or
 /// the higher of these two.
 #[derive(Clone, Copy)]
-pub enum By {
+pub(crate) enum By {
     Nothing,
     Caller,
     Other,
@@ -17,24 +19,36 @@ pub enum By {
 
 /// The stage of a line; by which processes the turns of this stage come in order; and the place of the line in a turn.
 #[derive(Clone, Copy)]
-pub struct Stage {
-    pub stage: u32,
-    pub first: By,
-    pub second: By,
-    pub place: u32,
+pub(crate) struct Stage {
+    pub(crate) stage: u32,
+    pub(crate) first: By,
+    pub(crate) second: By,
+    pub(crate) place: u32,
 }
 
 /// The stage of a line, and that of leaving its fence.
 #[derive(Clone, Copy)]
-pub struct LineStages {
-    pub enter: Stage,
-    pub leave: Stage,
+pub(crate) struct LineStages {
+    pub(crate) enter: Stage,
+    pub(crate) leave: Stage,
 }
 
 /// Of each role, step and line its stages.
 #[derive(Drop)]
-pub struct Stages {
-    pub rows: Vec<Vec<Vec<LineStages>>>,
+pub(crate) struct Stages {
+    pub(crate) rows: Vec<Vec<Vec<LineStages>>>,
+}
+
+impl Stages {
+    /// These stages, or where there are none those of no line.
+    pub(crate) fn or_none(alloc: Global, found: Option<Stages>) -> Stages {
+        match found {
+            Some(stages) => stages,
+            None => Stages {
+                rows: Vec::new(alloc),
+            },
+        }
+    }
 }
 
 /// The stages of a line that isn't there.

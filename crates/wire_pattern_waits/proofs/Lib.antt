@@ -9,3 +9,4 @@ pub mod Replied
 pub mod Leads
 pub mod AllNodes
 pub mod Pieces
+pub mod NotedToo

@@ -1,4 +1,4 @@
--- The stops of the instance of one selection.
+-- The instance of one selection, and where its processes wait.
 use Rattle.std.proofs.Common.{◌≡◌, ◌∙◌, ap, sym, subst, refl, ℕ, zero, suc, ◌+◌, ◌<◌, List, [], ◌∷◌, true, length, Ok, Err, Result, ◌↔◌, add-zero, arith}
 use Rattle.std.specs.Prelude.{slice_index_or}
 use Rattle.std.specs.List.{range_with_len}
@@ -15,8 +15,7 @@ use Rattle.wire_instances.specs.Views.{cast_by}
 use Rattle.wire_cutoff_laws.specs.Sizes.{total_of}
 use Rattle.wire_cutoff.specs.Judged.{IsFewCast}
 use Rattle.wire_cutoff.specs.Selections.{Selection, IsCastFor}
-use Rattle.wire_pattern_waits.specs.declared.stops.Stop.{Stop}
-use Rattle.wire_pattern_waits.specs.Stops.{StuckAt, is_noted}
+use Rattle.wire_pattern_waits.specs.Stops.{StuckAt}
 use Rattle.wire_pattern_waits.specs.Waits.{alone, StopsIn}
 
 counted : (xs : List ℕ) (a n : ℕ) → length xs ≡ n → ((v : ℕ) → v < n → slice_index_or xs v 0 ≡ a + v) → xs ≡ range_with_len a n
@@ -44,19 +43,18 @@ abbrev read_or : Scripts → Result Scripts Fault → Scripts
 read_or other (Ok scripts) = scripts
 read_or other (Err fault) = other
 
--- the stops of the scripts that the instance's text reads as are those of the selection
-pub stops_of_selection : (p : Pattern) (s : Selection) (cast : spec.Cast) (scripts : Scripts) (stops : List Stop) → ReadsOnce → cast ≡ alone p s
-    → Reads OfVersion (instance_text p cast) (Ok scripts) → ((role line : ℕ) → (is_noted stops role line ≡ true) ↔ StuckAt p cast scripts role line)
-    → (role line : ℕ) → (is_noted stops role line ≡ true) ↔ StopsIn p s role line
-stops_of_selection p s cast scripts stops once is reads told role line = (to, from)
+-- where a process waits in the instance's scripts is where one does in the selection
+pub selection_stops : (p : Pattern) (s : Selection) (cast : spec.Cast) (scripts : Scripts) → ReadsOnce → cast ≡ alone p s
+    → Reads OfVersion (instance_text p cast) (Ok scripts) → (role line : ℕ) → StuckAt p cast scripts role line ↔ StopsIn p s role line
+selection_stops p s cast scripts once is reads role line = (to, from)
   where
     read_alone : Reads OfVersion (instance_text p (alone p s)) (Ok scripts)
     read_alone = subst (λ c. Reads OfVersion (instance_text p c) (Ok scripts)) is reads
 
-    to : is_noted stops role line ≡ true → StopsIn p s role line
-    to h = record { scripts = scripts; reads = read_alone; stops = subst (λ c. StuckAt p c scripts role line) is ((told role line).0 h) }
+    to : StuckAt p cast scripts role line → StopsIn p s role line
+    to x = record { scripts = scripts; reads = read_alone; stops = subst (λ c. StuckAt p c scripts role line) is x }
 
-    from : StopsIn p s role line → is_noted stops role line ≡ true
+    from : StopsIn p s role line → StuckAt p cast scripts role line
     from x =
         let same : x.scripts ≡ scripts = ap (read_or scripts) (once OfVersion (instance_text p (alone p s)) (Ok x.scripts) (Ok scripts) x.reads read_alone) in
-        (told role line).1 (subst (λ c. StuckAt p c scripts role line) (sym is) (subst (λ t. StuckAt p (alone p s) t role line) same x.stops))
+        subst (λ c. StuckAt p c scripts role line) (sym is) (subst (λ t. StuckAt p (alone p s) t role line) same x.stops)

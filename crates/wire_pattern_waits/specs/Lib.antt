@@ -4,3 +4,4 @@ pub mod Places
 pub mod Stops
 pub mod Waits
 pub mod AllNodes
+pub mod Noting

@@ -9,11 +9,10 @@ mod listing;
 mod places;
 mod stops;
 mod text;
-mod waiting;
 
 pub use line_set::LineSet;
 pub use lines::{CallLine, verbs_of};
+pub use listing::noted_lines;
 pub use places::{Caller, places_of};
-pub use stops::process_roles;
-pub use text::{write_number, write_role, write_waits};
-pub use waiting::waiting_lines;
+pub use stops::{ends_of_run, note_waits, process_roles};
+pub use text::{text_of_verb, write_number, write_role, write_waits};

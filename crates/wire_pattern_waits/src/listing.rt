@@ -45,7 +45,7 @@ fn add_script(
 }
 
 /// The call lines of a pattern that are noted, in the order of roles and lines.
-pub(crate) fn noted_lines(
+pub fn noted_lines(
     alloc: Global,
     pattern: &Pattern,
     noted: &LineSet,

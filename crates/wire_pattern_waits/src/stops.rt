@@ -1,6 +1,6 @@
 //! Where the processes of an instance stand when its run can't go on.
 
-ghost use Rattle.std.specs.Prelude.{◌≡◌, ◌<◌, ◌^◌, ◌++◌, ◌||◌, ◌↔◌, true, ℕ, OnOk, IfOk, IfErr, length, slice_get};
+ghost use Rattle.std.specs.Prelude.{◌≡◌, ◌<◌, ◌^◌, ◌++◌, ◌||◌, ℕ, OnOk, IfOk, IfErr, length, slice_get};
 ghost use Rattle.std.specs.List.{list_any};
 ghost use Rattle.wire_types.specs.declared.Fault.TheVariants.{Memory};
 ghost use Rattle.wire_types.specs.Texts.{lists_of};
@@ -9,9 +9,9 @@ ghost use Rattle.wire_pattern.specs.Instances.{IsCast, cast_of};
 ghost use Rattle.wire_pattern.specs.Planned.{steps_in};
 ghost use Rattle.wire_instances.specs.Views.{cast_by};
 ghost use Rattle.wire_pattern_waits.specs.LineSets.{has_line};
+ghost use Rattle.wire_pattern_waits.specs.Noting.{AreNotedToo};
 ghost use Rattle.wire_pattern_waits.specs.Places.{steps_places};
 ghost use Rattle.wire_pattern_waits.specs.Stops as spec;
-ghost use Rattle.wire_pattern_waits.specs.Stops.{StuckAt};
 
 use crate::line_set::LineSet;
 use crate::places::{Caller, places_of};
@@ -132,7 +132,7 @@ fn stops_by(
 }
 
 /// What became of every call in the plain run of scripts.
-fn ends_of_run(alloc: Global, scripts: Scripts) -> Result<Outcome, Fault>
+pub fn ends_of_run(alloc: Global, scripts: Scripts) -> Result<Outcome, Fault>
     ensures ok { IfOk result (λ outcome. lists_of outcome.rows.items ≡ (plain_ends scripts).rows) }
     ensures err { IfErr result (λ e. e ≡ Memory) }
 {
@@ -142,29 +142,8 @@ fn ends_of_run(alloc: Global, scripts: Scripts) -> Result<Outcome, Fault>
     outcome
 }
 
-/// The stops of all processes of an instance that reads as these scripts: these, and no others.
-pub(crate) fn stops_of(
-    alloc: Global,
-    pattern: &Pattern,
-    cast: &Cast,
-    scripts: Scripts,
-) -> Result<Vec<Stop>, Fault>
-    requires { IsCast pattern.now (cast_by cast.now) }
-    ensures ok { IfOk result (λ v. (role line : ℕ) → (spec.is_noted v.items role line ≡ true)
-        ↔ StuckAt pattern.now (cast_by cast.now) scripts role line) }
-    ensures err { IfErr result (λ e. e ≡ Memory) }
-{
-    let outcome = ends_of_run(alloc, scripts)?;
-    let stops = stops_by(alloc, pattern, cast, outcome.rows.as_slice())?;
-    Ok(stops)
-}
-
 /// Notes the lines of stops.
-pub(crate) fn note_stops(
-    noted: &mut LineSet,
-    alloc: Global,
-    stops: &[Stop],
-) -> Result<(), AllocError>
+fn note_stops(noted: &mut LineSet, alloc: Global, stops: &[Stop]) -> Result<(), AllocError>
     ensures { OnOk result ((role line : ℕ) → has_line noted.new role line
         ≡ has_line noted.old role line || spec.is_noted stops.now role line) }
 {
@@ -172,4 +151,20 @@ pub(crate) fn note_stops(
         noted.insert(alloc, stop.role, stop.line)?;
     }
     Ok(())
+}
+
+/// Notes the call lines at which the processes of an instance wait, by what became of their calls where the plain run of
+/// its scripts can't go on: these, and no others.
+pub fn note_waits(
+    noted: &mut LineSet,
+    alloc: Global,
+    pattern: &Pattern,
+    cast: &Cast,
+    rows: &[Vec<CallEnd>],
+) -> Result<(), AllocError>
+    requires { IsCast pattern.now (cast_by cast.now) }
+    ensures { OnOk result (AreNotedToo pattern.now (cast_by cast.now) (lists_of rows.now) noted.old noted.new) }
+{
+    let stops = stops_by(alloc, pattern, cast, rows)?;
+    note_stops(noted, alloc, stops.as_slice())
 }

@@ -12,7 +12,7 @@ use wire_pattern::Pattern;
 use wire_types::Verb;
 
 /// How a verb is spelled.
-fn text_of_verb(verb: Verb) -> &'static str
+pub fn text_of_verb(verb: Verb) -> &'static str
     ensures { result.now ≡ verbs.text_of_verb verb }
 {
     match verb {

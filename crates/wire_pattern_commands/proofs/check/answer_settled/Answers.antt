@@ -4,7 +4,6 @@ use Rattle.wire_pattern_answers.specs.declared.answers.LineAnswers.{LineAnswers}
 use Rattle.wire_pattern_commands.specs.CheckPattern.{settled_form, settled_end}
 use Rattle.wire_pattern_commands.specs.Beyond.{is_never}
 use Rattle.wire_pattern_commands.specs.Succeeding.{IsSuccessTold}
-use Rattle.wire_pattern_commands.specs.Found.{IsFoundBeyond}
 use Rattle.wire_pattern_commands.proofs.FoundBeyond.{is_beyond}
 use Rattle.wire_pattern_commands.proofs.check.answer_settled.Goals as goal
 
@@ -13,26 +12,25 @@ returns-clause-ok c =
     let p = c.args.pattern.now in
     let asked = c.args.asked in
     let beyond = c.in_ok-beyond.beyond in
-    let lines : List CallLine = c.in_ok-lines.lines.items in
+    let lines : List CallLine = c.in_ok-waiting.waiting.lines.items in
     let answers : List LineAnswers = c.in_ok-answers.answers.items in
     let succeeding = c.in_ok-succeeding.succeeding in
     record {
       lines = lines;
-      waiting = c.in_ok-lines.ensures.ok;
-      read = c.in_ok-lines.ensures.read;
-      replied = c.in_ok-lines.ensures.replied;
-      beyond = beyond;
+      waiting = c.in_ok-waiting.ensures.waits;
+      read = c.in_ok-waiting.ensures.read;
+      replied = c.in_ok-waiting.ensures.replied;
       beyond_is =
-          is_beyond p lines beyond c.note_sound.ensures c.requires.settled c.requires.few c.in_ok-lines.ensures.read c.in_ok-lines.ensures.replied
+          is_beyond p lines beyond c.note_sound.ensures c.requires.settled c.requires.few c.in_ok-waiting.ensures.read c.in_ok-waiting.ensures.replied
           c.all_answered.ensures c.texts_answered.ensures
-          (subst (λ ls. IsFoundBeyond p ls beyond) c.as_slice.ensures.value c.in_ok-beyond.ensures.ok);
+          c.in_ok-beyond.ensures.ok;
       answers = answers;
       succeeding = succeeding;
       told = subst (λ never. asked.complete && never ≡ true → IsSuccessTold p succeeding) c.is_never-never.ensures c.in_ok-succeeding.ensures.ok;
       answered = c.in_ok-answers.ensures.ok;
-      is = c.in_ok-text.ensures ∙ ap (λ ls. settled_form asked beyond p ls c.as_slice-3.result.now) c.as_slice-2.ensures.value ∙ ap (settled_form asked beyond p lines) c.as_slice-3.ensures.value;
+      is = c.in_ok-text.ensures ∙ ap (λ ls. settled_form asked beyond p ls c.as_slice-2.result.now) c.as_slice.ensures.value ∙ ap (settled_form asked beyond p lines) c.as_slice-2.ensures.value;
       ends =
-          c.settled_end.ensures ∙ ap (λ never. settled_end asked never succeeding c.as_slice-4.result.now c.as_slice-5.result.now) c.is_never-never.ensures
-          ∙ ap (λ ls. settled_end asked (is_never beyond) succeeding ls c.as_slice-5.result.now) c.as_slice-4.ensures.value
-          ∙ ap (settled_end asked (is_never beyond) succeeding lines) c.as_slice-5.ensures.value;
+          c.settled_end-ended.ensures ∙ ap (λ never. settled_end asked never succeeding c.as_slice-3.result.now c.as_slice-4.result.now) c.is_never-never.ensures
+          ∙ ap (λ ls. settled_end asked (is_never beyond) succeeding ls c.as_slice-4.result.now) c.as_slice-3.ensures.value
+          ∙ ap (settled_end asked (is_never beyond) succeeding lines) c.as_slice-4.ensures.value;
     }

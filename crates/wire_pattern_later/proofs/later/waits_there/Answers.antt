@@ -11,18 +11,18 @@ pub returns-clause-ok : goal.returns-clause-ok
 returns-clause-ok c =
     let p = c.args.pattern.now in
     let cast = cast_by c.args.cast.now in
-    waits_grown p c.args.ranks cast c.in-Some.scripts c.in_ok-noted.noted c.reads_once.ensures c.requires.is
-    (subst (λ o. IfSome o (λ s. Reads OfVersion (instance_text p cast) (Ok s))) c.in-Some.is c.in_ok-scripts.ensures.ok) c.in_ok-noted.ensures.ok
+    waits_grown p c.args.ranks cast c.in-Some.instance.scripts c.in_ok-noted.noted c.reads_once.ensures c.requires.is
+    (subst (λ o. IfSome o (λ it. Reads OfVersion (instance_text p cast) (Ok it.scripts))) c.in-Some.is c.in_ok-instance.ensures.reads) c.in_ok-noted.ensures.ok
 
 pub returns-clause-read : goal.returns-clause-read
 returns-clause-read c =
     let p = c.args.pattern.now in
     let cast = cast_by c.args.cast.now in
-    read_grown p c.args.ranks cast c.in-Some.scripts c.requires.is
-    (subst (λ o. IfSome o (λ s. Reads OfVersion (instance_text p cast) (Ok s))) c.in-Some.is c.in_ok-scripts.ensures.ok)
+    read_grown p c.args.ranks cast c.in-Some.instance.scripts c.requires.is
+    (subst (λ o. IfSome o (λ it. Reads OfVersion (instance_text p cast) (Ok it.scripts))) c.in-Some.is c.in_ok-instance.ensures.reads)
 
 pub returns-in_default-clause-none : goal.returns-in_default-clause-none
 returns-in_default-clause-none c = λ e.
-    let none : c.in_ok-scripts.field-0 ≡ None = first_of (assumption c.in_default.is, cc, search rules) in
-    let unread = c.in_ok-scripts.ensures.none (ap Ok none) in
+    let none : c.in_ok-instance.field-0 ≡ None = first_of (assumption c.in_default.is, cc, search rules) in
+    let unread = c.in_ok-instance.ensures.none (ap Ok none) in
     unread_grown c.args.pattern.now c.args.ranks (cast_by c.args.cast.now) unread.0 c.requires.is unread.1

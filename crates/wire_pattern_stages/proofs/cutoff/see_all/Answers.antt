@@ -1,0 +1,65 @@
+use Rattle.std.proofs.Common.{arith}
+use Rattle.wire_cutoff.specs.Views.{selection_by}
+use Rattle.wire_cutoff.proofs.Judged.{item_sizes, item_total}
+use Rattle.wire_pattern_waits.specs.LineSets.{has_line}
+use Rattle.wire_pattern_waits.specs.Waits.{StopsIn, ReadsAsPlan}
+use Rattle.wire_pattern_waits.proofs.Judged.{listed_at, each_more, each_all, none_before, one_before, all_before}
+use Rattle.wire_pattern_stages.specs.Views.{stages_by}
+use Rattle.wire_pattern_stages.specs.Staged.{SelectionKeeps}
+use Rattle.wire_pattern_stages.proofs.cutoff.see_all.Goals as goal
+
+pub see_selection-requires-clause-sizes : goal.see_selection-requires-clause-sizes
+see_selection-requires-clause-sizes c =
+    item_sizes c.args.question.now.pattern.now c.args.all.now c.loop-selection.selection-index c.selection-item.result c.requires.all c.loop-selection-test.true
+    c.selection-item.is
+
+pub see_selection-requires-clause-few : goal.see_selection-requires-clause-few
+see_selection-requires-clause-few c =
+    item_total c.args.question.now.pattern.now c.args.all.now c.loop-selection.selection-index c.selection-item.result c.requires.all c.loop-selection-test.true
+    c.selection-item.is c.requires.few
+
+pub loop-selection-init : goal.loop-selection-init
+loop-selection-init c = record {
+  told = λ role line. none_before c.args.question.now.pattern.now (λ s. StopsIn c.args.question.now.pattern.now s role line) _ (c.new-noted.ensures role line);
+  read = λ i s lt at. absurd (omega (arith, lt));
+  kept = λ k i s lt at. absurd (omega (arith, lt));
+}
+
+pub loop-selection-preserved : goal.loop-selection-preserved
+loop-selection-preserved c =
+    let p = c.args.question.now.pattern.now in
+    let n = c.loop-selection.selection-index in
+    let s = selection_by c.selection-item.result in
+    let at = listed_at p c.args.all.now n c.selection-item.result c.requires.all c.loop-selection-test.true c.selection-item.is in
+    record {
+      told = λ role line.
+          one_before p (λ s. StopsIn p s role line) n s (has_line c.loop-selection.noted role line) (has_line c.see_selection.new.noted role line) at
+          (c.loop-selection.invariant.told role line) (c.in_ok-kept.ensures.waits role line);
+      read = each_more p (ReadsAsPlan p) n s at c.loop-selection.invariant.read c.in_ok-kept.ensures.read;
+      kept = λ k.
+          let both = c.in_ok-kept.ensures.kept k in
+          each_more p (SelectionKeeps p (stages_by c.args.question.now.stages.now)) n s at (c.loop-selection.invariant.kept both.0) both.1;
+    }
+
+pub returns-clause-waits : goal.returns-clause-waits
+returns-clause-waits c = λ role line.
+    let p = c.args.question.now.pattern.now in
+    let end = c.loop-selection-test.false in
+    let told = all_before p (λ s. StopsIn p s role line) c.args.all.now c.loop-selection.selection-index
+    (has_line c.loop-selection.noted role line) c.requires.all (omega (arith, end)) (c.loop-selection.invariant.told role line) in (
+      (λ h. let w = told.0 h in record { number = w.number; selection = w.selection; is = w.is; stops = w.holds }),
+      (λ w. told.1 (record { number = w.number; selection = w.selection; is = w.is; holds = w.stops })),
+    )
+
+pub returns-clause-read : goal.returns-clause-read
+returns-clause-read c =
+    let p = c.args.question.now.pattern.now in
+    let end = c.loop-selection-test.false in
+    each_all p (ReadsAsPlan p) c.args.all.now c.loop-selection.selection-index c.requires.all (omega (arith, end)) c.loop-selection.invariant.read
+
+pub returns-clause-kept : goal.returns-clause-kept
+returns-clause-kept c = λ kept number selection scripts is reads.
+    let p = c.args.question.now.pattern.now in
+    let end = c.loop-selection-test.false in
+    each_all p (SelectionKeeps p (stages_by c.args.question.now.stages.now)) c.args.all.now c.loop-selection.selection-index c.requires.all (omega (arith, end))
+    (c.loop-selection.invariant.kept kept) number selection is scripts reads

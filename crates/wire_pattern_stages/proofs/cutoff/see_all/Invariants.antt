@@ -1,0 +1,15 @@
+use Rattle.std.proofs.Common.{◌≡◌, ◌↔◌, ℕ, true}
+use Rattle.wire_pattern_waits.specs.LineSets.{has_line}
+use Rattle.wire_pattern_waits.specs.Waits.{StopsIn, ReadsAsPlan}
+use Rattle.wire_pattern_waits.proofs.Judged.{IsBefore, EachBefore}
+use Rattle.wire_pattern_stages.specs.Views.{stages_by}
+use Rattle.wire_pattern_stages.specs.Staged.{SelectionKeeps}
+use Rattle.wire_pattern_stages.proofs.cutoff.see_all.Given as goal
+
+abbrev pub invariant-loop-selection : goal.invariant-loop-selection
+invariant-loop-selection l = record {
+  told : (role line : ℕ) → (has_line l.noted role line ≡ true)
+      ↔ IsBefore l.question.pattern.now (λ s. StopsIn l.question.pattern.now s role line) l.selection-index;
+  read : EachBefore l.question.pattern.now (ReadsAsPlan l.question.pattern.now) l.selection-index;
+  kept : l.kept ≡ true → EachBefore l.question.pattern.now (SelectionKeeps l.question.pattern.now (stages_by l.question.stages.now)) l.selection-index;
+}

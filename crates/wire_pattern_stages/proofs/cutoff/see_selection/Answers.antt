@@ -1,0 +1,41 @@
+use Rattle.std.proofs.Common.{Ok, subst}
+use Rattle.wire_pattern.specs.Instances.{instance_text}
+use Rattle.wire_instances.specs.Views.{cast_by}
+use Rattle.wire_reader.specs.declared.Size.TheVariants.{OfVersion}
+use Rattle.wire_reader.specs.Reads.{Reads}
+use Rattle.wire_cutoff.specs.Views.{selection_by}
+use Rattle.wire_pattern_waits.proofs.Told.{cast_is, selection_stops}
+use Rattle.wire_pattern_stages.specs.Views.{stages_by}
+use Rattle.wire_pattern_stages.proofs.Seen.{seen_more}
+use Rattle.wire_pattern_stages.proofs.Swept.{selection_kept}
+use Rattle.wire_pattern_stages.proofs.cutoff.see_selection.Goals as goal
+
+pub returns-clause-waits : goal.returns-clause-waits
+returns-clause-waits c = λ role line.
+    let p = c.args.question.now.pattern.now in
+    let selection = selection_by c.args.selection.now in
+    seen_more _ _ _ _
+    (selection_stops p selection (cast_by c.in_ok-cast.cast) c.in_ok-text.scripts c.reads_once.ensures
+    (cast_is p selection c.in_ok-cast.cast c.in_ok-cast.ensures.few c.in_ok-cast.ensures.of c.in_ok-cast.ensures.alone)
+    c.in_ok-text.ensures.reads role line) (c.in_ok-kept.ensures.waits role line)
+
+pub returns-clause-read : goal.returns-clause-read
+returns-clause-read c =
+    let p = c.args.question.now.pattern.now in
+    let selection = selection_by c.args.selection.now in (
+      c.in_ok-text.scripts,
+      subst (λ cast. Reads OfVersion (instance_text p cast) (Ok c.in_ok-text.scripts))
+          (cast_is p selection c.in_ok-cast.cast c.in_ok-cast.ensures.few c.in_ok-cast.ensures.of c.in_ok-cast.ensures.alone)
+          c.in_ok-text.ensures.reads,
+    )
+
+pub returns-clause-kept : goal.returns-clause-kept
+returns-clause-kept c = λ kept.
+    let p = c.args.question.now.pattern.now in
+    let selection = selection_by c.args.selection.now in
+    let both = c.in_ok-kept.ensures.kept kept in (
+      both.0,
+      selection_kept p (stages_by c.args.question.now.stages.now) selection (cast_by c.in_ok-cast.cast) c.in_ok-text.scripts c.reads_once.ensures
+          (cast_is p selection c.in_ok-cast.cast c.in_ok-cast.ensures.few c.in_ok-cast.ensures.of c.in_ok-cast.ensures.alone)
+          c.in_ok-text.ensures.reads both.1,
+    )
