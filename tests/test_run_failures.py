@@ -263,8 +263,11 @@ class FullDisk(LiveRuns):
     def test_answers(self) -> None:
         """What can't be written is named, and all else is written."""
         ran = self.run_it("--junit", "/dev/full", self.write("it.plan", WAITS[:-29]))
-        said = "wire_up-run: /dev/full: No space left on device\n"
-        self.assertEqual((125, said), (ran.returncode, ran.stderr))
+        lines = [
+            "wire_up-run: portable for OpenPMIx 4.2, 5.0 and 7.0",
+            "wire_up-run: /dev/full: No space left on device",
+        ]
+        self.assertEqual((125, lines), (ran.returncode, ran.stderr.splitlines()))
         self.assertIn("differing 0 of ", ran.stdout)
         with open("/dev/full", "w", encoding="ascii") as full:
             ran = subprocess.run(

@@ -8,7 +8,7 @@ use crate::threads::run_round;
 use std::alloc::Global;
 use std::sync::Wait;
 use std::thread::Threads;
-use wire_sched::{Crew, Gate, Pass, Piece, StealRound, Serves};
+use wire_sched::{Crew, Gate, Pass, Piece, Serves, StealRound};
 
 /// Serves the pieces that no worker took. Answers how many events that were.
 fn serve_left<R: Wait, S: Serves, G: Gate>(

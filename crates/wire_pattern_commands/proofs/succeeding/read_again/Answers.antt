@@ -1,4 +1,4 @@
-use Rattle.wire_commands.proofs.Handed.{handed_on}
+use Rattle.wire_command.proofs.Handed.{handed_on}
 use Rattle.wire_pattern_commands.proofs.Succeeded.{no_fault}
 use Rattle.wire_pattern_commands.proofs.succeeding.read_again.Goals as goal
 
