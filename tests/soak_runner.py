@@ -10,7 +10,8 @@ from collections.abc import Sequence
 from dataclasses import dataclass
 from typing import NamedTuple, Union
 
-SECONDS = 10
+# After how long an answer counts as none. A busy machine takes a while for one.
+SECONDS = 60
 FAULT = re.compile(rb"wire_up: fault (\d+) (\w+)( \d+)?\n")
 FAILED_CALL = re.compile(rb"wire_up: \S+:\d+ \d+ [a-z-]+ (?:[A-Z_]+|waiting|unreached)\n")
 Word = Union[str, bytes]

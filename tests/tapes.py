@@ -22,6 +22,8 @@ Scripts = Sequence[Sequence[str]]
 Recorded = tuple[str, str]
 # What the recorder says of libraries.
 LIBRARIES = re.compile(r"^wire_up-record: portable for .*\n", re.MULTILINE)
+# What it says besides of a plan in which nothing is found, where a checker is there.
+JUDGED = re.compile(r"^wire_up-record: (portable for|each run of this program) .*\n", re.MULTILINE)
 
 
 class Tape:

@@ -11,6 +11,7 @@ import support
 from support import TOP
 from tapes import (
     COMMAND,
+    JUDGED,
     PROGRAMS,
     SHIPPED,
     Tape,
@@ -47,7 +48,7 @@ class CommandLineTest(RoomTest):
             self.assertIn(said, ran.stderr)
             self.assertNotIn("Traceback", ran.stderr)
             if not status:
-                self.assertEqual(ran.stderr, "")
+                self.assertEqual(JUDGED.sub("", ran.stderr), "")
 
     def test_help(self) -> None:
         ran = run_recorder("--help")
@@ -181,7 +182,7 @@ class CommandLineTest(RoomTest):
         link = os.path.join(self.room, "recorder")
         os.symlink(COMMAND, link)
         ran = ask_program(link, "-o", "-", "--from", self.good)
-        self.assertEqual((ran.returncode, ran.stderr), (0, ""))
+        self.assertEqual((ran.returncode, JUDGED.sub("", ran.stderr)), (0, ""))
         self.assertTrue(ran.stdout.startswith("# Recorded by wire_up-record on 2023-11-14"))
 
 
