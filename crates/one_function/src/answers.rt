@@ -128,7 +128,7 @@ fn of_part(
 ) -> Result<Vec<u8>, Fault> {
     let plan = plan_of_text(rt.alloc(), file)?;
     let text = match part {
-        OverPlan::Marks => of_marks(rt.alloc(), &plan, stage),
+        OverPlan::HappensBefore => of_marks(rt.alloc(), &plan, stage),
         OverPlan::Findings => of_findings(rt, &plan, stage),
         OverPlan::Core => of_core(rt.alloc(), &plan, stage),
         OverPlan::StealRound => of_round(rt.alloc(), &plan, stage),

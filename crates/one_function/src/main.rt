@@ -25,10 +25,10 @@ const PARTS: [(&str, Part); 9] = [
     ("plain", Part::Plain),
     ("read", Part::Read),
     ("plan", Part::Plan),
-    ("marks", Part::Over(OverPlan::Marks)),
+    ("marks", Part::Over(OverPlan::HappensBefore)),
     ("findings", Part::Over(OverPlan::Findings)),
     ("core", Part::Over(OverPlan::Core)),
-    ("round", Part::Over(OverPlan::Round)),
+    ("round", Part::Over(OverPlan::StealRound)),
     ("workers", Part::Over(OverPlan::Workers)),
     ("board", Part::Board),
 ];
