@@ -1,5 +1,5 @@
-//! What all commands over one plan share: how the plan is read, how the answer is written, and the one function that
-//! runs them.
+//! What commands over one plan share: how the plan is read, how the answer is written, and a function that does both
+//! for most of them.
 #![tactic(auto)]
 
 mod answer;

@@ -14,8 +14,8 @@ abbrev pub smallest : ℕ → List Role → ℕ
 smallest n [] = n
 smallest n (role ∷ roles) = smallest (if role.single then n else if n == 0 then most_of role else min n (most_of role)) roles
 
--- all instances with up to so many processes of each group are judged: 3, or the least that a group may have where each has
--- to have more
+-- all instances with up to so many processes of each group are judged, with all turns of loops that only read: 3, or
+-- the least that a group may have where each has to have more
 abbrev pub judged_size : List Role → ℕ
 judged_size roles = max (smallest 0 roles) 3
 

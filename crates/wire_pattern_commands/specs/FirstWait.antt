@@ -1,5 +1,5 @@
--- The first instance of a pattern in which a rank waits for ever, or that with the number of ranks of each group with which
--- one does first, and what is told of it.
+-- The first instance of a pattern in which a rank waits for ever, or that with the number of ranks of each group with
+-- which one does first, and what is told of it.
 use Rattle.std.specs.Prelude.{◌≡◌, ◌≢◌, ◌⊎◌, ◌<◌, ◌-◌, ◌==◌, ℕ, Bool, true, false, List, [], ◌∷◌, ◌++◌, Some, Ok, MatchOption, Option, take, length, slice_get, codes, decimal, if◌then◌else◌}
 use Rattle.wire_scripts.specs.Scripts.{Scripts}
 use Rattle.wire_reader.specs.declared.Size.TheVariants.{OfVersion}
@@ -52,7 +52,8 @@ pub record IsLaterWait (p : Pattern) (beyond : Beyond) (sizes text : List ℕ) (
 abbrev pub IsExplainedWait : Pattern → Beyond → List ℕ → List ℕ → Scripts → Type 0
 IsExplainedWait p beyond sizes text scripts = IsFirstWait p sizes text scripts ⊎ (AllRunThrough p × IsLaterWait p beyond sizes text scripts)
 
--- no such number is known, or the instance is past the limits of a plan
+-- no such number is known. (That the instance is past the limits of a plan can't be: beside a number that is known
+-- stands that it reads as one.)
 abbrev pub IsNoLaterWait : Pattern → Beyond → Type 0
 IsNoLaterWait p beyond = (ranks : ℕ) → first_ranks beyond ≡ Some ranks → IsPastLimits p ranks
 

@@ -88,7 +88,7 @@ fn smaller(size: u32, role: &Role) -> u32
     }
 }
 
-/// The number of processes of each group up to which all instances are judged.
+/// The number of processes of each group up to which all instances are judged, with all turns of loops that only read.
 fn judged_size(roles: &[Role]) -> u32
     ensures { result ≡ spec.judged_size (map role_by roles.now) }
 {

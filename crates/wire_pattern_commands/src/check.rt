@@ -341,14 +341,14 @@ fn answer_pattern(
 /// found, for which numbers of ranks, at which call lines something waits, and if that is asked for with which statuses
 /// each get-now is answered, and who waits for ever in the first instance that is judged in which a rank does, else in
 /// the larger one in which one does first; or a counterexample: how many ranks it has, the text of its plan, and as
-/// comments what `check` finds in that. It is the first instance that is judged in which something is found. As JSON the
-/// text of the plan is one string, without the comments.
+/// comments what `check` finds in that. It is the first instance that is judged in which something is found. As JSON
+/// the text of the plan is one string, without the comments.
 ///
 /// It answers `Clean` where nothing is found in any instance; but with `complete` the count of the call lines at which
 /// something waits; where there are none 1, unless it is known that no call waits with any number of ranks and every
 /// call of the instances that are judged succeeds; and then the count of the get-now lines that don't succeed. The
-/// faults of the pattern's file come first, then those of the largest instance that is judged, each on the line of the
-/// pattern that it comes from.
+/// faults of the pattern's file come first, then those of the largest instance that is judged (no clause says that it
+/// isn't a smaller one's), each on the line of the pattern that it comes from.
 /// After the fault `Write` the front of the text that it counts is written, after any other fault nothing. `Memory` may
 /// come in place of any other answer.
 pub fn check_pattern<R: Source, W: Sink>(

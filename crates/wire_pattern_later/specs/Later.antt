@@ -60,7 +60,8 @@ IsPastLimits p n =
 abbrev pub NoneBelow : Pattern → ℕ → Type 0
 NoneBelow p n = (k : ℕ) → first_size p.roles ≤ k → k < n → AreWaitingWith p k []
 
--- n is the least number of processes of each group with which something waits, at exactly these lines
+-- from the first size on, n is the least number of processes of each group with which something waits, at exactly these
+-- lines
 pub record AreLater (p : Pattern) (n : ℕ) (lines : List CallLine) : Type 0 where
   pub from : first_size p.roles ≤ n
   pub to : n ≤ last_size p.roles
@@ -68,7 +69,7 @@ pub record AreLater (p : Pattern) (n : ℕ) (lines : List CallLine) : Type 0 whe
   pub some : lines ≢ []
   pub least : NoneBelow p n
 
--- nothing waits with any number to the last that is looked at, or none to one that is past the limits
+-- nothing waits with any number up to some n, which is behind the last that is looked at or past the limits
 abbrev pub IsNoneLater : Pattern → Type 0
 IsNoneLater p = (n : ℕ) × (first_size p.roles ≤ n) × NoneBelow p n × ((last_size p.roles < n) ⊎ IsPastLimits p n)
 

@@ -41,6 +41,6 @@ abbrev pub first_size : List Role → ℕ
 first_size [] = 3
 first_size (role ∷ roles) = max role.least (first_size roles)
 
--- the largest that is looked at: one more than the most through loops over one group
+-- the largest that is looked at: one more than the most through loops over one group, or the first where that is more
 abbrev pub last_size : List Role → ℕ
 last_size roles = max (first_size roles) (suc (most_through roles 0 roles))

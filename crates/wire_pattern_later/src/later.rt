@@ -23,7 +23,8 @@ use wire_reader::{Size, read_sized, reads_once};
 use wire_scripts::Scripts;
 use wire_types::Fault;
 
-/// The least number of processes of each group with which something waits, and the call lines at which it does.
+/// The least number of processes of each group, from the first size on, with which something waits, and the call lines
+/// at which it does.
 #[derive(Drop)]
 pub struct Later {
     pub ranks: u32,
@@ -101,8 +102,8 @@ fn instance_of(alloc: Global, pattern: &Pattern, cast: &Cast) -> Result<Option<I
     }
 }
 
-/// The instance with so many processes of each group, each on a node of its own, with all turns; none where that is past
-/// the limits of a plan.
+/// The instance with so many processes of each group, each on a node of its own, with all turns; none where its text
+/// doesn't read as a plan, as past the limits of one.
 pub fn instance_with(
     alloc: Global,
     pattern: &Pattern,
@@ -196,10 +197,10 @@ fn lines_with(alloc: Global, pattern: &Pattern, ranks: usize) -> Result<Option<L
     Ok(Some(Later { ranks, lines }))
 }
 
-/// The least number of processes of each group with which something waits, where it doesn't with few of them, and the
-/// call lines at which it does: exactly these. Looked at are the instances with as many of each group, all turns taken,
-/// up to one more than there are through loops over a group (`last_size`), and up to the limits of a plan; none where
-/// nothing waits in them.
+/// The least number of processes of each group with which something waits, from the first size on, and the call lines
+/// at which it does: exactly these. Looked at are the instances with as many of each group, all turns taken, up to one
+/// more than there are through loops over a group, if that is more (`last_size`), and up to one whose text doesn't read
+/// as a plan; none where nothing waits in them.
 pub fn later_lines(alloc: Global, pattern: &Pattern) -> Result<Option<Later>, Fault>
     ensures some { IfOk result (λ r. IfSome r (λ l. AreLater pattern.now l.ranks l.lines.items)) }
     ensures none { result ≡ Ok None → IsNoneLater pattern.now }

@@ -1,4 +1,5 @@
--- The first fault of a pattern with numbers for its names: that of the second pass over all lines, else that of the third.
+-- The first fault of a pattern with numbers for its names: that of the second pass over all lines, else that of the
+-- third.
 use Rattle.std.specs.Prelude.{ℕ, ◌+◌, ◌==◌, ◌&&◌, ◌||◌, Bool, true, false, not, nat_lt, List, [], ◌∷◌, length}
 use Rattle.std.specs.Prelude.{Option, Some, None, if◌then◌else◌}
 use Rattle.std.specs.List.{list_all, list_any}
@@ -35,9 +36,9 @@ is_declared jobs roles call =
 abbrev pub fits_loop : List Role → ℕ → Turns → Call → Bool
 fits_loop roles role turns call = not (list_any (has_role roles role) (items_in call)) && is_turn_call turns call
 
--- the fault of a line of the script of the role `caller`, where there are so many jobs, and `fits` says whether the line may
--- stand where it stands: a name isn't declared; a group stands for a process, or the line doesn't fit; the caller isn't in
--- its set
+-- the fault of a line of the script of the role `caller`, where there are so many jobs, and `fits` says whether the
+-- line may stand where it stands: a name isn't declared; a group stands for a process, or the line doesn't fit; the
+-- caller isn't in its set
 abbrev pub line_fault : ℕ → List Role → ℕ → Bool → Line → Option Fault
 line_fault jobs roles caller fits line =
     if not (is_declared jobs (length roles) line.call) then Some (UnknownName line.number)
@@ -54,18 +55,18 @@ abbrev pub role_listed : ℕ → Step → Option ℕ
 role_listed number (Once line) = None
 role_listed number (Loop own role turns lines) = if own == number then Some role else None
 
--- the first fault of this role and of the rest of its list
+-- the first fault of this role and of the rest of its list; none where the list has ended
 abbrev pub listed_fault : List Role → ℕ → Option ℕ → Option Fault → Option Fault
 listed_fault roles number None rest = None
 listed_fault roles number (Some role) rest = first_of (role_fault roles number role) rest
 
--- a line that lists several roles begins a loop over each, one behind the other: the fault of this line, of which the first
--- of these steps are loops
+-- a line that lists several roles begins a loop over each, one behind the other: the fault of this line, of which the
+-- first of these steps are loops
 abbrev pub list_fault : List Role → ℕ → List Step → Option Fault
 list_fault roles number [] = None
 list_fault roles number (step ∷ steps) = listed_fault roles number (role_listed number step) (list_fault roles number steps)
 
--- the fault of the line that begins a step: these steps follow it, and with them the roles that the line lists behind its first
+-- the fault of the roles that the line of a step lists behind its first: those of the steps that follow it
 abbrev pub names_fault : List Role → Step → List Step → Option Fault
 names_fault roles (Once line) steps = None
 names_fault roles (Loop number role turns lines) steps = list_fault roles number steps

@@ -130,7 +130,8 @@ impl Search<'_> {
         )
     }
 
-    /// The gets of an owner's keys that are made where a process is, in process order; `None` where no call asks for them.
+    /// The gets of an owner's keys that are made where a process is, in process order; `None` where no call asks for
+    /// them.
     fn beside(&self, owner: Proc, proc: Proc) -> Option<&[Event]>
         requires { proc.number < process_count (plan_in self.now) }
         ensures { MatchOption result (Unit {0}) (λ gets. AreOpenGets self.now.anywhere (plan_in self.now) owner.number
@@ -215,7 +216,8 @@ impl Search<'_> {
         Ok(())
     }
 
-    /// The libraries on which a get-now may see on another node what it doesn't see by the rules, or the other way round.
+    /// The libraries on which a get-now may see on another node what it doesn't see by the rules, or the other way
+    /// round.
     fn unsure_now(&self, get: Event, asked: Key) -> Libraries
         requires now { IsLiveNow (plan_in self.now) asked.owner.number asked.key (event_of get) }
         requires far { MayBe self.now.anywhere (plan_in self.now) false asked.owner.number get.proc.number }
@@ -523,9 +525,10 @@ fn lines_of(
     search.all_lines(alloc)
 }
 
-/// The calls of a plan by which it isn't portable, each once by each rule, in the order of processes, calls and rules.
-/// For a library that none of them has, the plan is portable. `settled` says that nothing is found in the plan: then it
-/// is told by the plain run whether a name is there. The one fault is `Fault::Memory`.
+/// The calls of a plan by which it isn't portable, each once by each rule, in the order of processes, calls and rules
+/// (that they are these, once and in order, is only tested). For a library that none of them has, the plan is portable.
+/// `settled` says that nothing is found in the plan: then it is told by the plain run whether a name is there. The one
+/// fault is `Fault::Memory`.
 pub fn find_unportable(
     alloc: Global,
     marked: &MarkedPlan<'_>,

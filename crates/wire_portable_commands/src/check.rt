@@ -1,5 +1,5 @@
-//! `check --portable`: the findings of a plan, or of all its placements, and on which libraries each run does as the rules
-//! say.
+//! `check --portable`: the findings of a plan, or of all its placements, and on which libraries each run does as the
+//! rules say.
 
 ghost use Rattle.std.specs.Prelude.{◌≡◌, ◌≢◌, ◌⊎◌, Ok, Err, false, true, length, OnOk, IfOk, IfErr};
 ghost use Rattle.wire_types.specs.declared.Fault.TheVariants.{Memory, Read};
@@ -39,8 +39,9 @@ pub struct PortableAsked<'a> {
 }
 
 /// Checks a plan on its placement, or on every one, as `check_plan` and `check_placements` do. Behind the findings it
-/// writes each call by which the plan isn't portable, with the rule and the libraries, and last the libraries for which
-/// there is none: on these, what is answered in a run is an interleaving by the rules, with the same replies.
+/// writes each call by which the plan isn't portable, with the rule and the libraries (that each breaks the rule is
+/// only tested), and last the libraries for which there is none: on these, what is answered in a run is an interleaving
+/// by the rules, with the same replies.
 ///
 /// With places the calls are in groups, one for each rule. As JSON they are objects.
 ///

@@ -53,10 +53,11 @@ fn text_of(alloc: Global, scripts: Scripts) -> Result<Vec<u8>, Fault>
     text
 }
 
-/// Where the plain run of a plan stands at last with calls that wait: the first sixteen ranks of a deadlock, where there
-/// is one, each with its call and what it waits for, and those of the ranks that wait for no rank. In a plan without
-/// findings these wait for what never comes. Nothing where each rank is at its end. The bytes are those of the plan, and
-/// the faults its own and `Memory`. Only printable ASCII and line feeds are in the text.
+/// Where the plain run of a plan stands at last with calls that wait: the first sixteen ranks of a deadlock, where
+/// there is one, each with its call and what it waits for, and those of the ranks that wait for no rank. In a plan
+/// without findings these wait for what never comes (no clause says so). Nothing where each rank is at its end. The
+/// bytes are those of the plan, and the faults its own and `Memory`. Only printable ASCII and line feeds are in the
+/// text.
 pub fn explain_standstill(alloc: Global, size: Size, bytes: &[u8]) -> Result<Vec<u8>, Fault>
     ensures tells { IfOk result (λ text. TellsStandstillOf size bytes.now text.items) }
     ensures printable { IfOk result (λ text. is_printable_text text.items ≡ true) }
@@ -74,9 +75,9 @@ fn members_at(alloc: Global, core: &Core<'_>) -> Result<Vec<u8>, AllocError>
     standstill_members(alloc, core, &standstill)
 }
 
-/// The start of a JSON object that tells who waits for ever where the plain run of a plan stands at last: all ranks of a
-/// deadlock, where there is one, and all ranks that wait for no rank, each with its call and what it waits for. It ends
-/// with a comma.
+/// The start of a JSON object that tells who waits for ever where the plain run of a plan stands at last: all ranks of
+/// a deadlock, where there is one, and all ranks that wait for no rank, each with its call and what it waits for. It
+/// ends with a comma.
 pub fn list_standstill(alloc: Global, plan: &Plan) -> Result<Vec<u8>, Fault>
     ensures lists { IfOk result (λ text. ListsStandstill plan.now text.items) }
     ensures err { IfErr result (λ e. e ≡ Memory) }
