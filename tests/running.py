@@ -20,6 +20,23 @@ FAULTS = (
     " NotReady BadOrder"
 ).split()
 USAGE = (b"Usage: wire_up",)
+# What is said of words that are known, but don't go together.
+WORKERS_MISUSED = b"wire_up: usage --workers: its COUNT is a number\n"
+SAME_MISUSED = b"wire_up: usage --same: it needs --anywhere\n"
+PATTERN_MISUSED = (
+    b"wire_up: usage --pattern: --answers and --complete need it;"
+    b" --anywhere, --same, --lines and --large don't go with it\n"
+)
+PORTABLE_MISUSED = (
+    b"wire_up: usage --portable: of patterns it isn't known, and it doesn't go with --same\n"
+)
+SPREAD_MISUSED = (
+    b"wire_up: usage expand: say --per-node COUNT or --by node --nodes COUNT, each from 1 on\n"
+)
+WITNESS_MISUSED = (
+    b"wire_up: usage witness: --first or --second needs two calls, and no --lines or --json;"
+    b" --most needs a number, and no calls\n"
+)
 FULL, READ = b"wire_up: fault 11 Write 0\n", b"wire_up: fault 10 Read\n"
 MEMORY = b"wire_up: fault 1 Memory\n"
 # What is said of the file that `odd_plan` writes.

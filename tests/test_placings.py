@@ -9,7 +9,11 @@ from running import (
     EXAMPLE,
     FULL,
     NOTHING,
+    PATTERN_MISUSED,
+    SAME_MISUSED,
+    SPREAD_MISUSED,
     USAGE,
+    WITNESS_MISUSED,
     ProgramCase,
     Run,
     Runs,
@@ -171,25 +175,24 @@ def placings_of_examples() -> Runs:
 def misused_placings() -> Runs:
     """Where lines don't go."""
     pair = ["app:0", "2", "app:1", "1"]
-    misfit = b"wire_up: usage witness\n"
     for order in ("--first", "--second"):
         yield Run(
             f"witness {order} with lines",
             ["witness", order, "--lines", *pair, EARLY_GET],
             status=5,
-            said=misfit,
+            said=WITNESS_MISUSED,
         )
         yield Run(
             f"witness {order} with lines of the races",
             ["witness", order, "--lines", EARLY_GET],
             status=5,
-            said=misfit,
+            said=WITNESS_MISUSED,
         )
     yield Run(
         "check with --same alone",
         ["check", "--same", "--lines", EARLY_GET],
         status=5,
-        said=b"wire_up: usage --same\n",
+        said=SAME_MISUSED,
     )
     for words in (["replay"], ["follow", EARLY_GET], ["migrate"]):
         yield Run(f"{words[0]} with lines", [*words, "--lines", EARLY_GET], status=5, said=USAGE)
@@ -209,7 +212,7 @@ def misused_pattern_options() -> Runs:
 
 def misused_patterns(file: str) -> Runs:
     """What doesn't go with `--pattern`."""
-    usage = b"wire_up: usage --pattern\n"
+    usage = PATTERN_MISUSED
     for option in ("--anywhere", "--same", "--lines", "--large"):
         words = ["check", option, "--pattern", file]
         yield Run(f"check with --pattern and {option}", words, status=5, said=usage)
@@ -241,7 +244,7 @@ def misused_patterns(file: str) -> Runs:
 
 def misused_spreads(file: str) -> Runs:
     """Options of `expand` that don't say on which nodes ranks are."""
-    usage = b"wire_up: usage expand\n"
+    usage = SPREAD_MISUSED
     wrong = {
         "no ranks on a node": "--per-node 0",
         "ranks on a node that are no number": "--per-node x",
