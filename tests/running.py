@@ -10,7 +10,7 @@ from typing import IO, NamedTuple, Union
 
 import support
 
-EXAMPLE, ITS_REPORT = "examples/business-card.plan", "examples/business-card.report"
+EXAMPLE, ITS_REPORT = "examples/business-card.plan", "tests/examples/business-card.report"
 # An example with a race.
 EARLY_GET = "examples/early-get.plan"
 NOTHING = b"findings 0\n"
@@ -134,8 +134,10 @@ def with_little_memory() -> None:
 
 
 def examples(ending: str) -> list[str]:
-    """The names of the examples that have a file of this ending, without it."""
-    files = os.listdir(os.path.join(support.TOP, "examples"))
+    """The names of the examples that have a file of this ending, without it; what is expected of
+    them stands in tests/examples."""
+    folders = [os.path.join(support.TOP, *it) for it in (["examples"], ["tests", "examples"])]
+    files = [name for folder in folders for name in os.listdir(folder)]
     return sorted(it.removesuffix(ending) for it in files if it.endswith(ending))
 
 

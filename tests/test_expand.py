@@ -161,9 +161,10 @@ class Expand(ProgramCase):
 
     def test_examples(self) -> None:
         """Instances of all examples, as the reference has them."""
-        folder = os.path.join(support.TOP, "examples", "patterns")
-        for path in sorted(glob.glob(os.path.join(folder, "*.verdict"))):
-            file = path.removesuffix(".verdict") + ".pattern"
+        verdicts = os.path.join(support.TOP, "tests", "examples", "patterns", "*.verdict")
+        for path in sorted(glob.glob(verdicts)):
+            name = os.path.basename(path).removesuffix(".verdict")
+            file = os.path.join(support.TOP, "examples", "patterns", f"{name}.pattern")
             pattern = pattern_reference.read_pattern(pattern_text(file))
             for number in range(INSTANCES):
                 dice = random.Random(number)

@@ -150,7 +150,7 @@ def placings_that_fail(room: str) -> Runs:
 def placings_of_examples() -> Runs:
     """The runs of the examples' findings and questions, with lines."""
     for it in examples(".findings"):
-        placed, text = Placed(it), text_of(f"examples/{it}.findings")
+        placed, text = Placed(it), text_of(f"tests/examples/{it}.findings")
         yield Run(
             f"findings of {it} as JSON with lines",
             ["check", "--lines", "--json", placed.plan],
@@ -158,8 +158,8 @@ def placings_of_examples() -> Runs:
             wrote=placed.findings(text),
         )
     for it in examples(".question"):
-        asked = text_of(f"examples/{it}.question").decode().split()
-        placed, answer = Placed(it), text_of(f"examples/{it}.answer")
+        asked = text_of(f"tests/examples/{it}.question").decode().split()
+        placed, answer = Placed(it), text_of(f"tests/examples/{it}.answer")
         yield Run(
             f"a question about {it}, with lines",
             ["why", "--lines", *asked, placed.plan],

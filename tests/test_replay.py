@@ -162,7 +162,7 @@ def plans_to_complete() -> list[tuple[str, bytes, bytes, bytes]]:
         (
             "two ranks wait",
             text_of("examples/standstill.plan"),
-            text_of("examples/standstill.report"),
+            text_of("tests/examples/standstill.report"),
             b"wire_up: app:0 1 get waiting\n",
         ),
         ("no call", b"rehearsal 1\n", b"waiting 0\n", b""),
