@@ -1,9 +1,9 @@
 """What has to be read to believe a statement of docs/guarantees.md: the contract that it names, and
 each definition on which that rests. What stands in no contract needn't be read: it is proved.
 
-Usage: python3 -m build.reading [NUMBER]
-Prints the table of guarantees.md; with the number of a statement its files, with the definitions
-that count in each.
+Usage: python3 -m build.reading NUMBER     prints the files of a statement, with the definitions
+                                           that count in each
+       python3 -m build.reading --write    writes the table of docs/guarantees.md anew
 """
 import functools
 import glob
@@ -18,6 +18,7 @@ from build.definitions import Item, closure_of, functions_in
 from build.places import CRATES, TOP
 
 STATEMENTS = os.path.join(TOP, "docs", "guarantees.md")
+TABLE = re.compile(r"^\| statement \| files .*\n(?:\|.*\n)*", re.M)
 SECTION = re.compile(r"^### (?P<number>\d+)\. (?P<title>.*)\n(?P<text>(?s:.*?))(?=^##)", re.M)
 # The sentence that says which contract holds.
 CONTRACT = re.compile(r"^- Contract: ((?s:.*?))\.\s", re.M)
@@ -107,12 +108,23 @@ def listing(statement: Statement) -> str:
     return "".join(found)
 
 
+def write_table() -> None:
+    """Writes the table anew where it stands."""
+    with open(STATEMENTS, encoding="utf-8") as it:
+        text, rows = it.read(), table()
+    with open(STATEMENTS, "w", encoding="utf-8") as to:
+        to.write(TABLE.sub(lambda _: rows, text))
+
+
 def main(words: Sequence[str]) -> int:
     chosen = [it for it in statements() if [str(it.number)] == list(words)]
-    if words and not chosen:
+    if chosen:
+        print(listing(chosen[0]), end="")
+    elif list(words) == ["--write"]:
+        write_table()
+    else:
         print(__doc__, file=sys.stderr)
         return 1
-    print(listing(chosen[0]) if chosen else table(), end="")
     return 0
 
 

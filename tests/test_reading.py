@@ -117,9 +117,21 @@ class RepositoryTest(unittest.TestCase):
     """What definitions of the repository rest on."""
 
     def test_table(self) -> None:
-        """The document has the table that the program writes."""
+        """The document has the table that the program would write there."""
         with open(reading.STATEMENTS, encoding="utf-8") as it:
             self.assertIn(f"\n{reading.table()}\n", it.read())
+
+    def test_written(self) -> None:
+        """It writes the table where another stands."""
+        with open(reading.STATEMENTS, encoding="utf-8") as it:
+            text = it.read()
+        with tempfile.NamedTemporaryFile("w+", encoding="utf-8") as to:
+            to.write(text.replace(reading.table().splitlines(True)[2], "| old | 1 |\n"))
+            to.flush()
+            with mock.patch.object(reading, "STATEMENTS", to.name):
+                reading.write_table()
+            with open(to.name, encoding="utf-8") as it:
+                self.assertEqual(it.read(), text)
 
     def test_contracts(self) -> None:
         """Each statement but the fifth names a contract, with clauses that are there."""
