@@ -37,10 +37,11 @@ libraries:
 parts:
 	@python3 -m build.parts
 
-# `make try FILE=my.plan`: checks and replays a file by a build without proofs.
+# `make try FILE="my.plan other.plan"`: checks and replays files by a build without proofs, which is
+# kept until a crate changes.
 try:
 	@test -n "$(FILE)" || { echo "which file? make try FILE=my.plan"; exit 1; }
-	@python3 -m build.trying "$(FILE)"
+	@python3 -m build.trying $(FILE)
 
 # The gate: every proof, every test, and the program as a user calls it.
 test:

@@ -9,8 +9,9 @@ The kit has no call for these, which the repository does by itself:
   judged (`build/records.py`);
 - to remember what is below a crate, and the sum of its text: `Crate` of `build/crates.py` does,
   since the kit goes down to a library by every way that leads there;
-- to try a program without a second process that looks for names which a check would refuse
-  (`TriedCrate` of `build/trying.py`);
+- to try a program without a second process that looks for names which a check would refuse, and
+  to keep what it built for that (`TriedCrate` and `keep_program` of `build/trying.py`);
+- to say what a name stands for (`build/definitions.py`);
 - to check some functions of a copy of a crate and time them (`build/edits/checks.py`).
 """
 import importlib.machinery

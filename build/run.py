@@ -26,7 +26,7 @@ from build.memory import files_in_memory
 from build.places import BUILT, LOGS, TOP, WIRE_UP
 from build.progress import Progress
 from build.proving import prove_all
-from build.trying import COMMANDS, try_plan
+from build.trying import COMMANDS, try_plans
 
 EXAMPLE = "examples/business-card.plan"
 # The program that was proved, until it takes its place.
@@ -85,7 +85,7 @@ def try_example() -> None:
     """Checks and replays the example by a build without proofs, of a copy of the repository."""
     with tempfile.TemporaryDirectory(prefix="wire-up-") as room:
         copy_to(room, TOP)
-        try_plan(EXAMPLE, room)
+        try_plans([EXAMPLE], room)
 
 
 def note_time(log: str, seconds: float) -> None:

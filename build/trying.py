@@ -1,28 +1,34 @@
-"""Checks and replays a plan by a build without proofs, which has run-time checks in their place.
+"""Checks and replays plans by a build without proofs, which has run-time checks in their place.
 
-Usage: python3 -m build.trying FILE
+Usage: python3 -m build.trying FILE..
        python3 -m build.trying --cases FOLDER
 With --cases it runs the program for each file of a folder, as `rt try --cases` does in the folder
-of the program.
+of the program. What was built is kept, and taken again as long as no crate changes.
 """
+import contextlib
+import glob
 import os
-import re
-import shutil
 import subprocess
 import sys
 import tempfile
-from collections.abc import Sequence
+import threading
+from collections.abc import Iterator, Sequence
 from dataclasses import dataclass
 
 from build import kit, logs
+from build.crates import crates_for
 from build.ending import fail, run_and_leave
 from build.minutes import minutes_of
-from build.places import PROGRAM, TOP
+from build.places import LOGS, PROGRAM, TOP
 from build.progress import Progress
 
 COMMANDS = ("check", "replay")
-WROTE = re.compile(r"^== (\w+)\n((?:(?!== ).*\n)*)", re.M)
-ENDED = re.compile(r"^case=(\w+) run=ended status=(\d+)", re.M)
+# What is kept: the program, and beside it what it was built from.
+KEPT = os.path.join(LOGS, "tried", "wire_up")
+STAMP = f"{KEPT}.stamp"
+# How often the program is looked for while it is built, and how long it may run, in seconds; how
+# often the kit runs it.
+PAUSE, PATIENCE, CASES = 0.01, 600, 32
 
 
 class TriedCrate(kit.KitCrate):
@@ -42,11 +48,11 @@ class TriedCrate(kit.KitCrate):
 
 @dataclass(frozen=True)
 class Tried:
-    """What came of the commands: what each wrote, its exit status, and the lines of fault."""
+    """What came of a command: what it wrote, what it said, and its exit status."""
 
-    wrote: dict[str, str]
-    ended: dict[str, str]
-    faults: list[str]
+    wrote: str
+    said: str
+    status: int
 
 
 def try_cases(folder: str) -> int:
@@ -57,10 +63,13 @@ def try_cases(folder: str) -> int:
     return crate.try_unproved(["--cases", folder], [])
 
 
-def run_cases(folder: str, top: str) -> "subprocess.CompletedProcess[str]":
-    """Runs the program of the repository at `top`, without proofs, for each file of a folder."""
+def run_cases(
+    folder: str, top: str, room: str | None = None
+) -> "subprocess.CompletedProcess[str]":
+    """Runs the program of the repository at `top`, without proofs, for each file of a folder; it is
+    built in another."""
     # On the disk, since on some systems no program can be run from where files lie in memory.
-    where = {**os.environ, "TMPDIR": tempfile.gettempdir(), "PYTHONPATH": TOP}
+    where = {**os.environ, "TMPDIR": room or tempfile.gettempdir(), "PYTHONPATH": TOP}
     return subprocess.run(
         [sys.executable, "-m", "build.trying", "--cases", folder],
         cwd=os.path.join(top, os.path.relpath(PROGRAM, TOP)),
@@ -73,51 +82,114 @@ def run_cases(folder: str, top: str) -> "subprocess.CompletedProcess[str]":
     )
 
 
-def write_cases(room: str, file: str) -> None:
-    """Writes cases to a folder, in which each command gets the file on standard input."""
-    for command in COMMANDS:
-        shutil.copyfile(file, os.path.join(room, command))
-        with open(os.path.join(room, f"{command}.args"), "w", encoding="utf-8") as it:
-            it.write(f"{command}\n")
+def keep_program(room: str, to: str, has_ended: threading.Event) -> None:
+    """Keeps the program that the kit builds below a folder, and takes away again."""
+    while not has_ended.wait(PAUSE):
+        for path in glob.glob(os.path.join(room, "**", "program"), recursive=True):
+            with contextlib.suppress(OSError):
+                if not os.path.exists(to) or not os.path.samefile(path, to):
+                    os.link(path, f"{to}.new")
+                    os.replace(f"{to}.new", to)
 
 
-def tried(file: str, top: str, log: str) -> Tried | None:
-    """What came of the commands on the file; nothing where the build failed."""
-    with tempfile.TemporaryDirectory(prefix="wire-up-") as room:
-        write_cases(room, file)
-        ran = run_cases(room, top)
-    with open(log, "a", encoding="utf-8") as to:
-        to.write(f"$ rt try\n{ran.stdout}{ran.stderr}")
-    ended = dict(ENDED.findall(ran.stderr))
-    faults = [line for line in ran.stderr.splitlines() if line.startswith("wire_up: ")]
-    is_whole = set(COMMANDS) <= ended.keys()
-    return Tried(dict(WROTE.findall(ran.stdout)), ended, faults) if is_whole else None
+@contextlib.contextmanager
+def kept_from(room: str, to: str) -> Iterator[None]:
+    """Keeps the program that is built below a folder within this."""
+    has_ended = threading.Event()
+    watch = threading.Thread(target=keep_program, args=(room, to, has_ended))
+    watch.start()
+    try:
+        yield
+    finally:
+        has_ended.set()
+        watch.join()
 
 
-def try_plan(file: str, top: str = TOP) -> None:
-    """Checks and replays a file by a build without proofs of the repository at `top`, and prints
+def write_cases(room: str) -> None:
+    """Writes cases that take long enough for the program to be seen."""
+    os.mkdir(room)
+    for number in range(CASES):
+        case = os.path.join(room, f"case{number}")
+        open(case, "wb").close()
+        with open(f"{case}.args", "w", encoding="utf-8") as it:
+            it.write("--version\n")
+
+
+def stamp_at(top: str) -> str:
+    """A sum of all that the program of the repository at `top` is built from."""
+    return crates_for("program", top)[-1].stamp()
+
+
+def is_built(top: str) -> bool:
+    """Whether the program of the repository at `top` is kept."""
+    return os.path.exists(KEPT) and kit.text_of(STAMP) == stamp_at(top)
+
+
+def build(top: str, log: str) -> bool:
+    """Builds the program of the repository at `top` without proofs, and keeps it. Answers whether
+    that went well."""
+    stamp = stamp_at(top)
+    os.makedirs(os.path.dirname(KEPT), exist_ok=True)
+    with tempfile.TemporaryDirectory(prefix="tried-", dir=LOGS) as room:
+        cases, made = (os.path.join(room, it) for it in ("cases", "made"))
+        write_cases(cases)
+        with kept_from(room, made):
+            ran = run_cases(cases, top, room)
+        with open(log, "a", encoding="utf-8") as to:
+            to.write(f"$ rt try\n{ran.stdout}{ran.stderr}")
+        if ran.returncode or not os.path.exists(made):
+            return False
+        with contextlib.suppress(FileNotFoundError):
+            os.remove(STAMP)
+        os.replace(made, KEPT)
+    with open(STAMP, "w", encoding="utf-8") as it:
+        it.write(stamp)
+    return True
+
+
+def answer(command: str, file: str) -> Tried:
+    """What a command of the kept program answers of a file, in a folder of its own."""
+    with tempfile.TemporaryDirectory(prefix="wire-up-") as room, open(file, "rb") as given:
+        ran = subprocess.run(
+            [KEPT, command],
+            stdin=given,
+            capture_output=True,
+            cwd=room,
+            env=dict[str, str](),
+            check=False,
+            timeout=PATIENCE,
+        )
+    wrote, said = (it.decode(errors="replace") for it in (ran.stdout, ran.stderr))
+    return Tried(wrote, said, ran.returncode)
+
+
+def try_plans(files: Sequence[str], top: str = TOP) -> None:
+    """Checks and replays files by a build without proofs of the repository at `top`, and prints
     what comes of it. Where the build fails, the program ends."""
-    log = logs.log_at("try.log")
-    open(file, "rb").close()
-    print("This answer isn't proved: its build has run-time checks in place of proofs.", flush=True)
-    with Progress("building without proofs", minutes_of()["try"]):
-        outcome = tried(file, top, log)
-    if outcome is None:
-        fail("rt try failed", log)
-    for command in COMMANDS:
-        print(f"$ wire_up {command} {file}\n{outcome.wrote.get(command, '')}", end="")
-        if outcome.ended[command] != "0":
-            status = f"(exit status {outcome.ended[command]})"
-            print(*outcome.faults[:1], status, sep="\n")
+    for file in files:
+        open(file, "rb").close()
+    print("These answers aren't proved: their build has run-time checks instead.", flush=True)
+    if not is_built(top):
+        log = logs.log_at("try.log")
+        with Progress("building without proofs", minutes_of()["try"]):
+            is_well = build(top, log)
+        if not is_well:
+            fail("rt try failed", log)
+    for file in files:
+        for command in COMMANDS:
+            tried = answer(command, file)
+            print(f"$ wire_up {command} {file}\n{tried.wrote}", end="")
+            if tried.status:
+                print(f"{tried.said}(exit status {tried.status})", flush=True)
 
 
 def main() -> int:
     words = sys.argv[1:]
     if len(words) == 2 and words[0] == "--cases":
         return try_cases(words[1])
-    if len(words) != 1:
+    if not words or words[0].startswith("-"):
         sys.exit(__doc__)
-    try_plan(words[0])
+    try_plans(words)
     return 0
 
 

@@ -21,6 +21,11 @@ ENVIRONMENT = {
     "OMPI_ALLOW_RUN_AS_ROOT_CONFIRM": "1",
     "OMPI_MCA_osc": "^ucx,pt2pt",
 }
+# A library that comes before all others, as that of a sanitizer with which the recorder is built
+# has to (build/sanitized.py).
+FIRST = os.environ.get("WIRE_UP_FIRST_LIBRARY")
+if FIRST:
+    ENVIRONMENT["LD_PRELOAD"] = FIRST
 # How programs are compiled that aren't one source in C alone. A folder stands for that in which
 # they are put, where a program finds the libraries.
 COMPILED = {

@@ -10,7 +10,7 @@ from typing import IO, NamedTuple, Union
 
 import support
 
-EXAMPLE, ITS_REPORT = "examples/business-card.plan", "examples/business-card.report"
+EXAMPLE, ITS_REPORT = "examples/business-card.plan", "tests/examples/business-card.report"
 # An example with a race.
 EARLY_GET = "examples/early-get.plan"
 NOTHING = b"findings 0\n"
@@ -20,6 +20,23 @@ FAULTS = (
     " NotReady BadOrder"
 ).split()
 USAGE = (b"Usage: wire_up",)
+# What is said of words that are known, but don't go together.
+WORKERS_MISUSED = b"wire_up: usage --workers: its COUNT is a number\n"
+SAME_MISUSED = b"wire_up: usage --same: it needs --anywhere\n"
+PATTERN_MISUSED = (
+    b"wire_up: usage --pattern: --answers and --complete need it;"
+    b" --anywhere, --same, --lines and --large don't go with it\n"
+)
+PORTABLE_MISUSED = (
+    b"wire_up: usage --portable: of patterns it isn't known, and it doesn't go with --same\n"
+)
+SPREAD_MISUSED = (
+    b"wire_up: usage expand: say --per-node COUNT or --by node --nodes COUNT, each from 1 on\n"
+)
+WITNESS_MISUSED = (
+    b"wire_up: usage witness: --first or --second needs two calls, and no --lines or --json;"
+    b" --most needs a number, and no calls\n"
+)
 FULL, READ = b"wire_up: fault 11 Write 0\n", b"wire_up: fault 10 Read\n"
 MEMORY = b"wire_up: fault 1 Memory\n"
 # What is said of the file that `odd_plan` writes.
@@ -117,8 +134,10 @@ def with_little_memory() -> None:
 
 
 def examples(ending: str) -> list[str]:
-    """The names of the examples that have a file of this ending, without it."""
-    files = os.listdir(os.path.join(support.TOP, "examples"))
+    """The names of the examples that have a file of this ending, without it; what is expected of
+    them stands in tests/examples."""
+    folders = [os.path.join(support.TOP, *it) for it in (["examples"], ["tests", "examples"])]
+    files = [name for folder in folders for name in os.listdir(folder)]
     return sorted(it.removesuffix(ending) for it in files if it.endswith(ending))
 
 

@@ -45,7 +45,7 @@ def twice_plan(room: str) -> str:
 def checks_of_plans(room: str) -> Runs:
     """Checks of plans."""
     plan = text_of(EXAMPLE)
-    races = text_of("examples/early-get.findings")
+    races = text_of("tests/examples/early-get.findings")
     twice = twice_plan(room)
     lines = [b"race app:0 %d app:1 %d name x%d\n" % (n + 1, n + 1, n) for n in range(4096)]
     fences = fences_plan(room)

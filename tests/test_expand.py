@@ -11,7 +11,7 @@ import pattern_soaking
 import support
 from pattern_reference import Ranks
 from pattern_soaking import Instance
-from running import FULL, ProgramCase, Run, Runs, as_lines, onto
+from running import FULL, SPREAD_MISUSED, ProgramCase, Run, Runs, as_lines, onto
 
 CARDS = "examples/patterns/business-cards.pattern"
 # How many instances of each example are written.
@@ -135,7 +135,7 @@ def usages() -> Runs:
         "--per-node 1 --by node --nodes 1",
     ):
         told = ["expand", *words.split(" "), CARDS]
-        yield Run(words, told, status=5, said=b"wire_up: usage expand\n")
+        yield Run(words, told, status=5, said=SPREAD_MISUSED)
 
 
 class Expand(ProgramCase):
@@ -161,9 +161,10 @@ class Expand(ProgramCase):
 
     def test_examples(self) -> None:
         """Instances of all examples, as the reference has them."""
-        folder = os.path.join(support.TOP, "examples", "patterns")
-        for path in sorted(glob.glob(os.path.join(folder, "*.verdict"))):
-            file = path.removesuffix(".verdict") + ".pattern"
+        verdicts = os.path.join(support.TOP, "tests", "examples", "patterns", "*.verdict")
+        for path in sorted(glob.glob(verdicts)):
+            name = os.path.basename(path).removesuffix(".verdict")
+            file = os.path.join(support.TOP, "examples", "patterns", f"{name}.pattern")
             pattern = pattern_reference.read_pattern(pattern_text(file))
             for number in range(INSTANCES):
                 dice = random.Random(number)

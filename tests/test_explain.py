@@ -237,9 +237,8 @@ def nothing_to_explain(room: str) -> Runs:
         wrote=(b"unsettled\n", b"waiting 1\n"),
     )
     for name, status in ("same-node", 1), ("direct-modex", 0):
-        path = f"examples/patterns/{name}"
-        said = text_of(f"{path}.verdict")
-        words = ["check", "--pattern", "--explain", f"{path}.pattern"]
+        said = text_of(f"tests/examples/patterns/{name}.verdict")
+        words = ["check", "--pattern", "--explain", f"examples/patterns/{name}.pattern"]
         yield Run(f"a pattern and nothing to explain: {name}", words, status=status, wrote=said)
 
 

@@ -100,7 +100,7 @@ def forms_of_orders(room: str) -> Runs:
 def forms_of_examples() -> Runs:
     """The examples as JSON."""
     for it in examples(".findings"):
-        found = text_of(f"examples/{it}.findings")
+        found = text_of(f"tests/examples/{it}.findings")
         status = int(found != NOTHING)
         yield Run(
             f"findings of {it} as JSON",
@@ -109,8 +109,8 @@ def forms_of_examples() -> Runs:
             wrote=found_as_json(found),
         )
     for it in examples(".question"):
-        words, answer = text_of(f"examples/{it}.question").decode().split(), text_of(
-            f"examples/{it}.answer"
+        words, answer = text_of(f"tests/examples/{it}.question").decode().split(), text_of(
+            f"tests/examples/{it}.answer"
         )
         yield Run(
             f"a question about {it}, as JSON",
@@ -118,7 +118,7 @@ def forms_of_examples() -> Runs:
             wrote=answer_as_json(answer),
         )
     for it in examples(".order"):
-        report = text_of(f"examples/{it}.followed")
+        report = text_of(f"tests/examples/{it}.followed")
         yield Run(
             f"an order of {it}, as JSON",
             ["follow", "--json", f"examples/{it}.order", f"examples/{it}.plan"],
@@ -244,7 +244,7 @@ class Forms(ProgramCase):
         plan, placed = f"examples/{name}.plan", Placed(name)
         lines = self.witness([], [], plan)
         self.hold_forms([], plan, tried_as_json(lines[1]), placed.tried(lines[1]), lines[0])
-        findings = text_of(f"examples/{name}.findings").decode().splitlines()
+        findings = text_of(f"tests/examples/{name}.findings").decode().splitlines()
         for finding in (it for it in findings if it.startswith("race ")):
             words = finding.split(" ")[1:5]
             status, text = self.witness([], words, plan)

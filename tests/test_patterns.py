@@ -23,6 +23,7 @@ from running import ProgramCase, Run, Runs, as_lines, start
 from soak_runner import Runner
 
 FOLDER = os.path.join(support.TOP, "examples", "patterns")
+EXPECTED = os.path.join(support.TOP, "tests", "examples", "patterns")
 # How many random patterns are tried, of at most so many instances.
 PATTERNS, MOST_INSTANCES = 200, 64
 # A key of the root, with its scope, which workers look for after a fence that collects.
@@ -51,9 +52,15 @@ def text_at(path: str) -> bytes:
 
 
 def examples(ending: str) -> list[str]:
-    """The examples of patterns that have a file of this ending, without it."""
-    paths = glob.glob(os.path.join(FOLDER, f"*{ending}"))
-    return sorted(it.removesuffix(ending) for it in paths)
+    """The examples of patterns that have a file of this ending, without it; what is expected of
+    them stands in a folder of its own."""
+    names = [name for it in (FOLDER, EXPECTED) for name in glob.glob(f"*{ending}", root_dir=it)]
+    return sorted(os.path.join(FOLDER, name.removesuffix(ending)) for name in names)
+
+
+def expected_of(path: str, ending: str) -> bytes:
+    """What is expected of an example, by its path without an ending."""
+    return text_at(os.path.join(EXPECTED, os.path.basename(path) + ending))
 
 
 def small_patterns(count: int) -> list[bytes]:
@@ -77,17 +84,17 @@ class Reference(unittest.TestCase):
     """What the reference says, without the program."""
 
     def test_examples(self) -> None:
-        """Each example has the verdict, or the fault, that stands beside it."""
+        """Each example has the verdict, or the fault, that is expected."""
         for it in examples(".verdict"):
             with self.subTest(it):
                 _, wrote, more = pattern_reference.judge(text_at(f"{it}.pattern"))
-                verdict = pattern_reference.without_answered(text_at(f"{it}.verdict"))
+                verdict = pattern_reference.without_answered(expected_of(it, ".verdict"))
                 self.assertEqual(verdict, wrote + more)
         for it in examples(".fault"):
             with self.subTest(it):
                 with self.assertRaises(grammar.Refused) as refused:
                     pattern_reference.read_pattern(text_at(f"{it}.pattern"))
-                self.assertEqual(text_at(f"{it}.fault"), refused.exception.said())
+                self.assertEqual(expected_of(it, ".fault"), refused.exception.said())
 
     def test_all_examples_have_one(self) -> None:
         both = examples(".verdict") + examples(".fault")
@@ -168,7 +175,7 @@ class Program(ProgramCase):
 
     def runs_of_examples(self) -> Runs:
         for it in examples(".verdict"):
-            verdict = text_at(f"{it}.verdict")
+            verdict = expected_of(it, ".verdict")
             status = int(verdict.startswith(b"#"))
             lines = verdict.splitlines(True)
             short = b"".join(line for line in lines if not line.startswith(b"answers "))
@@ -179,7 +186,7 @@ class Program(ProgramCase):
             words.append("--answers")
             yield Run(it, [*words, f"{it}.pattern"], status=status, wrote=verdict)
         for it in examples(".fault"):
-            said = text_at(f"{it}.fault")
+            said = expected_of(it, ".fault")
             yield Run(it, ["check", "--pattern", f"{it}.pattern"], status=2, said=said)
 
     def test_examples(self) -> None:
@@ -189,7 +196,7 @@ class Program(ProgramCase):
         """The examples as JSON. With `--answers` there is a list of these, if nothing is found."""
         words = ["check", "--pattern", "--json"]
         for it in examples(".verdict"):
-            verdict, path = text_at(f"{it}.verdict"), f"{it}.pattern"
+            verdict, path = expected_of(it, ".verdict"), f"{it}.pattern"
             status = int(verdict.startswith(b"#"))
             lines = verdict.splitlines(True)
             short = b"".join(line for line in lines if not line.startswith(b"answers "))
@@ -201,7 +208,7 @@ class Program(ProgramCase):
             asked = ["--answers", path]
             yield Run(f"{it} with answers, as JSON", [*words, *asked], status=status, wrote=wrote)
         for it in examples(".fault"):
-            said = text_at(f"{it}.fault")
+            said = expected_of(it, ".fault")
             yield Run(f"{it} as JSON", [*words, f"{it}.pattern"], status=2, said=said)
 
     def test_examples_as_json(self) -> None:

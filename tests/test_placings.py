@@ -9,7 +9,11 @@ from running import (
     EXAMPLE,
     FULL,
     NOTHING,
+    PATTERN_MISUSED,
+    SAME_MISUSED,
+    SPREAD_MISUSED,
     USAGE,
+    WITNESS_MISUSED,
     ProgramCase,
     Run,
     Runs,
@@ -146,7 +150,7 @@ def placings_that_fail(room: str) -> Runs:
 def placings_of_examples() -> Runs:
     """The runs of the examples' findings and questions, with lines."""
     for it in examples(".findings"):
-        placed, text = Placed(it), text_of(f"examples/{it}.findings")
+        placed, text = Placed(it), text_of(f"tests/examples/{it}.findings")
         yield Run(
             f"findings of {it} as JSON with lines",
             ["check", "--lines", "--json", placed.plan],
@@ -154,8 +158,8 @@ def placings_of_examples() -> Runs:
             wrote=placed.findings(text),
         )
     for it in examples(".question"):
-        asked = text_of(f"examples/{it}.question").decode().split()
-        placed, answer = Placed(it), text_of(f"examples/{it}.answer")
+        asked = text_of(f"tests/examples/{it}.question").decode().split()
+        placed, answer = Placed(it), text_of(f"tests/examples/{it}.answer")
         yield Run(
             f"a question about {it}, with lines",
             ["why", "--lines", *asked, placed.plan],
@@ -171,25 +175,24 @@ def placings_of_examples() -> Runs:
 def misused_placings() -> Runs:
     """Where lines don't go."""
     pair = ["app:0", "2", "app:1", "1"]
-    misfit = b"wire_up: usage witness\n"
     for order in ("--first", "--second"):
         yield Run(
             f"witness {order} with lines",
             ["witness", order, "--lines", *pair, EARLY_GET],
             status=5,
-            said=misfit,
+            said=WITNESS_MISUSED,
         )
         yield Run(
             f"witness {order} with lines of the races",
             ["witness", order, "--lines", EARLY_GET],
             status=5,
-            said=misfit,
+            said=WITNESS_MISUSED,
         )
     yield Run(
         "check with --same alone",
         ["check", "--same", "--lines", EARLY_GET],
         status=5,
-        said=b"wire_up: usage --same\n",
+        said=SAME_MISUSED,
     )
     for words in (["replay"], ["follow", EARLY_GET], ["migrate"]):
         yield Run(f"{words[0]} with lines", [*words, "--lines", EARLY_GET], status=5, said=USAGE)
@@ -209,7 +212,7 @@ def misused_pattern_options() -> Runs:
 
 def misused_patterns(file: str) -> Runs:
     """What doesn't go with `--pattern`."""
-    usage = b"wire_up: usage --pattern\n"
+    usage = PATTERN_MISUSED
     for option in ("--anywhere", "--same", "--lines", "--large"):
         words = ["check", option, "--pattern", file]
         yield Run(f"check with --pattern and {option}", words, status=5, said=usage)
@@ -241,7 +244,7 @@ def misused_patterns(file: str) -> Runs:
 
 def misused_spreads(file: str) -> Runs:
     """Options of `expand` that don't say on which nodes ranks are."""
-    usage = b"wire_up: usage expand\n"
+    usage = SPREAD_MISUSED
     wrong = {
         "no ranks on a node": "--per-node 0",
         "ranks on a node that are no number": "--per-node x",

@@ -13,12 +13,11 @@ from library_axioms import LIBRARIES
 from library_plans import Facts
 from portable_histories import Divergence
 from rows.portable import ROWS, Told
-from running import ProgramCase, Run, Runs, start
+from running import PORTABLE_MISUSED, ProgramCase, Run, Runs, start
 from small_plans import make_small
 from support import TOP
 
 CHECK, PORTABLE, ANYWHERE = "check", "--portable", "--anywhere"
-MISUSED = b"wire_up: usage --portable: of patterns it isn't known, and it doesn't go with --same\n"
 # The libraries of two families at least, by the names of their tables and of the answer.
 JUDGED = {"openpmix-4.2": "4.2", "openpmix-5.0": "5.0", "openpmix-7.0": "7.0"}
 SEED, COUNT, MOST_STATES = 73, 400, 20_000
@@ -101,9 +100,9 @@ class Forms(ProgramCase):
         pattern = "examples/patterns/business-cards.pattern"
         for others in (["--same", ANYWHERE], ["--same"], ["--answers"], ["--complete"]):
             words = [CHECK, PORTABLE, *others, EARLY]
-            yield Run(f"--portable with {others}", words, status=5, said=MISUSED)
+            yield Run(f"--portable with {others}", words, status=5, said=PORTABLE_MISUSED)
         words = [CHECK, PORTABLE, "--pattern", pattern]
-        yield Run("--portable with --pattern", words, status=5, said=MISUSED)
+        yield Run("--portable with --pattern", words, status=5, said=PORTABLE_MISUSED)
         yield Run("a bad plan", [CHECK, PORTABLE], b"rehearsal 3\n", status=2, said=(b"BadHeader",))
 
     def test_misused(self) -> None:

@@ -53,7 +53,8 @@ def runs(room: str) -> Runs:
 def runs_of_examples() -> Runs:
     """The runs of the examples."""
     for it in examples(".plan"):
-        findings, report_of = text_of(f"examples/{it}.findings"), text_of(f"examples/{it}.report")
+        expected = f"tests/examples/{it}"
+        findings, report_of = text_of(f"{expected}.findings"), text_of(f"{expected}.report")
         found = findings != NOTHING
         yield Run(
             f"{it}.plan",
@@ -62,7 +63,7 @@ def runs_of_examples() -> Runs:
             wrote=findings if found else report_of,
         )
     for it in examples(".plan"):
-        findings = text_of(f"examples/{it}.findings")
+        findings = text_of(f"tests/examples/{it}.findings")
         yield Run(
             f"{it}.findings",
             ["check", f"examples/{it}.plan"],
@@ -71,10 +72,11 @@ def runs_of_examples() -> Runs:
         )
     for it in examples(".order"):
         words = ["follow", f"examples/{it}.order", f"examples/{it}.plan"]
-        yield Run(f"{it}.order", words, wrote=text_of(f"examples/{it}.followed"))
+        yield Run(f"{it}.order", words, wrote=text_of(f"tests/examples/{it}.followed"))
     for it in examples(".question"):
-        words = ["why", *text_of(f"examples/{it}.question").decode().split(), f"examples/{it}.plan"]
-        yield Run(f"{it}.question", words, wrote=text_of(f"examples/{it}.answer"))
+        asked = text_of(f"tests/examples/{it}.question").decode().split()
+        words = ["why", *asked, f"examples/{it}.plan"]
+        yield Run(f"{it}.question", words, wrote=text_of(f"tests/examples/{it}.answer"))
 
 
 def runs_of_help(room: str) -> Runs:

@@ -27,7 +27,7 @@ SHOWN_IN = (
     "docs/plan-format.md",
     "docs/recording.md",
 )
-PLACES = ("*.md", "docs/*.md", "crates/*/README.md")
+PLACES = ("*.md", "docs/*.md", "examples/*.md", "crates/*/README.md")
 LINK = re.compile(r"\]\((?!https?:)([^)#\s]+)")
 OF_CRATE = re.compile(r"`(?:crates/)?(\w+/(?:src|specs|proofs)/[\w/]+\.(?:rt|antt))`")
 OF_TOP = re.compile(r"`((?:tests|examples|docs|build|packaging|record|python)/[\w./-]+\.\w+)`")
@@ -111,6 +111,15 @@ class Files(unittest.TestCase):
                 named = {os.path.normpath(it) for it in named_files(path)}
                 found = {it for it in named if os.path.exists(os.path.join(support.TOP, it))}
                 self.assertEqual([], sorted(named - found), "files that aren't there")
+
+    def test_examples(self) -> None:
+        """Each has a line in their index."""
+        folder = os.path.join(support.TOP, "examples")
+        paths = glob.glob("**/*.p*", root_dir=folder, recursive=True)
+        words = re.findall(r"[\w-]+", re.sub(r"\([^)]*\)", "", text_of("examples/README.md")))
+        for it in paths:
+            with self.subTest(it):
+                self.assertIn(os.path.splitext(os.path.basename(it))[0], words)
 
 
 class Commands(unittest.TestCase):

@@ -7,7 +7,9 @@ from running import (
     CARDS,
     CARDS_REPORT,
     NOTHING,
+    PATTERN_MISUSED,
     RACY,
+    WORKERS_MISUSED,
     ProgramCase,
     Run,
     Runs,
@@ -93,7 +95,6 @@ def refused_workers(room: str) -> Runs:
     none = os.path.join(room, "none")
     odd = written(room, "odd.plan", b"# only\n")
     workers = b"wire_up: fault 9 Workers\n"
-    word = b"wire_up: usage --workers\n"
     for n in ("0", "65", "99999999999999999999"):
         yield Run(f"{n} workers at most", ["replay", "--workers", n, cards], status=2, said=workers)
     yield Run(
@@ -109,8 +110,10 @@ def refused_workers(room: str) -> Runs:
         said=b"wire_up: fault 10 Read\n",
     )
     for it in ("x", "", "+1", "1x"):
-        yield Run(f"'{it}' workers", ["replay", "--workers", it, none], status=5, said=word)
-    yield Run("less than no worker", ["replay", "--workers=-1", cards], status=5, said=word)
+        words = ["replay", "--workers", it, none]
+        yield Run(f"'{it}' workers", words, status=5, said=WORKERS_MISUSED)
+    words = ["replay", "--workers=-1", cards]
+    yield Run("less than no worker", words, status=5, said=WORKERS_MISUSED)
 
 
 def misused_replays(room: str) -> Runs:
@@ -159,7 +162,7 @@ def plans_to_complete() -> list[tuple[str, bytes, bytes, bytes]]:
         (
             "two ranks wait",
             text_of("examples/standstill.plan"),
-            text_of("examples/standstill.report"),
+            text_of("tests/examples/standstill.report"),
             b"wire_up: app:0 1 get waiting\n",
         ),
         ("no call", b"rehearsal 1\n", b"waiting 0\n", b""),
@@ -251,7 +254,7 @@ def completions_that_fail(room: str) -> Runs:
         "a check that is complete",
         ["check", "--complete", racy],
         status=5,
-        said=b"wire_up: usage --pattern\n",
+        said=PATTERN_MISUSED,
     )
 
 

@@ -10,9 +10,12 @@
 #include <dlfcn.h>
 #include <stdio.h>
 
+/* A sanitizer looks functions up before what it checks with is there. */
+#define UNCHECKED __attribute__((no_sanitize_address, no_sanitize_undefined))
+
 static wire_up_find_symbol *system_dlsym;
 
-wire_up_find_symbol *wire_up_dlsym(void)
+UNCHECKED wire_up_find_symbol *wire_up_dlsym(void)
 {
     static const char *const versions[] = {"GLIBC_2.34", "GLIBC_2.2.5", "GLIBC_2.17"};
     wire_up_find_symbol *found = __atomic_load_n(&system_dlsym, __ATOMIC_RELAXED);
@@ -94,8 +97,8 @@ __attribute__((noinline)) static void *choose_object(wire_up_find_symbol *find, 
 /* A lookup in one object, or behind one, finds its functions past those that are preloaded. What the
  * recorder doesn't answer is looked up by a jump, as the optimizer writes such a call: what is found can
  * depend on where the lookup is made. */
-__attribute__((optimize("O2"))) EXPORTED void *dlsym(void *restrict object,
-                                                      const char *restrict name)
+__attribute__((optimize("O2"))) UNCHECKED EXPORTED void *dlsym(void *restrict object,
+                                                               const char *restrict name)
 {
     wire_up_find_symbol *find = wire_up_dlsym();
     void *caller = __builtin_return_address(0), *own = NULL;

@@ -35,9 +35,17 @@ use wire_types::{Fault, FromRead, ToWrite, write_out};
 /// The exit status of a command line that can't be read.
 const USAGE: u8 = 5;
 
-/// What is told where `--portable` stands beside options that don't go with it.
+/// What is told of words that are known, but don't go together.
+const WORKERS_MISUSED: &str = "wire_up: usage --workers: its COUNT is a number";
+const SAME_MISUSED: &str = "wire_up: usage --same: it needs --anywhere";
+const PATTERN_MISUSED: &str = "wire_up: usage --pattern: --answers and --complete need it; \
+    --anywhere, --same, --lines and --large don't go with it";
 const PORTABLE_MISUSED: &str =
     "wire_up: usage --portable: of patterns it isn't known, and it doesn't go with --same";
+const SPREAD_MISUSED: &str =
+    "wire_up: usage expand: say --per-node COUNT or --by node --nodes COUNT, each from 1 on";
+const WITNESS_MISUSED: &str = "wire_up: usage witness: --first or --second needs two calls, and no --lines or --json; \
+    --most needs a number, and no calls";
 
 /// Why the program didn't do what it was asked to do.
 #[derive(Drop)]
@@ -107,12 +115,12 @@ fn obey<'a>(
 /// Tells why the words request nothing.
 fn refuse(rt: &(impl Print + Eprint + AllocGlobal), refusal: Refusal) -> Result<u8, Failure> {
     match refusal {
-        Refusal::Workers => tell_misused(rt, "wire_up: usage --workers"),
-        Refusal::Same => tell_misused(rt, "wire_up: usage --same"),
-        Refusal::Pattern => tell_misused(rt, "wire_up: usage --pattern"),
+        Refusal::Workers => tell_misused(rt, WORKERS_MISUSED),
+        Refusal::Same => tell_misused(rt, SAME_MISUSED),
+        Refusal::Pattern => tell_misused(rt, PATTERN_MISUSED),
         Refusal::Portable => tell_misused(rt, PORTABLE_MISUSED),
-        Refusal::Spread => tell_misused(rt, "wire_up: usage expand"),
-        Refusal::Witness => tell_misused(rt, "wire_up: usage witness"),
+        Refusal::Spread => tell_misused(rt, SPREAD_MISUSED),
+        Refusal::Witness => tell_misused(rt, WITNESS_MISUSED),
         Refusal::Usage(error) => tell(rt, &error),
     }
 }

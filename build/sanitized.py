@@ -1,0 +1,75 @@
+"""Runs tests that record programs, with recorders that are built with the sanitizers of addresses
+and of undefined behaviour. What these find ends the process, and is printed at the end.
+
+Usage: python3 -m build.sanitized [TEST..]
+A test is a module, a class or a method, such as tests.test_recording_live.CasesTest, which is what
+runs without one. It works on a copy of the repository. The last line is 'N passed, M failed'.
+"""
+import glob
+import os
+import subprocess
+import sys
+import tempfile
+from collections.abc import Sequence
+
+from build.counts import Counts
+from build.crates import copy_to
+from build.places import TOP
+
+FLAGS = (
+    "-O1 -g -fno-omit-frame-pointer -fsanitize=address,undefined"
+    " -fno-sanitize-recover=undefined"
+)
+TESTS = ("tests.test_recording_live.CasesTest",)
+# The library of the sanitizers, which comes before all others in each process.
+LIBRARY = "libasan.so"
+
+
+def find_library() -> str:
+    """The path of the library of the sanitizers; the program ends where there is none."""
+    words = [os.environ.get("CC", "cc"), f"-print-file-name={LIBRARY}"]
+    try:
+        ran = subprocess.run(words, capture_output=True, text=True, check=True)
+    except (OSError, subprocess.CalledProcessError):
+        sys.exit("there is no C compiler here")
+    if not os.path.isabs(ran.stdout.strip()):
+        sys.exit("the C compiler has no sanitizers here")
+    return ran.stdout.strip()
+
+
+def build(room: str) -> None:
+    """Builds the recorders of a copy."""
+    words = ["make", "-s", "record", "record-mpi", f"CFLAGS={FLAGS}"]
+    if subprocess.run(words, cwd=room, check=False).returncode:
+        sys.exit("the recorders can't be built with sanitizers")
+
+
+def run_tests(room: str, tests: Sequence[str]) -> bool:
+    """Runs tests of a copy. Answers whether they passed."""
+    settings = {
+        "WIRE_UP_FIRST_LIBRARY": find_library(),
+        "ASAN_OPTIONS": f"detect_leaks=0:log_path={os.path.join(room, 'found')}",
+        "UBSAN_OPTIONS": "print_stacktrace=1",
+        "PYTHONPATH": "",
+    }
+    words, where = [sys.executable, "-m", "unittest", *tests], {**os.environ, **settings}
+    return not subprocess.run(words, cwd=room, env=where, check=False).returncode
+
+
+def main(tests: Sequence[str]) -> int:
+    find_library()
+    with tempfile.TemporaryDirectory(prefix="wire-up-") as room:
+        copy_to(room, TOP)
+        build(room)
+        is_well = run_tests(room, tests or TESTS)
+        found = sorted(glob.glob(os.path.join(room, "found.*")))
+        for path in found:
+            with open(path, encoding="utf-8", errors="replace") as it:
+                print(it.read())
+    is_well = is_well and not found
+    print(Counts(int(is_well), int(not is_well)))
+    return 0 if is_well else 1
+
+
+if __name__ == "__main__":
+    sys.exit(main(sys.argv[1:]))
