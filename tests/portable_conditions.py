@@ -55,15 +55,24 @@ class Blamed:
     rule: str
 
 
-class Conditions:
-    """The conditions of a plan for a library, on its nodes or anywhere. `wrong` are the rules that
-    are left out, and the mistakes of WRONG that are made."""
+@dataclass(frozen=True)
+class Asked:
+    """How the conditions are asked for: the rules that are left out, and the mistakes of WRONG that
+    are made; on the plan's nodes, or anywhere; and whether it is known that something races there."""
 
-    def __init__(
-        self, facts: Facts, library: Library, wrong: frozenset[str], anywhere: bool = False
-    ) -> None:
+    wrong: frozenset[str] = frozenset()
+    anywhere: bool = False
+    is_racy: bool = False
+
+
+class Conditions:
+    """The conditions of a plan for a library."""
+
+    def __init__(self, facts: Facts, library: Library, asked: Asked) -> None:
         self.facts, self.plan, self.library = facts, facts.plan, library
-        self.family, self.wrong, self.anywhere = library.family, wrong, anywhere
+        self.family, self.wrong, self.anywhere = library.family, asked.wrong, asked.anywhere
+        self.is_settled = not asked.is_racy and facts.plan.findings() == b"findings 0\n"
+        self.is_settled |= self.is_wrong("published, unpublished: by the replies of a racy plan")
         self.calls = [it for it in self.plan.firsts if self.is_asked(it)]
 
     def blamed(self) -> Iterator[Blamed]:
@@ -376,11 +385,9 @@ class Conditions:
             yield "unpublish-all"
             return
         reply = model_runs.Run(self.plan).go().end(call)
-        is_settled = self.plan.findings() == b"findings 0\n"
-        is_settled |= self.is_wrong("published, unpublished: by the replies of a racy plan")
         is_once = len(self.plan.publishes[name]) == 1 and not self.is_taken_away(name)
         is_refused = reply in (model.DUPLICATE, model.NOT_FOUND)
-        if is_refused if is_settled else not is_once:
+        if is_refused if self.is_settled else not is_once:
             yield "published" if verb == b"publish" else "unpublished"
 
     def is_taken_away(self, name: bytes) -> bool:
@@ -388,16 +395,16 @@ class Conditions:
         return any(self.facts.words(it)[0] == b"unpublish" for it in self.plan.on_name[name])
 
 
-def blame(facts: Facts, name: str, *wrong: str, anywhere: bool = False) -> set[Blamed]:
+def blame(facts: Facts, name: str, asked: Asked = Asked()) -> set[Blamed]:
     """What is blamed of a plan for a library, by the name of its table."""
-    return {*Conditions(facts, LIBRARIES[name], frozenset(wrong), anywhere).blamed()}
+    return {*Conditions(facts, LIBRARIES[name], asked).blamed()}
 
 
-def tell(facts: Facts, *wrong: str, anywhere: bool = False) -> list[str]:
+def tell(facts: Facts, asked: Asked = Asked()) -> list[str]:
     """The lines of `check --portable` behind the findings, those of calls in their order."""
     found: dict[Blamed, list[str]] = {}
     for name, short in JUDGED.items():
-        for it in blame(facts, name, *wrong, anywhere=anywhere):
+        for it in blame(facts, name, asked):
             found.setdefault(it, []).append(short)
     lines = []
     for it in sorted(found, key=lambda it: (it.call, it.rule)):

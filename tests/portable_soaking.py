@@ -14,7 +14,7 @@ import grammar
 import small_plans
 from library_axioms import LIBRARIES
 from library_plans import Facts
-from portable_conditions import JUDGED, tell
+from portable_conditions import JUDGED, Asked, tell
 from portable_histories import find_divergence
 from soak_runner import Difference, Runner, same
 
@@ -48,12 +48,12 @@ def is_plain(facts: Facts) -> bool:
     return is_alike and all(len(it) == 1 for it in facts.plan.puts.values())
 
 
-def hold_lines(lines: list[str], facts: Facts, anywhere: bool) -> None:
+def hold_lines(lines: list[str], facts: Facts, asked: Asked) -> None:
     """Holds the lines behind the findings to the second reader."""
-    wanted, is_partly = tell(facts, anywhere=anywhere), comes_in_part(facts)
+    wanted, is_partly = tell(facts, asked), comes_in_part(facts)
     told, held = read_libraries(lines[-1]), read_libraries(wanted[-1])
     if is_plain(facts) and not is_partly:
-        same("other lines than the conditions have", wanted, lines, anywhere)
+        same("other lines than the conditions have", wanted, lines, asked)
     elif not told <= held or told != held and not is_partly:
         raise Difference("other libraries than the conditions hold for", f"{wanted} and {lines}")
 
@@ -78,7 +78,8 @@ def hold(runner: Runner, text: bytes) -> str:
         words = ["--anywhere"] * anywhere
         ran = runner.run("check", "--portable", *words, path)
         findings, _, lines = ran.wrote.decode().partition("findings ")
-        hold_lines(lines.splitlines()[1:], facts, anywhere)
+        asked = Asked(anywhere=anywhere, is_racy=bool(findings))
+        hold_lines(lines.splitlines()[1:], facts, asked)
         named = read_libraries(lines.splitlines()[-1])
     runner.held["check --portable"] += 2
     if not findings:

@@ -5,7 +5,7 @@ import unittest
 import pattern_faults
 from library_axioms import LIBRARIES
 from library_plans import Facts
-from portable_conditions import JUDGED, WRONG, blame, tell
+from portable_conditions import JUDGED, WRONG, Asked, blame, tell
 from portable_histories import find_divergence
 from rows.portable import ROWS
 
@@ -40,13 +40,14 @@ class Conditions(unittest.TestCase):
             with self.subTest(row.name):
                 facts = PLANS[row.name]
                 self.assertEqual(row.here.split(" / "), tell(facts))
-                self.assertEqual(row.anywhere.split(" / "), tell(facts, anywhere=True))
+                self.assertEqual(row.anywhere.split(" / "), tell(facts, Asked(anywhere=True)))
 
     def test_rows_notice_each_mistake(self) -> None:
         """So they do each rule that is left out."""
         self.assertEqual(15, len(RULES))
         for wrong in (*RULES, *WRONG):
-            others = [it for it in ROWS if tell(PLANS[it.name], wrong) != it.here.split(" / ")]
+            asked = Asked(frozenset([wrong]))
+            others = [it for it in ROWS if tell(PLANS[it.name], asked) != it.here.split(" / ")]
             self.assertTrue(others, wrong)
 
     def test_libraries_show_each_mistake(self) -> None:
@@ -59,7 +60,8 @@ class Conditions(unittest.TestCase):
             if any(find_divergence(facts, LIBRARIES[library], MOST_STATES))
         ]
         self.assertTrue(all(blame(*it) for it in differing))
-        shown = {it for it in (*RULES, *WRONG) if not all(blame(*of, it) for of in differing)}
+        asked = {it: Asked(frozenset([it])) for it in (*RULES, *WRONG)}
+        shown = {it for it, a in asked.items() if not all(blame(*of, a) for of in differing)}
         self.assertEqual({*RULES, *WRONG} - NEEDLESS, shown)
 
 
