@@ -6,8 +6,8 @@ PREFIX ?= /usr/local
 # No program leaves compiled files in the tree.
 export PYTHONDONTWRITEBYTECODE = 1
 
-.PHONY: help run libraries parts try test quick lint lint-c edits soak waits inferred bench figures
-.PHONY: record record-mpi record-suite newer-root ranks install deb picture
+.PHONY: help run libraries parts try test quick lint lint-c edits soak waits inferred portable
+.PHONY: bench figures record record-mpi record-suite newer-root ranks install deb picture
 
 MPICC ?= mpicc
 CFLAGS ?= -O2 -Wall -Wextra
@@ -76,6 +76,11 @@ waits:
 # Random patterns that are expanded, inferred from their plans, and judged again.
 inferred:
 	@PYTHONPATH=tests:python python3 -m build.soak --inferred --minutes $(or $(MINUTES),1) \
+		$(if $(SEED),--seed $(SEED))
+
+# Small random plans, beside all that libraries may do with them.
+portable:
+	@PYTHONPATH=tests:python python3 -m build.soak --portable --minutes $(or $(MINUTES),1) \
 		$(if $(SEED),--seed $(SEED))
 
 # Times ./wire_up on files near the limits, beside the unproved program of build/plain, where there is

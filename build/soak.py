@@ -3,11 +3,13 @@ second readers, and to a model of plans and a reference for patterns: tests/soak
 holds for each plan, and tests/pattern_soaking.py for each pattern. With --waits it holds patterns,
 most of which wait, to plans of them: tests/answer_soaking.py. With --inferred it infers patterns
 from plans of random ones, and holds their verdicts to those of the first: tests/sized_patterns.py.
+With --portable it holds `check --portable` of small plans to all that libraries may do by their
+axioms: tests/portable_soaking.py.
 
-Usage: make soak [MINUTES=N] [SEED=N], or make waits, make inferred for --waits, --inferred
+Usage: make soak [MINUTES=N] [SEED=N], or make waits, inferred, portable for --waits and the others
        PYTHONPATH=tests:python python3 -m build.soak [PROGRAM] [OPTION..], of these options:
            [--minutes N | --seconds N] [--seed N] [--keep FOLDER]
-           [--patterns | --waits | --inferred]
+           [--patterns | --waits | --inferred | --portable]
            [--again FILE]     looks at one file once more
 Without PROGRAM it takes ./wire_up. If it checks patterns, one file of five is a pattern, and with
 --patterns each is. FILE is looked at as a pattern if its name ends with `.pattern`. It ends by
@@ -29,6 +31,7 @@ from typing import NamedTuple
 
 import answer_soaking
 import pattern_soaking
+import portable_soaking
 import random_patterns
 import random_plans
 import sized_patterns
@@ -61,6 +64,7 @@ class Files(NamedTuple):
 PLANS = Files(".plan", random_plans.random_file, soaking.difference_of)
 PATTERNS = Files(".pattern", random_patterns.random_file, pattern_soaking.difference_of)
 WAITS = Files(".pattern", answer_soaking.random_file, answer_soaking.difference_of)
+PORTABLE = Files(".plan", portable_soaking.random_file, portable_soaking.difference_of)
 INFERRED = Files(".pattern", sized_patterns.random_file, sized_patterns.difference_of)
 
 
@@ -189,16 +193,15 @@ def listed(counts: Counter[str]) -> str:
 
 def only_files(args: argparse.Namespace) -> Files | None:
     """The files of a soak of one kind alone, if one is asked for."""
-    if args.inferred:
-        return INFERRED
-    return WAITS if args.waits else None
+    kinds = {"inferred": INFERRED, "portable": PORTABLE, "waits": WAITS}
+    return next((files for word, files in kinds.items() if getattr(args, word)), None)
 
 
 def runner_of(args: argparse.Namespace, room: str) -> Runner:
     """What runs the program, with the unproved one beside it. Where that can't be built, a line
     says why."""
     unproved = None
-    if not args.inferred:
+    if not args.inferred and not args.portable:
         unproved, why = build_plain()
         if not unproved:
             print(f"the unproved program is left out: {why}", flush=True)
@@ -234,6 +237,7 @@ def arguments() -> argparse.Namespace:
     kinds.add_argument("--patterns", action="store_true")
     kinds.add_argument("--waits", action="store_true")
     kinds.add_argument("--inferred", action="store_true")
+    kinds.add_argument("--portable", action="store_true")
     args = parser.parse_args()
     args.seconds = args.seconds if args.seconds is not None else 60 * args.minutes
     args.seed = args.seed if args.seed is not None else int(time.time())

@@ -56,7 +56,7 @@ class Library:
     def knows(self, facts: Facts, call: Event) -> bool:
         """Whether it answers a call of a reserved key or name as the plan says: of the map what it
         tells of ranks of the caller's job, PMIX_RANK and PMIX_JOB_SIZE aside; and a get-now of
-        another key that nobody puts."""
+        another key that nobody puts, unless it begins with `pmix`: so do the library's own."""
         verb, *words = facts.words(call)
         if verb not in (b"get", b"get-now"):
             return False
@@ -64,7 +64,8 @@ class Library:
         if key in MAP:
             is_told = self.tells_far or key == HOST or facts.is_near(owner, call.rank)
             return is_told and facts.job(owner) == facts.job(call.rank)
-        return verb == b"get-now" and key not in UNTOLD and not facts.is_put(key)
+        is_its_own = key.startswith(b"pmix") or key in UNTOLD
+        return verb == b"get-now" and not is_its_own and not facts.is_put(key)
 
 
 # Each library that was measured, by the name of its table. 4.2 sometimes doesn't end a fence of two

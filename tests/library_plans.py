@@ -108,10 +108,14 @@ class Facts:
         return self.is_get(event, verb) and not self.is_near(event.rank, self.asked_of(event))
 
     def spell(self, call: Event) -> Sign:
-        """How a call of a fence spells its set, in whatever order; None if a rank repeats."""
+        """How a call of a fence spells its set, in whatever order; None if a rank repeats, also by
+        its job."""
         word, job = self.words(call)[1], self.job(call.rank)
         items = grammar.items_of_set(word) or [(job, None)]
-        return None if len(set(items)) < len(items) else tuple(sorted(map(repr, items)))
+        whole = {it for it, rank in items if rank is None}
+        is_twice = any(it in whole for it, rank in items if rank is not None)
+        is_plain = len(set(items)) == len(items) and not is_twice
+        return tuple(sorted(map(repr, items))) if is_plain else None
 
     def is_of_job(self, call: Event) -> bool:
         """Whether a call of a fence spells its set as all ranks of the caller's job."""

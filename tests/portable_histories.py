@@ -7,6 +7,7 @@ that has their replies alone, and there each call that is made, with each reply 
 from collections.abc import Iterator, Mapping
 
 import model
+import model_runs
 from library_axioms import UNREACHED, WAITING, Axioms, Library, State
 from library_histories import Search
 from library_plans import NEVER, Facts, succeed
@@ -93,3 +94,10 @@ class Divergence(Search):
             self.count = len(known)
             stack += new
         yield None
+
+
+def find_divergence(facts: Facts, library: Library, most: int) -> Iterator[str | None]:
+    """What a library may do otherwise than the rules: one answer, as `find` gives it."""
+    run = model_runs.Run(facts.plan).go()
+    rules = {it: run.end(it) for it in facts.plan.firsts}
+    return Divergence(facts, library, rules).find(most)

@@ -9,8 +9,12 @@ import model
 KEYS, NAMES = "ab", "x"
 SCOPES = ("global", "global", "global", "local", "remote")
 # How often each act is taken.
-ACTS = ("put", "commit", "get", "get-now", "fence", "publish", "lookup-wait", "unpublish")
-WEIGHTS = (9, 3, 9, 3, 5, 1, 2, 1)
+ACTS = ("put", "commit", "get", "get-now", "fence", "publish", "lookup-wait", "unpublish", "map")
+WEIGHTS = (18, 6, 18, 8, 10, 3, 4, 2, 1)
+MAP = ("PMIX_RANK", "PMIX_HOSTNAME")
+# How often a plan has two jobs, keeps what gets bring, and how often a rank calls a fence otherwise
+# than the others.
+SEVERAL_JOBS, KEEPS, SELDOM = 0.1, 0.25, 0.08
 # A rank makes so many calls at most.
 MOST = 5
 
@@ -20,16 +24,24 @@ class Maker:
 
     def __init__(self, chance: random.Random) -> None:
         self.chance = chance
-        self.calls: list[list[str]] = [[] for _ in range(chance.choice((3, 3, 4)))]
+        count = chance.choice((3, 3, 4))
+        self.ranks = [f"app:{it}" for it in range(count)]
+        if chance.random() < SEVERAL_JOBS:
+            self.ranks[-1] = "web:0"
+        self.calls: list[list[str]] = [[] for _ in self.ranks]
         self.put: set[tuple[int, str]] = set()
 
     def make(self) -> str:
         """The whole text."""
         for _ in range(self.chance.randint(4, 9)):
             self.act(self.chance.choices(ACTS, WEIGHTS)[0])
-        lines = ["rehearsal 1", "node n0", "node n1", "job app"]
-        for rank, calls in enumerate(self.calls):
-            lines += [f"rank n{rank // 2}", *calls]
+        lines = ["rehearsal 2", *["keep"] * (self.chance.random() < KEEPS), "node n0", "node n1"]
+        job = ""
+        for number, (rank, calls) in enumerate(zip(self.ranks, self.calls)):
+            its = rank.partition(":")[0]
+            lines += [f"job {its}"] if its != job else []
+            lines += [f"rank n{number // 2}", *calls]
+            job = its
         return "".join(f"{it}\n" for it in lines)
 
     def act(self, kind: str) -> None:
@@ -38,9 +50,7 @@ class Maker:
         rank = chance.randrange(len(self.calls))
         to, key = self.calls[rank], chance.choice(KEYS)
         if kind == "fence":
-            collects = " collect" * (chance.random() < 0.5)
-            for it in self.calls:
-                it.append(f"fence all{collects}")
+            self.meet()
         elif kind == "put" and (rank, key) not in self.put:
             self.put.add((rank, key))
             to += [f"put {chance.choice(SCOPES)} {key} {len(self.put)}", "commit"]
@@ -48,9 +58,23 @@ class Maker:
             to.append(kind)
         elif kind in ("get", "get-now"):
             owner, named = chance.choice(sorted(self.put) or [(0, key)])
-            to.append(f"{kind} app:{owner} {named}")
-        elif kind in ("publish", "lookup-wait", "unpublish"):
+            to.append(f"{kind} {self.ranks[owner]} {named}")
+        elif kind == "map":
+            to.append(f"get-now {chance.choice(self.ranks)} {chance.choice(MAP)}")
+        elif kind == "unpublish":
+            to.append(f"unpublish {chance.choice((NAMES, NAMES, '*'))}")
+        elif kind in ("publish", "lookup-wait"):
             to.append(f"{kind} {NAMES}{' 1' * (kind == 'publish')}")
+
+    def meet(self) -> None:
+        """Lets all ranks arrive at a fence, seldom one of them by other words."""
+        chance, is_of_all = self.chance, self.ranks[-1].startswith("app:")
+        target, collects = "all" if is_of_all else "app:*,web:*", chance.random() < 0.5
+        for calls in self.calls:
+            by_ranks = self.ranks[:1] * (chance.random() < SELDOM) + self.ranks
+            spelt = ",".join(by_ranks) if chance.random() < SELDOM else target
+            is_other = chance.random() < SELDOM
+            calls.append(f"fence {spelt}{' collect' * (collects != is_other)}")
 
     @property
     def is_small(self) -> bool:
@@ -62,11 +86,18 @@ def make_small(seed: int) -> Iterator[str]:
     """Settled plans without end in which a rank asks another for something."""
     chance = random.Random(seed)
     while True:
+        text = make_one(chance)
+        if is_settled(text):
+            yield text
+
+
+def make_one(chance: random.Random) -> str:
+    """A plan in which a rank asks for something."""
+    while True:
         maker = Maker(chance)
         text = maker.make()
-        is_asking = "\nget" in text or "\nlookup" in text
-        if maker.is_small and is_asking and is_settled(text):
-            yield text
+        if maker.is_small and ("\nget" in text or "\nlookup" in text):
+            return text
 
 
 def is_settled(text: str) -> bool:

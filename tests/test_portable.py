@@ -1,28 +1,26 @@
 """`check --portable` of the built program: the table of rows/portable.py, each form of its answer,
 and what it says of small random plans beside all that libraries may do by the axioms."""
 import itertools
-import json
 import os
 import unittest
 from collections import Counter
 from collections.abc import Iterator
 
-import model_runs
 import pattern_faults
 from library_axioms import LIBRARIES
 from library_plans import Facts
-from portable_histories import Divergence
+from portable_conditions import JUDGED, blame
+from portable_histories import find_divergence
+from portable_soaking import MOST_STATES, hold
 from rows.portable import ROWS, Told
 from running import PORTABLE_MISUSED, ProgramCase, Run, Runs, start
 from small_plans import make_small
+from soak_runner import Runner
 from support import TOP
 
 CHECK, PORTABLE, ANYWHERE = "check", "--portable", "--anywhere"
-# The libraries of two families at least, by the names of their tables and of the answer.
-JUDGED = {"openpmix-4.2": "4.2", "openpmix-5.0": "5.0", "openpmix-7.0": "7.0"}
-SEED, COUNT, MOST_STATES = 73, 400, 20_000
-# So many of these plans are portable for a library at least: else the test says little.
-LEAST = 100
+# So many of the random plans are portable for a library at least: else the test says little.
+SEED, COUNT, LEAST = 73, 250, 80
 LATE = (
     "rehearsal 1 / node n0 / job app / rank n0 / put global a 1 / commit / put global z 2 / commit"
     " / rank n0 / get app:0 z / rank n0 / get app:0 z"
@@ -132,31 +130,23 @@ class Examples(ProgramCase):
 class Random(ProgramCase):
     """Small random plans."""
 
-    def portable_of(self, text: str) -> set[str]:
-        """The libraries for which the program says that a plan is portable."""
-        ran = start(self.program, Run("random", [CHECK, PORTABLE, "--json"], text.encode()))
-        return set(json.loads(ran.stdout)["portable"])
-
-    def judge(self, text: str) -> Iterator[tuple[str, bool, bool]]:
-        """Of each library that can be looked through: whether the plan is called portable for it,
-        and whether it may do otherwise than the rules."""
-        facts, said = Facts(text.encode()), self.portable_of(text)
-        run = model_runs.Run(facts.plan).go()
-        rules = {it: run.end(it) for it in facts.plan.firsts}
+    def judge(self, facts: Facts) -> Iterator[tuple[str, bool, bool]]:
+        """Of each library that can be looked through: whether the plan is portable for it, and
+        whether it may do otherwise than the rules."""
         for library, name in JUDGED.items():
-            for found in Divergence(facts, LIBRARIES[library], rules).find(MOST_STATES):
-                yield name, name in said, found is not None
-                if name in said and found:
-                    self.fail(f"{name}: {found}\n{text}")
+            for found in find_divergence(facts, LIBRARIES[library], MOST_STATES):
+                yield name, not blame(facts, library), found is not None
 
     def test_no_library_differs_on_a_portable_plan(self) -> None:
         """And on most of the others it may."""
         counts: Counter[tuple[str, bool, bool]] = Counter()
+        runner = Runner(self.program, self.room)
         for text in itertools.islice(make_small(SEED), COUNT):
-            counts.update(self.judge(text))
+            hold(runner, text.encode())
+            counts.update(self.judge(Facts(text.encode())))
         for name in JUDGED.values():
             self.assertGreater(counts[name, True, False], LEAST)
-            self.assertGreater(counts[name, False, True], counts[name, False, False])
+            self.assertGreater(counts[name, False, True], 4 * counts[name, False, False])
 
 
 if __name__ == "__main__":

@@ -2,19 +2,18 @@
 plan portable for a library, every history of that library is by the rules."""
 import unittest
 
-import model_runs
 import pattern_faults
 from library_axioms import LIBRARIES
 from library_plans import Facts
-from portable_histories import Divergence
+from portable_conditions import JUDGED
+from portable_histories import find_divergence
 from rows.portable import ROWS, Told
 
-# The libraries of the rows, by the names of their tables.
-JUDGED = {"openpmix-4.2": "4.2", "openpmix-5.0": "5.0", "openpmix-7.0": "7.0"}
 MOST_STATES = 20_000
 # The rows that blame a library which can't do otherwise by the axioms: these aren't meant for plans
 # that put a key again, and 7.0 takes away all names as the standard says.
-NEEDLESS = {"rewrite": {"4.2", "5.0", "7.0"}, "unpublish all": {"7.0"}}
+STAR = {"unpublish all": {"7.0"}, "unpublish all of nothing": {"7.0"}}
+NEEDLESS = {"rewrite": {"4.2", "5.0", "7.0"}, **STAR}
 
 
 def portable_in(row: Told) -> set[str]:
@@ -26,9 +25,7 @@ def portable_in(row: Told) -> set[str]:
 def differs(row: Told, library: str) -> bool:
     """Whether the library may do otherwise than the rules."""
     facts = Facts(pattern_faults.text_of(row.lines))
-    run = model_runs.Run(facts.plan).go()
-    rules = {it: run.end(it) for it in facts.plan.firsts}
-    found = [*Divergence(facts, LIBRARIES[library], rules).find(MOST_STATES)]
+    found = [*find_divergence(facts, LIBRARIES[library], MOST_STATES)]
     assert found, f"{row.name}: too many states"
     return found[0] is not None
 

@@ -7,7 +7,12 @@ import unittest
 import support
 import tapes
 from recorded import SHIPPED, why_wrong
-from tapes import run_recorder
+from tapes import LIBRARIES, run_recorder
+
+# What is said of libraries of each plan, with the order of MPI, but of those that are listed: 4.2
+# sometimes doesn't end a fence of two jobs.
+PORTABLE = "wire_up-record: portable for OpenPMIx 4.2, 5.0 and 7.0"
+LESS = {"spawn": "wire_up-record: portable for OpenPMIx 5.0 and 7.0, for no other by 1 call"}
 
 
 def find_program() -> str | None:
@@ -40,13 +45,24 @@ class ShippedTest(unittest.TestCase):
         said = "" if is_without_doubt else of.says_in_part + of.says_left_out
         words = ["-o", self.plan, "--answers", self.answers]
         words += ["--checker", self.program or "/dev/null", *([] if with_mpi else ["--no-mpi"])]
-        ran = run_recorder(*words, "--from", os.path.join(tapes.SHIPPED, name))
+        source = ["--from", os.path.join(tapes.SHIPPED, name)]
+        ran = run_recorder(*words, *source, says_libraries=True)
+        self.hold_libraries(name, ran.stderr, with_mpi)
+        ran.stderr = LIBRARIES.sub("", ran.stderr)
         said += of.says_otherwise(with_mpi, self.program is not None)
         said += of.tested + of.says_both if with_mpi and self.program else ""
         self.assertEqual((ran.returncode, ran.stderr), (0, said))
         if self.program:
             wrong = why_wrong(self.program, self.plan, self.answers, count, of.is_replayed)
             self.assertIsNone(wrong)
+
+    def hold_libraries(self, name: str, said: str, with_mpi: bool) -> None:
+        """Tests for which libraries the plan is said to be portable, and that the one which was
+        recorded is among them, if it is judged."""
+        if self.program and with_mpi:
+            told = said.splitlines()[-1]
+            self.assertTrue(told.startswith(LESS.get(name, PORTABLE)), told)
+            self.assertEqual(name in LESS, "is none of these" in told, told)
 
     def test_all_are_known(self) -> None:
         found = [it.name for it in os.scandir(tapes.SHIPPED) if it.is_dir()]

@@ -41,6 +41,11 @@ class Soak(unittest.TestCase):
         self.assertRegex(wrote, r"\d every call answered")
         self.assertRegex(wrote, r"\d waits\b")
 
+    def test_portable(self) -> None:
+        """Libraries for which a plan is portable are looked through."""
+        wrote = self.soak("--portable", "--seconds", "6")
+        self.assertRegex(wrote, r"held to the model: \d+ check --portable, \d+ library\b")
+
     def test_inferred(self) -> None:
         """Patterns that are inferred again have the verdict of the first ones. The first two files
         of this seed show both, so that a slow machine sees them too."""

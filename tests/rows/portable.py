@@ -351,4 +351,101 @@ ROWS = [
         "portable 4.2,5.0,7.0",
         "portable 4.2,5.0,7.0",
     ),
+    Told(
+        "mates by a later commit",
+        "rehearsal 1 / node n0 / node n1 / job app / rank n0 / put global a 1 / commit / put "
+        "global b 2 / commit / put global z 3 / commit / rank n1 / get app:0 b / rank n1 / get "
+        "app:0 z",
+        "unportable app:1 1 get far-get 4.2 / unportable app:1 1 get mates 4.2 / unportable "
+        "app:2 1 get far-get 4.2 / unportable app:2 1 get mates 4.2,5.0,7.0 / portable none",
+        "unportable app:1 1 get far-get 4.2 / unportable app:1 1 get mates 4.2 / unportable "
+        "app:1 1 get near-get 4.2,5.0,7.0 / unportable app:2 1 get far-get 4.2 / unportable "
+        "app:2 1 get mates 4.2,5.0,7.0 / unportable app:2 1 get near-get 4.2,5.0,7.0 / portable "
+        "none",
+    ),
+    Told(
+        "local now",
+        "rehearsal 1 / node n0 / node n1 / job app / rank n0 / put local a 1 / commit / fence "
+        "all collect / rank n1 / fence all collect / get-now app:0 a",
+        "portable 4.2,5.0,7.0",
+        "portable 4.2,5.0,7.0",
+    ),
+    Told(
+        "now after fence of two jobs",
+        "rehearsal 1 / node n0 / node n1 / job app / rank n0 / put global a 1 / commit / fence "
+        "app:*,web:* collect / job web / rank n1 / fence app:*,web:* collect / get-now app:0 a",
+        "unportable app:0 3 fence fence-jobs 4.2 / unportable web:0 2 get-now get-now "
+        "4.2,5.0,7.0 / portable none",
+        "unportable app:0 3 fence fence-jobs 4.2 / unportable web:0 2 get-now get-now "
+        "4.2,5.0,7.0 / portable none",
+    ),
+    Told(
+        "fence in another order",
+        "rehearsal 1 / node n0 / job app / rank n0 / fence app:0,app:1 / fence all / rank n0 / "
+        "fence app:1,app:0 / fence app:*",
+        "unportable app:0 2 fence fence-spelling 4.2,5.0,7.0 / portable none",
+        "unportable app:0 2 fence fence-spelling 4.2,5.0,7.0 / portable none",
+    ),
+    Told(
+        "fence spelt as the job",
+        "rehearsal 1 / node n0 / job app / rank n0 / fence all / rank n0 / fence app:*",
+        "portable 4.2,5.0,7.0",
+        "portable 4.2,5.0,7.0",
+    ),
+    Told(
+        "fence spelt otherwise in turn",
+        "rehearsal 1 / node n0 / job app / rank n0 / fence all / fence app:0,app:1 / rank n0 / "
+        "fence all / fence app:0,app:1",
+        "unportable app:0 2 fence fence-spelling 4.2,5.0,7.0 / portable none",
+        "unportable app:0 2 fence fence-spelling 4.2,5.0,7.0 / portable none",
+    ),
+    Told(
+        "fences in turn",
+        "rehearsal 1 / node n0 / job app / rank n0 / fence all collect / fence all / rank n0 / "
+        "fence all collect / fence all",
+        "portable 4.2,5.0,7.0",
+        "portable 4.2,5.0,7.0",
+    ),
+    Told(
+        "dead fence",
+        "rehearsal 1 / node n0 / job app / rank n0 / fence all / rank n0 / get app:0 never / "
+        "fence app:0,app:1",
+        "portable 4.2,5.0,7.0",
+        "portable 4.2,5.0,7.0",
+    ),
+    Told(
+        "racy publishes",
+        "rehearsal 2 / node n0 / job app / rank n0 / publish x 1 / rank n0 / publish x 2",
+        "unportable app:0 1 publish published 4.2,5.0,7.0 / unportable app:1 1 publish published "
+        "4.2,5.0,7.0 / portable none",
+        "unportable app:0 1 publish published 4.2,5.0,7.0 / unportable app:1 1 publish published "
+        "4.2,5.0,7.0 / portable none",
+    ),
+    Told(
+        "racy unpublish",
+        "rehearsal 2 / node n0 / job app / rank n0 / publish x 1 / unpublish x / rank n0 / "
+        "lookup-wait x",
+        "unportable app:0 1 publish published 4.2,5.0,7.0 / unportable app:0 2 unpublish "
+        "unpublished 4.2,5.0,7.0 / portable none",
+        "unportable app:0 1 publish published 4.2,5.0,7.0 / unportable app:0 2 unpublish "
+        "unpublished 4.2,5.0,7.0 / portable none",
+    ),
+    Told(
+        "reserved of all kinds",
+        "rehearsal 2 / node n0 / job app / rank n0 / put global PMIX_X 1 / publish pmix.x 1 / "
+        "get-now app:0 PMIX_NODE_RANK / get-now app:0 PMIX_Y / get app:0 PMIX_Y / job web / rank "
+        "n0 / get-now app:0 PMIX_HOSTNAME",
+        "unportable app:0 1 put reserved 4.2,5.0,7.0 / unportable app:0 2 publish reserved "
+        "4.2,5.0,7.0 / unportable app:0 5 get reserved 4.2,5.0,7.0 / unportable web:0 1 get-now "
+        "reserved 4.2,5.0,7.0 / portable none",
+        "unportable app:0 1 put reserved 4.2,5.0,7.0 / unportable app:0 2 publish reserved "
+        "4.2,5.0,7.0 / unportable app:0 5 get reserved 4.2,5.0,7.0 / unportable web:0 1 get-now "
+        "reserved 4.2,5.0,7.0 / portable none",
+    ),
+    Told(
+        "unpublish all of nothing",
+        "rehearsal 2 / node n0 / job app / rank n0 / unpublish *",
+        "unportable app:0 1 unpublish unpublish-all 4.2,5.0,7.0 / portable none",
+        "unportable app:0 1 unpublish unpublish-all 4.2,5.0,7.0 / portable none",
+    ),
 ]
