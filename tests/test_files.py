@@ -9,7 +9,7 @@ from unittest import mock
 
 import support
 from wire_up_tools.failures import explain
-from wire_up_tools.files import write_each, write_file, write_whole
+from wire_up_tools.files import try_to_write, write_each, write_file, write_whole
 
 assert support.TOP, "it says where the package is"
 
@@ -69,6 +69,25 @@ class WriteWholeTest(unittest.TestCase):
         write_whole(self.path, "new")
         self.assertEqual((self.read(target), self.read(self.path)), ("old", "new"))
         self.assertFalse(os.path.islink(self.path))
+
+    def test_a_file_that_is_open(self) -> None:
+        """It is written to as it is: /dev/stdout stays what it is for all programs."""
+        for folder in ("/dev/fd", "/proc/self/fd"):
+            with self.subTest(folder), open(self.path, "w+b", buffering=0) as it:
+                it.write(b"before ")
+                link = os.path.join(self.room, "link")
+                os.symlink(os.path.join(folder, str(it.fileno())), link)
+                try_to_write(link)
+                write_whole(link, "text")
+                it.seek(0)
+                self.assertEqual(it.read(), b"before text")
+                self.assertTrue(os.path.islink(link))
+                os.remove(link)
+
+    def test_no_name(self) -> None:
+        with self.assertRaises(OSError) as refused:
+            try_to_write("")
+        self.assertEqual(explain(refused.exception), "'': No such file or directory")
 
     def test_a_pipe(self) -> None:
         """What isn't a regular file is written to as it is."""

@@ -22,8 +22,9 @@ from tapes import (
     write_file,
 )
 from wire_up_tools import VERSION
+from wire_up_tools.failures import Refused
 from wire_up_tools.record.command_line import OPTIONS
-from wire_up_tools.record.running import OF_PMIX, find_library
+from wire_up_tools.record.running import OF_PMIX, find_library, make_folder
 
 
 class RoomTest(unittest.TestCase):
@@ -66,6 +67,18 @@ class CommandLineTest(RoomTest):
             self.use(words, 125, "each need a file of their own")
         self.assertFalse(os.path.exists(self.plan))
         self.use(["-o", os.devnull, "--answers", os.devnull, "--from", self.good], 0)
+
+    def test_folders_for_recordings(self) -> None:
+        """None is made in place of the text, nor beside the name of an open file."""
+        both = f"^{self.plan}: -o and --keep each need a path of their own$"
+        with self.assertRaisesRegex(Refused, both):
+            make_folder(os.path.join(self.room, ".", "plan"), self.plan)
+        self.assertFalse(os.path.exists(self.plan))
+        os.chdir(self.room)
+        self.addCleanup(os.chdir, TOP)
+        with open(self.good, "rb") as it:
+            made = make_folder(f"/dev/fd/{it.fileno()}", None)
+        self.assertEqual(os.path.dirname(made), os.path.realpath(self.room))
 
     def test_a_text_for_a_recording_that_is_read(self) -> None:
         """It isn't overwritten, by whichever way it is named."""

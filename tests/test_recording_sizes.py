@@ -427,7 +427,10 @@ class AnswerTest(unittest.TestCase):
 
     def test_runs_without_a_pattern(self) -> None:
         for runs, said in (
-            ((tell(2), tell(3)), "runs with 2 ranks tell too little: each size must be 3 or more"),
+            (
+                (tell(2), tell(3)),
+                "a run with 2 ranks tells too little: each size must be 3 or more",
+            ),
             ((tell(3), tell(3)), "two runs have 3 ranks: each size is given once"),
             ((tell(3),), "one size isn't enough: name the recordings of a second one by --from"),
             (
@@ -442,6 +445,21 @@ class AnswerTest(unittest.TestCase):
         empty = tempfile.mkdtemp(dir=self.room)
         said = self.refuse("--from", self.write_run(tell(3)), "--from", empty)
         self.assertRegex(said, f"^{empty}: there is no recording: ")
+
+    def test_a_pattern_for_a_recording_that_is_read(self) -> None:
+        """It isn't overwritten."""
+        folders = [self.write_run(tell(size)) for size in (3, 4)]
+        path = os.path.join(folders[1], "0.recording")
+        with open(path, encoding="utf-8") as file:
+            before = file.read()
+        options = ("--sizes", "-o", path, "--checker", self.checker)
+        for named in ("--from", "--against"):
+            ran = run_recorder(*options, "--from", folders[0], named, folders[1])
+            self.assertEqual((ran.returncode, ran.stdout), (125, ""))
+            said = f"wire_up-record: {path} is a recording that is read "
+            self.assertTrue(ran.stderr.startswith(said), ran.stderr)
+        with open(path, encoding="utf-8") as file:
+            self.assertEqual(file.read(), before)
 
     def test_a_run_that_was_cut_off(self) -> None:
         said = self.refuse_runs(tell(3), tell(4), is_over=False)
@@ -542,8 +560,12 @@ class CommandLineTest(unittest.TestCase):
                 "no word of the command has {}, where the number of ranks goes",
             ),
             (
+                "--sizes 1,4 -o p mpirun -n {} a",
+                "a run with 1 rank tells too little: each size must be 3 or more",
+            ),
+            (
                 "--sizes 2,4 -o p mpirun -n {} a",
-                "runs with 2 ranks tell too little: each size must be 3 or more",
+                "a run with 2 ranks tells too little: each size must be 3 or more",
             ),
             ("--sizes 4,8,4 -o p mpirun -n {} a", "two runs have 4 ranks: each size is given once"),
             (

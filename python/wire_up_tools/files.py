@@ -8,6 +8,8 @@ import tempfile
 from collections.abc import Iterator, Sequence
 
 STANDARD_OUTPUT = "-"
+# How many links are followed, as many as Linux follows.
+MOST_LINKS = 40
 
 
 @contextlib.contextmanager
@@ -29,12 +31,17 @@ def write_whole(path: str, text: str) -> None:
     """Writes a text, as UTF-8, to a file or to standard output.
 
     A file that is there stays as it was until the new one is complete. What isn't a regular
-    file, such as a pipe or a device, is written to as it is. Raises OSError, with the path.
+    file, such as a pipe or a device, is written to as it is, and so is a file that this process has
+    open, such as /dev/stdout. Raises OSError, with the path.
     """
     data = text.encode()
     with naming("standard output" if path == STANDARD_OUTPUT else path):
+        opened = find_open(path)
         if path == STANDARD_OUTPUT:
             write_out(data)
+        elif opened is not None:
+            with open(os.dup(opened), "wb") as to:
+                to.write(data)
         elif os.path.exists(path) and not os.path.isfile(path):
             with open(path, "wb") as to:
                 to.write(data)
@@ -42,11 +49,30 @@ def write_whole(path: str, text: str) -> None:
             replace_file(path, data)
 
 
+def find_open(path: str) -> int | None:
+    """The number of the open file of this process that a path names, such as 1 for /dev/stdout. To
+    put a file in its place would take that name away from all programs of the system."""
+    for _ in range(MOST_LINKS):
+        folder, name = os.path.split(path)
+        if name.isdecimal() and os.path.realpath(folder) == f"/proc/{os.getpid()}/fd":
+            return int(name)
+        if not os.path.islink(path):
+            break
+        path = os.path.join(folder, os.readlink(path))
+    return None
+
+
 def try_to_write(path: str) -> None:
     """Finds out whether a text can be written to a path, and changes nothing. Raises OSError, with
-    the path, where it can't: for a folder, a file in a folder that isn't there or can't be changed,
-    and a device that takes nothing."""
-    with naming(path):
+    the path, where it can't: for no name, a folder, a file in a folder that isn't there or can't be
+    changed, a device that takes nothing, and a number of no open file."""
+    opened = find_open(path)
+    with naming(path or "''"):
+        if not path:
+            raise FileNotFoundError(errno.ENOENT, os.strerror(errno.ENOENT))
+        if opened is not None:
+            os.fstat(opened)
+            return
         if os.path.isdir(path):
             raise IsADirectoryError(errno.EISDIR, os.strerror(errno.EISDIR))
         if stat.S_ISCHR(os.stat(path).st_mode) if os.path.exists(path) else False:

@@ -16,7 +16,7 @@ from wire_up_tools.options import (
     describe,
     say_unusable,
 )
-from wire_up_tools.record.recordings import find_files
+from wire_up_tools.record.recordings import refuse_recordings
 from wire_up_tools.record.running import BY_SIGNAL, HANDED_ON, NotRun, Stopped
 from wire_up_tools.record.showing.asking import OPTIONS as OF_SHOWING
 from wire_up_tools.record.showing.asking import read_asked, refuse_input
@@ -159,18 +159,8 @@ def refuse_alike(output: Output) -> None:
         raise Unusable("-o, --answers and --pattern each need a file of their own")
 
 
-def refuse_recordings(output: Output, runs: Sequence[Sequence[str]]) -> None:
-    """Refuses a text for the file of a recording that is read. Raises Unusable, Refused,
-    OSError."""
-    paths = [it for it in (output.plan, output.answers, output.pattern) if it]
-    read = {os.path.realpath(it) for run in runs for it in find_files(run)}
-    for path in paths:
-        if os.path.isfile(path) and os.path.realpath(path) in read:
-            raise Unusable(f"{path} is a recording that is read")
-
-
 def read_request(words: Sequence[str]) -> Request:
-    """What a command line asks for. Raises Unusable, Refused."""
+    """What a command line asks for. Raises Unusable, Refused, OSError."""
     if asks_for_sizes(words, OPTIONS):
         return read_sizes_request(words, OPTIONS)
     found = RecorderParser().read(words)
@@ -207,7 +197,7 @@ def read_request(words: Sequence[str]) -> Request:
     runs = split_runs(files)
     if not all(runs):
         raise Unusable("which recordings?")
-    refuse_recordings(output, runs)
+    refuse_recordings([output.plan, output.answers, output.pattern], runs)
     return FilesRequest(output, runs)
 
 

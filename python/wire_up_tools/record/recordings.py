@@ -10,7 +10,7 @@ from dataclasses import dataclass, field
 from functools import cached_property
 from typing import NoReturn, Union
 
-from wire_up_tools.failures import Refused
+from wire_up_tools.failures import Refused, Unusable
 from wire_up_tools.limits import Limits
 from wire_up_tools.record.calls import Call
 from wire_up_tools.record.file_calls import FORM as FILE_FORM
@@ -472,6 +472,15 @@ def find_files(paths: Sequence[str]) -> list[str]:
         else:
             found.append(path)
     return found
+
+
+def refuse_recordings(texts: Sequence[str | None], runs: Sequence[Sequence[str]]) -> None:
+    """Refuses a text for the file of a recording that is read. Raises Unusable, Refused,
+    OSError."""
+    read = {os.path.realpath(it) for run in runs for it in find_files(run)}
+    for path in filter(None, texts):
+        if os.path.isfile(path) and os.path.realpath(path) in read:
+            raise Unusable(f"{path} is a recording that is read")
 
 
 def refuse_past(most: int, what: str, count: int) -> None:

@@ -8,7 +8,7 @@ from collections.abc import Mapping, Sequence
 from typing import IO, NamedTuple
 
 from wire_up_tools.failures import Refused
-from wire_up_tools.files import STANDARD_OUTPUT
+from wire_up_tools.files import STANDARD_OUTPUT, find_open
 
 # The signals that are handed on to the command.
 HANDED_ON = (signal.SIGINT, signal.SIGTERM, signal.SIGHUP, signal.SIGQUIT)
@@ -90,9 +90,11 @@ def make_folder(path: str, kept: str | None) -> str:
     OSError."""
     if not kept:
         is_file = os.path.isfile(path) or not os.path.exists(path)
-        is_file = is_file and path != STANDARD_OUTPUT
+        is_file = is_file and path != STANDARD_OUTPUT and find_open(path) is None
         beside = os.path.dirname(os.path.abspath(path)) if is_file else os.getcwd()
         return tempfile.mkdtemp(prefix="wire_up-record-", dir=beside)
+    if os.path.realpath(kept) == os.path.realpath(path):
+        raise Refused(f"{kept}: -o and --keep each need a path of their own")
     os.makedirs(kept, exist_ok=True)
     if os.listdir(kept):
         raise Refused(f"{kept}: isn't empty")

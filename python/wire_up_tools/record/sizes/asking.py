@@ -5,6 +5,7 @@ from dataclasses import dataclass
 
 from wire_up_tools.failures import Refused, Unusable
 from wire_up_tools.options import Once, Option, Parser
+from wire_up_tools.record.recordings import refuse_recordings
 
 SIZES, FROM, AGAINST = "--sizes", "--from", "--against"
 NUMBERS = re.compile(r"[1-9]\d{0,6}(,[1-9]\d{0,6})*")
@@ -89,7 +90,7 @@ def read_numbers(words: Sequence[str], before: Sequence[str]) -> list[int]:
 
 
 def read_sizes_request(words: Sequence[str], options: Sequence[Option]) -> SizesRequest:
-    """What a command line with `--sizes` asks for. Raises Unusable, Refused."""
+    """What a command line with `--sizes` asks for. Raises Unusable, Refused, OSError."""
     numbers = read_numbers(words, list_options(words, options))
     found = SizesParser(options).read(words)
     for option in options:
@@ -107,12 +108,13 @@ def read_sizes_request(words: Sequence[str], options: Sequence[Option]) -> Sizes
 
 
 def judge_request(asked: SizesRequest) -> None:
-    """Refuses a request that can't be answered. Raises Unusable, Refused."""
+    """Refuses a request that can't be answered. Raises Unusable, Refused, OSError."""
     if not asked.sizes:
         if asked.command or asked.kept:
             raise Unusable("--keep goes with a command" if asked.kept else "which recordings?")
         if len(asked.taken) + len(asked.held) < 2:
             raise Refused("one size isn't enough: name the recordings of a second one by --from")
+        refuse_recordings([asked.pattern], [*asked.taken, *asked.held])
         return
     refuse_sizes(asked.sizes)
     if not asked.command:
@@ -124,9 +126,8 @@ def judge_request(asked: SizesRequest) -> None:
 def refuse_sizes(sizes: Sequence[int]) -> None:
     """Refuses sizes that tell too little. Raises Refused."""
     if min(sizes) < FEWEST:
-        raise Refused(
-            f"runs with {min(sizes)} ranks tell too little: each size must be {FEWEST} or more"
-        )
+        ranks = f"{min(sizes)} {'rank' if min(sizes) == 1 else 'ranks'}"
+        raise Refused(f"a run with {ranks} tells too little: each size must be {FEWEST} or more")
     twice = [size for size in dict.fromkeys(sizes) if sizes.count(size) > 1]
     if twice:
         raise Refused(f"two runs have {twice[0]} ranks: each size is given once")
