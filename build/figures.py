@@ -33,9 +33,12 @@ SMALL_RANKS, SMALL_ROUNDS = 4, 6
 CARDS = 2_000
 # What is measured of each plan.
 COMMANDS = (("check",), ("check", "--anywhere"), ("check", "--anywhere", "--same"), ("replay",))
-PLACEMENTS = "`--anywhere`, s", "and `--same`, s"
-UNPROVED = "unproved, s", "MiB"
-OF_UNPROVED = " *Unproved* is the `check` of `build/plain`, an unproved program of one thread."
+CHECK = "plan", "calls", "findings", "check, s", "processor, s", "MiB"
+UNPROVED = "unproved, s", "times", "processor, s", "times", "MiB", "times"
+OTHERS = "plan", "`--anywhere`, s", "and `--same`, s", "replay, s", "processor, s", "MiB"
+OF_UNPROVED = """ *Unproved* is the `check` of `build/plain`, an unproved program of one thread.
+*Times* is how many times as much the proved `check` takes, and in the last column `replay`, as the
+unproved `check`."""
 # How many of the crates are told whose proofs take longest.
 DEAREST = 5
 MODEL = re.compile(r"^model name\s*: (.*)$", re.M)
@@ -80,6 +83,7 @@ class Figures:
         words += [[it, "check", "--large", path] for it in [self.unproved] if it]
         taken = best_of(1 if self.is_small else runs, [Command(it) for it in words])
         findings = findings_in([self.program, "check", "--large", path])
+        print(f"{name}: check {taken[0].seconds:.3f} s", file=sys.stderr, flush=True)
         return Measured(name, calls, findings, *taken)
 
     def near_the_limits(self) -> Iterator[Measured]:
@@ -117,34 +121,53 @@ def table(heads: Sequence[str], rows: Iterable[Sequence[str]]) -> str:
     return "".join(f"| {it} |\n" for it in lines)
 
 
-def rows_of(measured: Iterable[Measured], least: int) -> Iterator[list[str]]:
-    """The rows of what was measured, with the size of a program that does nothing."""
+def check_rows(measured: Iterable[Measured], least: int) -> Iterator[list[str]]:
+    """The rows of `check`, beside the unproved program where there is one. Least is the size of a
+    program that does nothing."""
     for it in measured:
-        print(f"{it.name}: check {it.check.seconds:.3f} s", file=sys.stderr, flush=True)
-        yield [
-            it.name,
-            f"{it.calls:,}",
-            f"{it.findings:,}",
-            seconds(it.check),
-            mebibytes(it.check, least),
-            *([seconds(it.unproved), mebibytes(it.unproved, least)] if it.unproved else []),
-            seconds(it.anywhere),
-            seconds(it.same),
-            seconds(it.replay),
-            mebibytes(it.replay, least),
-        ]
+        row = [it.name, f"{it.calls:,}", f"{it.findings:,}", *told(it.check, least)]
+        yield [*row, *beside(it.check, it.unproved, least)] if it.unproved else row
+
+
+def other_rows(measured: Iterable[Measured], least: int) -> Iterator[list[str]]:
+    """The rows of what else was measured."""
+    for it in measured:
+        placed = [seconds(each.seconds) for each in (it.anywhere, it.same)]
+        over = [times(it.replay.seconds, it.unproved.seconds)] if it.unproved else []
+        yield [it.name, *placed, *told(it.replay, least), *over]
+
+
+def told(taken: Taken, least: int) -> list[str]:
+    """The seconds of a run, those of processor time, and its size."""
+    return [seconds(taken.seconds), seconds(taken.processor), mebibytes(taken, least)]
+
+
+def beside(taken: Taken, other: Taken, least: int) -> Iterator[str]:
+    """What another program took, each with how many times as much this one took."""
+    each = (
+        (taken.seconds, other.seconds),
+        (taken.processor, other.processor),
+        (taken.size, other.size),
+    )
+    for text, (here, there) in zip(told(other, least), each):
+        yield from (text, times(here, there))
+
+
+def times(much: float, of_what: float) -> str:
+    return f"{much / of_what:.1f}" if of_what else ""
 
 
 def report_rows(check: Taken, report: Taken, least: int) -> Iterator[list[str]]:
     """The rows of a check, and of the report that asks for it."""
     for name, it in (("check", check), ("wire_up-report", report)):
-        times = it.processor / check.processor if check.processor else 0
-        spent = f"{it.processor:.1f}"
-        yield [f"`{name} --large`", seconds(it), spent, f"{times:.1f}", mebibytes(it, least)]
+        spent, more = f"{it.processor:.1f}", times(it.processor, check.processor)
+        yield [f"`{name} --large`", seconds(it.seconds), spent, more or "0.0", mebibytes(it, least)]
 
 
-def seconds(taken: Taken) -> str:
-    return f"{taken.seconds:.3f}" if taken.seconds < 1 else f"{taken.seconds:.1f}"
+def seconds(taken: float) -> str:
+    if taken < 0.1:
+        return f"{taken:.4f}"
+    return f"{taken:.3f}" if taken < 1 else f"{taken:.1f}"
 
 
 def read(path: str) -> str:
@@ -193,22 +216,27 @@ def last_gate() -> str:
     return f"\nThe last gate took {whole[1]} minutes of processor time: {', '.join(parts)}.\n"
 
 
+def tables(measured: Sequence[Measured], least: int) -> str:
+    """What was measured, in two tables."""
+    is_beside = any(it.unproved for it in measured)
+    checks = table(CHECK + UNPROVED * is_beside, check_rows(measured, least))
+    return f"{checks}\n{table(OTHERS + ('times',) * is_beside, other_rows(measured, least))}"
+
+
 def page(figures: Figures) -> str:
     """The whole page."""
-    beside = UNPROVED if figures.unproved else ()
-    heads = "plan", "calls", "findings", "check, s", "MiB", *beside, *PLACEMENTS, "replay, s", "MiB"
     least, today = floor(), datetime.date.today().isoformat()
-    near = table(heads, rows_of(figures.near_the_limits(), least))
-    large = table(heads, rows_of(figures.of_machines(), least))
+    near = tables(list(figures.near_the_limits()), least)
+    large = tables(list(figures.of_machines()), least)
     reported = report_rows(*figures.of_a_report(), least)
     report = table(("command", "s", "processor time, s", "times that of `check`", "MiB"), reported)
     other = OF_UNPROVED if figures.unproved else ""
     how = f"""\
 `make figures` made this page on {today}{commit()}, on {machine()}. Each time is the least of
 {RUNS} runs ({LARGE_RUNS} for whole machines), with the start of the process in it and the output
-thrown away. MiB is the greatest resident size. With findings `replay` writes these, and runs
-nothing, and `check --anywhere --same` the findings alone.{other} What the plans are stands in
-`build/bench_plans.py` and `build/large_plans.py`.
+thrown away; *processor* is that of all threads together. MiB is the greatest resident size. With
+findings `replay` writes these, and runs nothing, and `check --anywhere --same` the findings
+alone.{other} What the plans are stands in `build/bench_plans.py` and `build/large_plans.py`.
 """.replace("\n", " ")
     return f"""\
 # Figures

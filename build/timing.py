@@ -44,10 +44,18 @@ def size_of(command: Command) -> int:
         return int(told.read().split()[-1])
 
 
+def resident_size(command: Command, told: int) -> int:
+    """The greatest resident size of a command for which the system told this one, in KiB. The size
+    that it tells of a process is at least that of the one that started it: so where it isn't
+    greater, the command runs once more, for its size alone, if GNU time is there."""
+    if resource.getrusage(resource.RUSAGE_SELF).ru_maxrss < told or not os.path.exists(BETWEEN):
+        return told
+    return size_of(command)
+
+
 def run(command: Command) -> Taken:
     """Runs a command, whose output is thrown away. A run that ends with a fault ends this program,
-    too. The size that the system tells of a process is at least that of the one that started it: so
-    where it isn't greater, the command runs once more, for its size alone, if GNU time is there."""
+    too."""
     with open(command.given, "rb") as reader:
         began = time.perf_counter()
         it = subprocess.Popen(
@@ -58,9 +66,7 @@ def run(command: Command) -> Taken:
     it.returncode = os.waitstatus_to_exitcode(status)
     if it.returncode not in (0, 1):
         sys.exit(f"{' '.join(command.words)}: exit status {it.returncode}")
-    size = used.ru_maxrss
-    if size <= resource.getrusage(resource.RUSAGE_SELF).ru_maxrss and os.path.exists(BETWEEN):
-        size = size_of(command)
+    size = resident_size(command, used.ru_maxrss)
     return Taken(seconds, size, used.ru_utime + used.ru_stime)
 
 

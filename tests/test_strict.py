@@ -22,6 +22,7 @@ from collections.abc import Callable, Iterator, Sequence
 from typing import NamedTuple
 
 from build.bench_plans import KINDS, ONE_NODE, Kind, on_one, ranks_of
+from build.timing import Command, resident_size
 from running import CARDS, MEMORY, READ, ProgramCase, written
 
 MIB = 1 << 20
@@ -134,11 +135,12 @@ class Ended(NamedTuple):
 
 
 class Ran(NamedTuple):
-    """How a run ended, its seconds of processor time, and its greatest resident size in MiB."""
+    """How a run ended, its seconds of processor time, and the greatest resident size that the
+    system tells, in KiB."""
 
     ended: Ended
     seconds: float
-    size: float
+    size: int
 
 
 def limited(**limits: int) -> Callable[[], None]:
@@ -170,7 +172,7 @@ def ran(words: Sequence[str], set_up: Callable[[], None] | None = None) -> Ran:
         it.returncode = os.waitstatus_to_exitcode(status)
         said.seek(0)
         ended = Ended(it.returncode, wrote, said.read())
-    return Ran(ended, used.ru_utime + used.ru_stime, used.ru_maxrss / 1024)
+    return Ran(ended, used.ru_utime + used.ru_stime, used.ru_maxrss)
 
 
 class Space:
@@ -239,7 +241,8 @@ class Limits(StrictCase):
 
     def measure(self, name: str, command: list[str], words: list[str]) -> None:
         """Prints a row of the table, and holds that all went well."""
-        usual, seconds, size = ran(words, limited(AS=MOST_MIB * MIB))
+        usual, seconds, told = ran(words, limited(AS=MOST_MIB * MIB))
+        size = resident_size(Command(words), told) / 1024
         cells = [name, " ".join(command), f"{seconds:.2f}", f"{size:.0f}"]
         if usual.status == 3:
             cells.append(f"over {MOST_MIB:,}: fault 1")
