@@ -100,6 +100,11 @@ def sum_of(path: str) -> str:
     return found
 
 
+def identity() -> str:
+    """What says which build of the kit this is."""
+    return text_of(os.path.join(PLACE, "WHAT"))
+
+
 def root_above(folder: str) -> str:
     """The top of the repository that a folder belongs to; the folder itself where it is in none."""
     return RT.rtlib.root_above(folder) or folder

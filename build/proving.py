@@ -52,7 +52,7 @@ def prove_all(
     for it in crates:
         # (`rt` would take a library as built that doesn't fit what is below it now)
         if is_new[it.name]:
-            records.take_away(it)
+            (records.forget if records.may_stand(it) else records.take_away)(it)
     share = 1 if holds_proofs(crates, keeps) else SHARE
     minutes = minutes_of()
     proofs = {}
@@ -104,6 +104,7 @@ def proof_of(crate: Crate, course: Proving) -> Callable[[Mapping[str, bool]], bo
                 return False
             course.log.write(f"== {crate.name}\n{said}")
             course.log.flush()
+        records.note_stamp(crate)
         course.tell(crate.name)
         return True
 
