@@ -61,7 +61,7 @@ def record_of(crate: Crate) -> str:
 
 
 # The folders of a library with what it shows, and files there that tell of code and its proofs.
-SHOWN = ("interface/lang", "lang")
+SHOWN = ("interface", "lang")
 OF_CODE = ("made.json", "Answers.antt", "Invariants.antt", "Proof.antt")
 
 
