@@ -180,10 +180,13 @@ def build_cut(crate: Crate) -> int:
 
 
 def build_program(crate: Crate) -> int:
-    """Proves, builds and links a program."""
+    """Proves, builds and links a program. Over libraries that keep their proofs it keeps its own,
+    too."""
     made, tools = records.made_of(crate), f"{kit.PLACE}/toolchain"
     os.makedirs(os.path.dirname(made), exist_ok=True)
     words = [*crate.words(["--jobs", "1"], keeps=False), "--toolchain", tools]
+    if all(map(holds_its_proofs, crate.below())):
+        words += kit.KEPT
     words += ["--backend", "llvm", "-o", f"{made}.o"]
     link = ["--target", TARGET, "--toolchain", tools, "-o", made, f"{made}.o"]
     link += [f"{kit.PLACE}/c/{it}" for it in ("libos_c.a", "liblibc_c.a")]

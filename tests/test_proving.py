@@ -222,6 +222,19 @@ class KeptProofs(BuildCase):
         self.assertEqual(ALL, self.built_for_rt())
         self.assertEqual([], self.asked())
 
+    def test_program(self) -> None:
+        """Over libraries that keep their proofs it keeps its own."""
+        self.add_program()
+        self.build(Prover(), keeps=True)
+        self.write("app", ANOTHER, "main.rt")
+        self.build(prover := Prover())
+        self.assertEqual(["app"], prover.over_kept)
+
+    def test_program_above_cut_libraries(self) -> None:
+        self.add_program()
+        self.build(prover := Prover())
+        self.assertEqual([], prover.over_kept)
+
     def test_another_body_above_cut_libraries(self) -> None:
         """These fit only the very libraries over which they were built."""
         self.build(Prover())
