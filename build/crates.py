@@ -1,5 +1,6 @@
 """The crates of the repository, as the kit has them, each of which remembers what is below it."""
 import contextlib
+import hashlib
 import os
 import shutil
 import threading
@@ -49,6 +50,7 @@ class Crate(kit.KitCrate):
     def __init__(self, folder: str, root: str, known: dict[str, "Crate"]) -> None:
         self.known_below: list["Crate"] | None = None
         self.known_stamp: tuple[list[Looks], str] = [], ""
+        self.known_own: tuple[Looks, str] = [], ""
         super().__init__(folder, root, known)
 
     def below(self) -> list["Crate"]:
@@ -58,6 +60,18 @@ class Crate(kit.KitCrate):
 
     def stamp(self) -> str:
         return self.looks_and_stamp()[1]
+
+    def own_stamp(self) -> str:
+        """A sum of what the crate is made from, but for the libraries of the repository below it:
+        its texts, the names of what it uses, and the kit."""
+        with look_once() as seen:
+            looks = seen.setdefault(self.folder, looks_of(self.folder))
+            if self.known_own[0] != looks:
+                uses = [self.of_kit, [dep.name for dep in self.deps]]
+                files = [(os.path.relpath(it[0], self.folder), kit.sum_of(it[0])) for it in looks]
+                made_from = repr([kit.identity(), uses, files])
+                self.known_own = looks, hashlib.sha256(made_from.encode()).hexdigest()
+        return self.known_own[1]
 
     def looks_and_stamp(self) -> tuple[list[Looks], str]:
         """From what the crate is built: the looks of its files and of those of each library below

@@ -60,6 +60,8 @@ PROVER: str = RT.rtlib.RATTLE
 FOLDERS: tuple[str, ...] = RT.rtlib.PARTS
 # Words of a verdict that `rt ci` refuses in this repository.
 NOT_HERE: tuple[str, ...] = getattr(RT, "NOT_HERE", ())
+# The words by which the prover keeps what it proved of a crate.
+KEPT: tuple[str, ...] = tuple(RT.rtlib.KEPT)
 # How the prover says that the kept work of a library can't be used.
 STALE: "re.Pattern[str]" = RT.rtlib.STALE
 # How the prover says that it came to a limit of its own.
@@ -98,6 +100,11 @@ def sum_of(path: str) -> str:
     """A sum of a file's bytes."""
     found: str = RT.rtlib.sum_of(path)
     return found
+
+
+def identity() -> str:
+    """What says which build of the kit this is."""
+    return text_of(os.path.join(PLACE, "WHAT"))
 
 
 def root_above(folder: str) -> str:

@@ -52,7 +52,7 @@ def prove_all(
     for it in crates:
         # (`rt` would take a library as built that doesn't fit what is below it now)
         if is_new[it.name]:
-            records.take_away(it)
+            (records.forget if records.may_stand(it) else records.take_away)(it)
     share = 1 if holds_proofs(crates, keeps) else SHARE
     minutes = minutes_of()
     proofs = {}
@@ -104,6 +104,7 @@ def proof_of(crate: Crate, course: Proving) -> Callable[[Mapping[str, bool]], bo
                 return False
             course.log.write(f"== {crate.name}\n{said}")
             course.log.flush()
+        records.note_stamp(crate)
         course.tell(crate.name)
         return True
 
@@ -179,10 +180,13 @@ def build_cut(crate: Crate) -> int:
 
 
 def build_program(crate: Crate) -> int:
-    """Proves, builds and links a program."""
+    """Proves, builds and links a program. Over libraries that keep their proofs it keeps its own,
+    too."""
     made, tools = records.made_of(crate), f"{kit.PLACE}/toolchain"
     os.makedirs(os.path.dirname(made), exist_ok=True)
     words = [*crate.words(["--jobs", "1"], keeps=False), "--toolchain", tools]
+    if all(map(holds_its_proofs, crate.below())):
+        words += kit.KEPT
     words += ["--backend", "llvm", "-o", f"{made}.o"]
     link = ["--target", TARGET, "--toolchain", tools, "-o", made, f"{made}.o"]
     link += [f"{kit.PLACE}/c/{it}" for it in ("libos_c.a", "liblibc_c.a")]

@@ -1,6 +1,7 @@
 """A small repository that tests build, with a function in the prover's place that notes what it is
 asked."""
 import io
+import itertools
 import os
 import tempfile
 import unittest
@@ -16,8 +17,12 @@ assert support.TOP, "it says where the build is"
 # Each crate, and what it uses: a chain of three, and one apart.
 CRATES = {"low": "", "middle": "low", "high": "middle", "apart": ""}
 ALL = sorted(CRATES)
+# Numbers for builds.
+BUILDS = itertools.count()
 PROVED = "logic=proved functions=1"
 ANOTHER = "//! another text\n"
+# Text that changes nothing of what a library shows.
+BODY = "fn body() {}\n"
 
 
 def do_nothing(crate: Crate) -> None:
@@ -55,12 +60,26 @@ class Prover:
         if crate.is_program:
             open(made, "wb").close()
         else:
-            os.makedirs(made)
+            self.write_library(crate, made)
         if "--incremental" in words:
             kept = os.path.join(crate.folder, "out", "incremental", "kept")
             os.makedirs(kept, exist_ok=True)
         print(self.verdict, file=crate.out)
         return 0
+
+    @staticmethod
+    def write_library(crate: Crate, made: str) -> None:
+        """What a library shows to those above, here the comments at its head; and its code and
+        statements, which differ by the text and by the build."""
+        text = read(os.path.join(crate.folder, "src", "lib.rt"))
+        shown = "".join(line for line in text.splitlines(True) if line.startswith("//!"))
+        statements = f"{next(BUILDS)} {text}"
+        parts = {"interface/lang/src/lib.rt": shown, "toolchain/checked.a": statements}
+        for path, part in parts.items():
+            whole = os.path.join(made, path)
+            os.makedirs(os.path.dirname(whole))
+            with open(whole, "w", encoding="utf-8") as it:
+                it.write(part)
 
     def note(self, crate: Crate, words: Sequence[str]) -> None:
         self.asked.append(crate.name)

@@ -8,7 +8,7 @@ from collections.abc import Callable
 import support
 from build import records
 from build.crates import Crate
-from building import ALL, ANOTHER, PROVED, BuildCase, Prover
+from building import ALL, ANOTHER, BODY, PROVED, BuildCase, Prover
 
 assert support.TOP, "it says where the build is"
 
@@ -169,12 +169,11 @@ class BuiltOnceMore(BuildCase):
         self.assertEqual(["high", "middle"], self.asked())
         self.assertEqual([], self.asked())
 
-    def test_built_once_more_before(self) -> None:
-        """The same where the clock was set back: the times aren't those of the libraries over which
-        it was built."""
+    def test_times(self) -> None:
+        """Those of files say nothing of a library."""
         self.build(Prover())
         os.utime(self.place("low", "out", "rlib", "stamp"), (1, 1))
-        self.assertEqual(["high", "low", "middle"], self.asked())
+        self.assertEqual([], self.asked())
 
     def test_built_by_rt(self) -> None:
         """`rt` takes a library as built whatever its verdict says: so it is proved here."""
@@ -210,6 +209,51 @@ class KeptProofs(BuildCase):
         self.build(prover := Prover())
         self.assertEqual(["high", "middle"], sorted(prover.over_kept))
         self.assertEqual([], self.asked(keeps=True))
+
+    def test_another_body(self) -> None:
+        """Where a library shows what it did, those above that keep their proofs stand, for `rt`
+        too, and a program is linked anew."""
+        self.add_program()
+        self.build(Prover(), keeps=True)
+        self.write("low", f"//! low\n{BODY}")
+        self.assertEqual(["apart"], self.built())
+        self.assertEqual((["app", "low"], []), self.build(Prover())[:2])
+        self.assertEqual(sorted([*ALL, "app"]), self.built())
+        self.assertEqual(ALL, self.built_for_rt())
+        self.assertEqual([], self.asked())
+
+    def test_program(self) -> None:
+        """Over libraries that keep their proofs it keeps its own."""
+        self.add_program()
+        self.build(Prover(), keeps=True)
+        self.write("app", ANOTHER, "main.rt")
+        self.build(prover := Prover())
+        self.assertEqual(["app"], prover.over_kept)
+
+    def test_program_above_cut_libraries(self) -> None:
+        self.add_program()
+        self.build(prover := Prover())
+        self.assertEqual([], prover.over_kept)
+
+    def test_another_body_above_cut_libraries(self) -> None:
+        """These fit only the very libraries over which they were built."""
+        self.build(Prover())
+        self.write("low", f"//! low\n{BODY}")
+        self.assertEqual(["high", "low", "middle"], self.asked())
+
+    def test_another_contract(self) -> None:
+        """All that is above is proved again, also where what is between shows what it did."""
+        self.build(Prover(), keeps=True)
+        self.write("low", f"{ANOTHER}{BODY}")
+        self.assertEqual(["high", "low", "middle"], self.asked())
+
+    def test_another_body_that_is_refused(self) -> None:
+        """What stands above isn't taken as built before that is mended."""
+        self.build(Prover(), keeps=True)
+        self.write("low", f"//! low\n{BODY}")
+        self.build(Prover(refused=["low"]))
+        self.hold_built("apart")
+        self.assertEqual(["low"], self.asked())
 
     def test_lost(self) -> None:
         self.build(Prover(), keeps=True)

@@ -37,14 +37,20 @@ const USAGE: u8 = 5;
 
 /// What is told of words that are known, but don't go together.
 const WORKERS_MISUSED: &str = "wire_up: usage --workers: its COUNT is a number";
+
 const SAME_MISUSED: &str = "wire_up: usage --same: it needs --anywhere";
+
 const PATTERN_MISUSED: &str = "wire_up: usage --pattern: --answers and --complete need it; \
     --anywhere, --same, --lines and --large don't go with it";
+
 const PORTABLE_MISUSED: &str =
     "wire_up: usage --portable: of patterns it isn't known, and it doesn't go with --same";
+
 const SPREAD_MISUSED: &str =
     "wire_up: usage expand: say --per-node COUNT or --by node --nodes COUNT, each from 1 on";
-const WITNESS_MISUSED: &str = "wire_up: usage witness: --first or --second needs two calls, and no --lines or --json; \
+
+const WITNESS_MISUSED: &str =
+    "wire_up: usage witness: --first or --second needs two calls, and no --lines or --json; \
     --most needs a number, and no calls";
 
 /// Why the program didn't do what it was asked to do.
