@@ -82,7 +82,8 @@ class Reading(unittest.TestCase):
         promise = "if it keeps axioms, each run does as the rules say"
         self.assertEqual(f"On OpenPMIx 5.0 and 7.0, {promise}; on no other, {by_call}.", said[SAID])
         self.assertEqual(f"On OpenPMIx 4.2, 5.0 and 7.0, {promise}.", said[EVERY])
-        self.assertEqual(f"The plan is portable for no library that is known, {by_call}.", said[NONE])
+        none = f"The plan is portable for no library that is known, {by_call}."
+        self.assertEqual(none, said[NONE])
 
     def test_asks(self) -> None:
         """A checker without the option isn't asked, and one that refuses the plan tells nothing."""
