@@ -58,7 +58,7 @@ class Blamed:
 @dataclass(frozen=True)
 class Asked:
     """How the conditions are asked for: the rules that are left out, and the mistakes of WRONG that
-    are made; on the plan's nodes, or anywhere; and whether it is known that something races there."""
+    are made; on the plan's nodes, or anywhere; and whether it is known that something races."""
 
     wrong: frozenset[str] = frozenset()
     anywhere: bool = False

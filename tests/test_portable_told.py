@@ -10,7 +10,13 @@ from collections.abc import Iterator
 
 from support import TOP  # noqa: F401  the package can be imported behind this
 from wire_up_tools.checker import Checker
-from wire_up_tools.portable import Portable, find_portable, read_portable, say_portable
+from wire_up_tools.portable import (
+    Portable,
+    find_portable,
+    read_portable,
+    say_portable,
+    say_promise,
+)
 from wire_up_tools.run.answers import Runs, Seen
 from wire_up_tools.run.expected import Expected
 from wire_up_tools.run.libraries.traits import LIBRARIES
@@ -69,6 +75,15 @@ class Reading(unittest.TestCase):
             "portable for no library that is known, by 1 call (wire_up check --portable)",
             says[NONE],
         )
+
+    def test_promises(self) -> None:
+        said = {it: say_promise(take(it)) for it in (SAID, EVERY, NONE)}
+        by_call = "by 1 call (wire_up check --portable)"
+        promise = "if it keeps axioms, each run does as the rules say"
+        self.assertEqual(f"On OpenPMIx 5.0 and 7.0, {promise}; on no other, {by_call}.", said[SAID])
+        self.assertEqual(f"On OpenPMIx 4.2, 5.0 and 7.0, {promise}.", said[EVERY])
+        none = f"The plan is portable for no library that is known, {by_call}."
+        self.assertEqual(none, said[NONE])
 
     def test_asks(self) -> None:
         """A checker without the option isn't asked, and one that refuses the plan tells nothing."""

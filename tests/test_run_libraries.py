@@ -21,8 +21,9 @@ from wire_up_tools.run.reports import Report, read_report
 from wire_up_tools.run.suite import Kind, read_suite
 from wire_up_tools.run.tables import Recorded, read_table
 
-# Plans that differ, and that the rules of a library don't explain, by the library's name.
-UNEXPLAINED: dict[str, list[str]] = {}
+# Plans that differ, and that the rules of a library don't explain, by the library's name: some keys
+# that begin with `pmix` are its own.
+UNEXPLAINED: dict[str, list[str]] = {"openpmix-4.2": ["reserved-known"]}
 # Plans whose runs differ in a way that `--predict` doesn't tell. In the first two a get that waits
 # for a rank of its node isn't found in one of ten runs, though its key comes; in the others a fence
 # of two jobs sometimes never ends. No rule is known that says when.

@@ -83,11 +83,24 @@ def list_libraries(portable: Portable) -> str:
     return f"OpenPMIx {', '.join(before)}{' and ' * bool(before)}{last}" if last else ""
 
 
+def say_calls(portable: Portable) -> str:
+    """By how many calls a plan isn't portable for each library, and what names them."""
+    count = len({str(it) for it in portable.calls})
+    return f"by {count} call{'s' * (count != 1)} (wire_up check {OPTION})"
+
+
 def say_portable(portable: Portable) -> str:
     """For which libraries a plan is portable, as a clause."""
-    listed = list_libraries(portable)
-    count = len({str(it) for it in portable.calls})
-    of_calls = f"by {count} call{'s' * (count != 1)} (wire_up check {OPTION})"
+    listed, of_calls = list_libraries(portable), say_calls(portable)
     if not listed:
         return f"portable for no library that is known, {of_calls}"
-    return f"portable for {listed}" + (f", for no other {of_calls}" if count else "")
+    return f"portable for {listed}" + (f", for no other {of_calls}" if portable.calls else "")
+
+
+def say_promise(portable: Portable) -> str:
+    """What that promises, as a sentence."""
+    listed, of_calls = list_libraries(portable), say_calls(portable)
+    if not listed:
+        return f"The plan is portable for no library that is known, {of_calls}."
+    others = f"; on no other, {of_calls}" if portable.calls else ""
+    return f"On {listed}, if it keeps axioms, each run does as the rules say{others}."

@@ -2,7 +2,7 @@
 from collections.abc import Sequence
 
 from wire_up_tools.left_out import can_order
-from wire_up_tools.portable import list_libraries
+from wire_up_tools.portable import say_promise
 from wire_up_tools.report.causes import Cause
 from wire_up_tools.report.contents import Report
 from wire_up_tools.report.findings import MOST_GROUPS, Finding, Kind
@@ -137,12 +137,7 @@ def say_libraries(report: Report) -> list[str]:
     """For which libraries the plan is portable; nothing where that isn't known."""
     if report.is_past_limits:
         return ["For which libraries so large a plan is portable, check --large --portable tells."]
-    if report.portable is None:
-        return []
-    listed = list_libraries(report.portable)
-    if not listed:
-        return ["The plan is portable for no library that is known."]
-    return [f"On {listed}, if the library keeps the axioms, each run does as the rules say."]
+    return [say_promise(report.portable)] if report.portable else []
 
 
 def say_reasons(report: Report) -> str:

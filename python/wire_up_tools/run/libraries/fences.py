@@ -11,6 +11,15 @@ from wire_up_tools.run.libraries.world import SUCCESS, Arrival, Reply, World
 # What identifies a fence to the library: the job of a fence of all its ranks, or a list.
 Sign = tuple[str, ...]
 ALL, LIST, OF_MPI = "all", "list", "of MPI"
+# Behind a job: all its ranks.
+STAR = ":*"
+
+
+def names_twice(items: Sequence[str]) -> bool:
+    """Whether a set names a rank twice, as an item that repeats, or by its job too."""
+    whole = {it.removesuffix(STAR) for it in items if it.endswith(STAR)}
+    by_job = any(it.partition(":")[0] in whole for it in items if not it.endswith(STAR))
+    return by_job or len(set(items)) < len(items)
 
 
 @dataclass(eq=False)
@@ -146,8 +155,8 @@ class End:
     def is_barred(self) -> bool:
         """Whether it never ends."""
         words = self.list_counted()
-        repeats = len(set(words)) < len(words) and not self.world.traits.drops_repeats
-        if repeats and self.world.has(Rule.LIST_AS_SPELT):
+        counts_twice = not self.world.traits.drops_repeats and self.world.has(Rule.LIST_AS_SPELT)
+        if counts_twice and names_twice(words):
             return True
         is_list = self.meeting.sign[0] == LIST and len(self.nodes) > 1
         return is_list and self.call.collects and self.is_of_node
