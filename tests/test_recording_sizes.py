@@ -199,6 +199,19 @@ def share_with_neighbours(size: int) -> list[Tape]:
     return tapes
 
 
+def ask_above(size: int, meets: bool = True) -> list[Tape]:
+    """Each rank puts a card. Each but the first gets the card of the rank above it in a tree at
+    once, perhaps behind a fence of all: nobody gets those of the leaves."""
+    tapes = make_world(size)
+    for rank, tape in enumerate(tapes):
+        tape.call("put global card text:v").call("commit")
+        if meets:
+            tape.call("fence blocks all pmix.collect=number:1:1")
+        if rank:
+            get_at_once(tape, (rank - 1) // 2)
+    return tapes
+
+
 def part_ways(size: int) -> list[Tape]:
     """With 4 ranks or more another call is made."""
     tapes = tell(size)
@@ -354,6 +367,19 @@ class AnswerTest(unittest.TestCase):
         self.assertRegex(said["notes"][0], "^the pattern leaves out fences of some ranks: ")
         self.assertIn("get-now each card\n", self.read_pattern())
         self.assertNotIn("fence", self.read_pattern())
+
+    def test_a_tree(self) -> None:
+        """All ranks keep their puts, since the leaves would else be unlike the others; and no fence
+        of some ranks is told of, where there is none."""
+        said = self.ask(ask_above, (3, 4), (8,))
+        self.assertEqual((said["findings"], said["notes"]), ([], []))
+        told = "put global card v\ncommit\nfence all collect\nfor some ranks\nget-now each card\n"
+        self.assertIn(told, self.read_pattern())
+
+    def test_a_tree_that_races(self) -> None:
+        said = self.ask(lambda size: ask_above(size, meets=False), (3, 4), (8,))
+        self.assertEqual((said["shown"], said["notes"]), ("recording", []))
+        self.assertIn("for some ranks\nget-now each card\n", self.read_pattern())
 
     def test_what_is_known_in_each_turn(self) -> None:
         """Of the second neighbour it is known behind the second fence alone."""

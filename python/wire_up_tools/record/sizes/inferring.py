@@ -13,6 +13,7 @@ from wire_up_tools.record.sizes.claims import (
     is_true,
 )
 from wire_up_tools.record.sizes.leaning import (
+    collects_in_parts,
     keep_whole_fences,
     leave_parts_out,
     make_lean,
@@ -56,6 +57,10 @@ class Inferred:
     held: Sequence[SizedPlan]
     failed: SizedPlan | None = None
     lacks_fences: bool = False
+
+    def agrees(self, is_clean: bool) -> bool:
+        """Whether it is known that nothing is found, or that something is."""
+        return self.racing is not None and (self.racing == 0) == is_clean
 
 
 def index_all(plans: Sequence[SizedPlan]) -> Sequence[SizedPlan]:
@@ -143,20 +148,26 @@ def infer_once(
     """The pattern of plans, which the larger ones hold, with the fences of the program as they are,
     or else with those for order that collect nothing; or, if nothing is found in the plans, with
     all fences of some ranks for order, if nothing is found in the pattern then; or where the first
-    breaks."""
-    plans = [*taken, *larger]
-    lean = [part_fences(make_lean(plan)) for plan in plans]
-    first = infer_indexed(lean, len(taken), judge)
+    breaks. Between these, puts that some rank's get is left of stay with all ranks, if something is
+    found in the pattern exactly if it is in the plans."""
+    plans, count = [*taken, *larger], len(taken)
+    lean, alike = (
+        [part_fences(make_lean(plan, of_any)) for plan in plans] for of_any in (False, True)
+    )
+    first = infer_indexed(lean, count, judge)
     if isinstance(first, Inferred):
         return first
-    found = infer_indexed([take_fences_as_order(plan) for plan in lean], len(taken), judge)
+    if any(one.count < other.count for one, other in zip(lean, alike)):
+        found = infer_indexed(alike, count, judge)
+        if isinstance(found, Inferred) and found.agrees(is_clean):
+            return found
+    found = infer_indexed([take_fences_as_order(plan) for plan in lean], count, judge)
     if isinstance(found, Inferred):
         return found
     if is_clean:
-        lean = [part_fences(make_lean(plan, of_any=True)) for plan in plans]
-        found = infer_indexed([leave_parts_out(plan) for plan in lean], len(taken), judge)
-        if isinstance(found, Inferred) and found.racing == 0:
-            return replace(found, lacks_fences=True)
+        found = infer_indexed([leave_parts_out(plan) for plan in alike], count, judge)
+        if isinstance(found, Inferred) and found.agrees(is_clean):
+            return replace(found, lacks_fences=any(map(collects_in_parts, alike)))
     return first
 
 

@@ -133,11 +133,20 @@ def take_fences_as_order(plan: SizedPlan) -> SizedPlan:
     return mark_as_order(plan, {call: True for them in bare for call in them})
 
 
-def leave_parts_out(plan: SizedPlan) -> SizedPlan:
-    """A plan in which all fences but those of all ranks stand for order alone, whatever they
-    bring."""
-    of_some = [
+def find_parts(plan: SizedPlan) -> Sequence[Sequence[Call]]:
+    """The calls of each fence that isn't one of all ranks."""
+    return [
         meeting for meeting in find_meetings(plan)
         if len(plan.find_members(meeting[0].words[1])) < plan.size
     ]
-    return mark_as_order(plan, {call: True for them in of_some for call in them})
+
+
+def leave_parts_out(plan: SizedPlan) -> SizedPlan:
+    """A plan in which all fences but those of all ranks stand for order alone, whatever they
+    bring."""
+    return mark_as_order(plan, {call: True for them in find_parts(plan) for call in them})
+
+
+def collects_in_parts(plan: SizedPlan) -> bool:
+    """Whether a fence that isn't one of all ranks collects."""
+    return any(call.collects for them in find_parts(plan) for call in them)

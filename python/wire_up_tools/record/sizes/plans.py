@@ -53,6 +53,11 @@ class SizedPlan:
         """How many ranks there are."""
         return len(self.calls)
 
+    @property
+    def count(self) -> int:
+        """How many calls there are."""
+        return sum(map(len, self.calls.values()))
+
     def list_program(self, rank: str) -> Sequence[Call]:
         """The calls of a rank that the program made."""
         return [call for call in self.calls[rank] if not call.is_order]
