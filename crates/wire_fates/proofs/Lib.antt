@@ -11,3 +11,4 @@ pub mod Marked
 pub mod KeyFates
 pub mod Fates
 pub mod NameFates
+pub mod LiveDone

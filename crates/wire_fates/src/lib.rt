@@ -8,6 +8,7 @@ mod get_deliveries;
 mod key_fates;
 mod name_fates;
 mod settled;
+mod waiting;
 
 pub use fate::{Fate, fate_of};
 pub use fence_deliveries::{

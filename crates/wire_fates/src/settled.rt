@@ -1,6 +1,6 @@
 //! Plans in which nothing is found.
 
-ghost use Rattle.std.specs.Prelude.{◌≡◌, ◌≢◌, ◌↔◌, ◌<◌, ℕ, List, [], true, IfOk, IfErr, IsOk};
+ghost use Rattle.std.specs.Prelude.{◌≡◌, ◌≢◌, ◌↔◌, ◌<◌, ℕ, List, [], true, IfOk, IfErr, IsOk, IsTrue};
 ghost use Rattle.wire_runs.specs.Plan as runs;
 ghost use Rattle.wire_scripts.specs.Planned.{plan_of};
 ghost use Rattle.wire_runs.specs.State.{State, start};
@@ -13,8 +13,10 @@ ghost use Rattle.wire_runs.specs.Races.{IsSettled};
 ghost use Rattle.wire_happens_before.specs.Clocks.{AreMarks};
 ghost use Rattle.wire_findings.specs.Findings.{AreFindings};
 ghost use Rattle.wire_fates.specs.Fates.{IsFateOf, TellsReply, TellsEnabled};
+ghost use Rattle.wire_fates.specs.Waiting.{LiveAreDone, NoneWaitsForEver};
 
 use crate::fate::{Fate, fate_of};
+use crate::waiting::none_waits_for_ever;
 use std::marker::Model;
 use wire_findings::Finding;
 use wire_happens_before::HappensBefore;
@@ -102,6 +104,14 @@ impl Settled {
     {
         fate_of(&self.marks.with(&self.plan), event)
     }
+
+    /// Whether no live event waits for ever. Only a `lookup-wait` whose name is absent after the calls before it does.
+    /// Where none does, `live_are_done` says what every run comes to.
+    pub fn none_waits_for_ever(&self) -> bool
+        ensures { IsTrue result ↔ NoneWaitsForEver (plan_of self.now) }
+    {
+        none_waits_for_ever(&self.marks.with(&self.plan))
+    }
 }
 
 /// The laws of a settled plan. Each is the contract of a function that does nothing: its body only
@@ -149,6 +159,14 @@ impl Settled {
         ensures sound { let plan = plan_of self.now in (s : State) → IsReachable plan s → IsSoundCut plan s.done }
         ensures reached { let plan = plan_of self.now in (cut : ℕ → ℕ) → IsSoundCut plan cut →
             (s : State) × IsReachable plan s × ((p : ℕ) → s.done p ≡ cut p) }
+    {
+        let _ = &self.plan;
+    }
+
+    /// Where no live event waits for ever, every interleaving that can't go on has done the live events, and no
+    /// others.
+    pub fn live_are_done(&self)
+        ensures { NoneWaitsForEver (plan_of self.now) → LiveAreDone (plan_of self.now) }
     {
         let _ = &self.plan;
     }
