@@ -1,19 +1,19 @@
 -- Which live events wait for ever: lookups alone. Where none does, a run that can't go on has done all live events.
-use Rattle.std.proofs.Common.{◌≡◌, ◌∙◌, ap, refl, sym, subst, ℕ, zero, suc, ◌≤◌, ◌<◌, Bool, true, false, Option, Some, None, is_some, arith, inl, inr, eq-eqb, ne_eqb, ltb-true, lt-ltb, cond}
-use Rattle.std.specs.Prelude.{◌≢◌, ◌↔◌, nat_lt}
-use Rattle.std.proofs.lemmas.Bool.{cond-true, cond-false, cond_both, cases_eq, cases_lt, cases_Bool, true≢false}
+use Rattle.std.proofs.Common.{◌≡◌, ◌∙◌, ap, refl, sym, subst, ℕ, zero, suc, ◌≤◌, true, Option, Some, None, is_some, arith, inl, inr, eq-eqb, ltb-true, lt-ltb}
+use Rattle.std.specs.Prelude.{nat_lt}
+use Rattle.std.proofs.lemmas.Bool.{cond-true, cases_eq, cases_lt, true≢false}
 use Rattle.wire_runs.specs.Plan.{Plan, Event, Kind, Get, Leave, LookupWait, kind}
 use Rattle.wire_runs.specs.State.{State, IsDone, next_event}
 use Rattle.wire_runs.specs.Puts.{own}
 use Rattle.wire_runs.specs.Sight.{held}
 use Rattle.wire_runs.specs.Step.{is_seen, may_do, reply, IsEnd, IsReachable}
-use Rattle.wire_runs.specs.Order.{Edge, Follows, Live, live, Before, may_come}
+use Rattle.wire_runs.specs.Order.{Edge, Follows, Live, live, may_come}
 use Rattle.wire_runs.specs.Races.{IsSettled}
-use Rattle.wire_runs.specs.Fate.{Fate, Waits, Says, fate_in, HasFate, dead, told, IsPast}
+use Rattle.wire_runs.specs.Fate.{Fate, Waits, Says, fate_in, HasFate, dead, told}
 use Rattle.wire_runs.proofs.Due.{live_may, reachable_sound}
 use Rattle.wire_runs.proofs.Fates.{fates_tell, get_fate}
 use Rattle.wire_runs.proofs.Marks.{live_least}
-use Rattle.wire_fates.specs.Waiting.{WaitsForEver, NoneWaitsForEver, LiveAreDone}
+use Rattle.wire_fates.specs.Waiting.{NoneWaitsForEver, LiveAreDone}
 use Rattle.wire_fates.proofs.Fates.{leave_may}
 
 never_says : (plan : Plan) (past : State) (y : Event) → Waits ≡ fate_in plan past y → may_do plan past y (kind plan y) ≡ true → ⊥
@@ -73,8 +73,8 @@ module _ (plan : Plan) (settled : IsSettled plan) (fates : (y : Event) → (fate
         let f = fates y in
         let told_ = (fates_tell plan s settled reached).enabled y.proc f.0 (subst (λ z. HasFate plan z f.0) (sym same) f.1) in
         let on = told_.1 (
-            (λ x e. from x (subst (λ z. Edge plan x z) same e)),
-            (λ w. none_ y (record { live = is_live; waits = subst (λ v. HasFate plan y v) w f.1 })),
+          (λ x e. from x (subst (λ z. Edge plan x z) same e)),
+          (λ w. none_ y (record { live = is_live; waits = subst (λ v. HasFate plan y v) w f.1 })),
         ) in
         true≢false (sym on ∙ end y.proc)
 

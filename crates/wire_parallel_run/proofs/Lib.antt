@@ -1,3 +1,4 @@
 pub mod Passes
 pub mod AtRest
 pub mod Plainly
+pub mod ByFates

@@ -26,7 +26,7 @@ use Rattle.wire_core.specs.EndsAfter.{plain_ends}
 use Rattle.wire_parallel_run.specs.Trails.{said_by, said_in, fates_in, trail_of, told_row, told_rows, told_waiting, told_outcome, AreAtRest}
 use Rattle.wire_parallel_run.proofs.AtRest.{end_if_none_shown, is_plain_end}
 
-said_given : (plan : Plan) (a : Answer) → said_by (answer_told plan a) ≡ given plan a
+pub said_given : (plan : Plan) (a : Answer) → said_by (answer_told plan a) ≡ given plan a
 said_given plan Silent = refl
 said_given plan Success = refl
 said_given plan NotFound = refl
@@ -78,7 +78,7 @@ some_within {A = A} [] i = let past : slice_get {X = A} [] i ≡ None = slice_ge
 some_within (x ∷ xs) zero = lt-ltb 0 (suc (length xs)) (omega arith)
 some_within (x ∷ xs) (suc i) = same_lt i (length xs) ∙ some_within xs i
 
-short_waits : (plan : Plan) (s : State) (p done : ℕ) → IsEnd plan s → done ≡ s.done p → nat_lt done (event_count plan p) ≡ is_waiting plan s p
+pub short_waits : (plan : Plan) (s : State) (p done : ℕ) → IsEnd plan s → done ≡ s.done p → nat_lt done (event_count plan p) ≡ is_waiting plan s p
 unfolding event_count kind_at
 short_waits plan s p done end is =
     ap (λ n. nat_lt n (event_count plan p)) is ∙ some_within (kinds plan p) (s.done p) ∙ sym (and-true _) ∙ (λ i. is_some (kind_at plan p (s.done p)) && not (sym (end p) i))

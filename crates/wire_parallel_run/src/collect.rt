@@ -9,6 +9,7 @@ ghost use Rattle.wire_core.specs.EndsAfter.{plain_ends};
 ghost use Rattle.wire_parallel_run.specs.Collect.{MayWork, IsCompleteRun};
 
 use crate::by_core::core_outcome;
+use crate::by_fates::outcome_by_fates;
 use crate::over_core::run_core;
 use crate::over_lanes::{Settings, board_outcome};
 use std::alloc::Global;
@@ -102,14 +103,27 @@ pub fn run_any<R: Threads + Wait + Sync, G: Gate + Sync>(
     ran
 }
 
+/// What becomes of every call of a settled plan, by the calling thread alone: told by fates where no live event waits for
+/// ever, else by the run of a core.
+fn outcome_by_one<G: Gate>(alloc: Global, settings: &Settings<'_, G>) -> Result<Outcome, Fault>
+    ensures ok { IfOk result (λ outcome. ends_of outcome ≡ plain_ends settings.now.settled.now) }
+    ensures memory { IsOkUnless result Memory }
+{
+    if settings.settled.none_waits_for_ever() {
+        return outcome_by_fates(alloc, settings.settled);
+    }
+    core_outcome(alloc, settings)
+}
+
 /// Runs a settled plan by `workers` workers, and gives what became of every call. Whatever the workers do, that is what
 /// the plain run gives, in which at each step the lowest ready process takes it.
 ///
 /// The workers and the collector work by rounds as in `run_any`, but they serve the lanes of a board and not a core
 /// under a lock. Where the trails and the words at the end don't tell the outcome, the calling thread calls the gate
-/// with the number `workers` and process 0, and runs the plan alone. A plan of more than 1,024 processes has no board:
-/// there the calling thread runs it by a core, and calls the gate with the number `workers` for each process that it
-/// serves. The faults are those of `run_any`.
+/// with the number `workers` and process 0, and runs the plan alone. A plan of more than 1,024 processes has no board.
+/// Where no live event of it waits for ever, the calling thread tells the outcome by fates, and calls no gate; else it
+/// runs the plan by a core, and calls the gate with the number `workers` for each process that it serves. The faults are
+/// those of `run_any`.
 pub fn run_workers<R: Threads + Wait + Sync, G: Gate + Sync>(
     rt: &R,
     alloc: Global,
@@ -130,7 +144,7 @@ pub fn run_workers<R: Threads + Wait + Sync, G: Gate + Sync>(
         gate,
     };
     if settled.plan().process_count() > MOST_SEATED {
-        return core_outcome(alloc, &settings);
+        return outcome_by_one(alloc, &settings);
     }
     match board_outcome(rt, alloc, &settings)? {
         Some(outcome) => Ok(outcome),

@@ -4,6 +4,7 @@
 #![tactic(auto)]
 
 mod by_core;
+mod by_fates;
 mod collect;
 mod crew;
 mod outcome;

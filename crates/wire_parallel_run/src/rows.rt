@@ -26,7 +26,7 @@ pub(crate) fn trail_of(trails: &[Vec<Fate>], proc: Proc) -> &[Fate]
 }
 
 /// How many calls a process has.
-fn call_count(plan: &Plan, proc: Proc) -> usize
+pub(crate) fn call_count(plan: &Plan, proc: Proc) -> usize
     requires { proc.number < process_count (plan_of plan.now) }
     ensures { result ≡ length (calls_of (plan_of plan.now) proc.number) }
 {

@@ -1,4 +1,4 @@
-use Rattle.std.proofs.Common.{ℕ, ◌<◌}
+use Rattle.std.proofs.Common.{◌<◌}
 use Rattle.wire_scripts.specs.Planned.{plan_of}
 use Rattle.wire_runs.specs.Plan.{Event}
 use Rattle.wire_fates.specs.Waiting.{WaitsForEver}
