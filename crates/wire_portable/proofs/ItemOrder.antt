@@ -1,4 +1,4 @@
--- Two lists in ascending order with the same items are the same; an item stands there twice where two neighbours are equal.
+-- Two lists in ascending order with the same items are the same.
 use Rattle.std.proofs.Common.{◌≡◌, ℕ, suc, ◌+◌, ◌≤◌, List, [], ◌∷◌, inl, inr, Bool, true, false, cond, ◌||◌, refl, sym, ap, ◌∙◌, subst, arith, Ordering}
 use Rattle.std.specs.Prelude.{◌==◌, nat_lt}
 use Rattle.std.proofs.lemmas.List.Sums.{sum_by-cons}
@@ -10,13 +10,13 @@ use Rattle.std.proofs.lemmas.Cmp.{nat_list_cmp_total}
 use Rattle.std.proofs.lemmas.Bool.{cases_Bool, eqb-true, true≢false}
 use Rattle.std.proofs.lemmas.Slice.Eq.{bytes_eq-Decides}
 use Rattle.wire_portable.specs.Spelling.{times}
-use Rattle.wire_portable.specs.Numbering.{AreFrom, AreAscending, has_neighbours}
+use Rattle.wire_portable.specs.Numbering.{AreFrom, AreAscending}
 
 -- an item in front, and those behind
 pub times_more : (item x : List ℕ) (xs : List (List ℕ)) → times item (x ∷ xs) ≡ cond {A = ℕ} (bytes_eq x item) 1 0 + times item xs
 times_more item x xs = sum_by-cons (λ (other : List ℕ). cond {A = ℕ} (bytes_eq other item) 1 0) x xs
 
-same_here : (x : List ℕ) → bytes_eq x x ≡ true
+pub same_here : (x : List ℕ) → bytes_eq x x ≡ true
 same_here x = (bytes_eq-Decides x x).1 refl
 
 pub times_here : (item x : List ℕ) (xs : List (List ℕ)) → x ≡ item → times item (x ∷ xs) ≡ suc (times item xs)
@@ -45,7 +45,7 @@ less_equal e = cc
 greater_equal : Greater ≡ Equal → ⊥
 greater_equal e = cc
 
-numbers_equal : (x y : ℕ) → nat_cmp x y ≡ Equal → x ≡ y
+pub numbers_equal : (x y : ℕ) → nat_cmp x y ≡ Equal → x ≡ y
 numbers_equal x y e = elim (cases_Bool (nat_lt x y)) [
   | inl t ↦ absurd (less_equal (sym (ap (λ b. cond b Less (cond (x == y) Equal Greater)) t) ∙ e))
   | inr f ↦ elim (cases_Bool (x == y)) [
@@ -65,7 +65,7 @@ lists_equal (x ∷ xs) (y ∷ ys) e = go (nat_cmp x y) refl e (lists_equal xs ys
     go Equal p e ih = ap (λ v. v ∷ xs) (numbers_equal x y p) ∙ ap (λ vs. y ∷ vs) (ih e)
     go Greater p e ih = absurd (greater_equal e)
 
-same_if : (x y : List ℕ) → is_lt (slice_cmp nat_cmp x y) ≡ false → is_lt (slice_cmp nat_cmp y x) ≡ false → x ≡ y
+pub same_if : (x y : List ℕ) → is_lt (slice_cmp nat_cmp x y) ≡ false → is_lt (slice_cmp nat_cmp y x) ≡ false → x ≡ y
 same_if x y f g = lists_equal x y (neither (slice_cmp nat_cmp x y) (slice_cmp nat_cmp y x) (nat_list_cmp_total.antisymm x y) f g)
 
 -- an item isn't less than itself
@@ -85,7 +85,7 @@ from_least y x (z ∷ ys) from some = elim (cases_Bool (bytes_eq z x)) [
   | inr f ↦ from_least y x ys from.1 (let e = times_there x z ys f in omega (arith, e, some))
 ]
 
-least : (y x : List ℕ) (ys : List (List ℕ)) → AreFrom y ys → 1 ≤ times x (y ∷ ys) → is_lt (slice_cmp nat_cmp x y) ≡ false
+pub least : (y x : List ℕ) (ys : List (List ℕ)) → AreFrom y ys → 1 ≤ times x (y ∷ ys) → is_lt (slice_cmp nat_cmp x y) ≡ false
 least y x ys from some = elim (cases_Bool (bytes_eq y x)) [
   | inl t ↦ subst (λ v. is_lt (slice_cmp nat_cmp v y) ≡ false) ((bytes_eq-Decides y x).0 t) (not_less y)
   | inr f ↦ from_least y x ys from (let e = times_there x y ys f in omega (arith, e, some))
@@ -108,55 +108,3 @@ one_order (x ∷ xs) (y ∷ ys) a b same =
     let first = ap (λ v. cond {A = ℕ} (bytes_eq v item) 1 0) e in
     omega (arith, one, two, all, first)) in
     ap (λ v. v ∷ xs) e ∙ ap (λ vs. y ∷ vs) rest
-
--- equal neighbours are one item twice
-pub neighbours_twice : (xs : List (List ℕ)) → has_neighbours xs ≡ true → (item : List ℕ) × (2 ≤ times item xs)
-neighbours_twice [] h = absurd (true≢false (sym h))
-neighbours_twice (x ∷ []) h = absurd (true≢false (sym h))
-neighbours_twice (x ∷ (y ∷ ys)) h = go (bytes_eq x y) refl h (neighbours_twice (y ∷ ys))
-  where
-    go : (b : Bool) → bytes_eq x y ≡ b → (b || has_neighbours (y ∷ ys)) ≡ true → (has_neighbours (y ∷ ys) ≡ true → (item : List ℕ) × (2 ≤ times item (y ∷ ys))) →
-        (item : List ℕ) × (2 ≤ times item (x ∷ (y ∷ ys)))
-    go true e h ih = (
-      y,
-      (
-          let one = times_here y x (y ∷ ys) ((bytes_eq-Decides x y).0 e) in
-          let two = times_here y y ys refl in
-          omega (arith, one, two)),
-    )
-    go false e h ih = let t = ih h in (
-      t.0,
-      (
-          let more = times_more t.0 x (y ∷ ys) in
-          let some = t.1 in
-          omega (arith, more, some)),
-    )
-
--- and one that stands in order twice has an equal neighbour
-pub twice_neighbours : (item : List ℕ) (xs : List (List ℕ)) → AreAscending xs → 2 ≤ times item xs → has_neighbours xs ≡ true
-twice_neighbours item [] a t = absurd (omega (arith, t))
-twice_neighbours item (x ∷ []) a t = absurd (go (bytes_eq x item) refl)
-  where
-    go : (b : Bool) → bytes_eq x item ≡ b → ⊥
-    go true e = let one = times_here item x [] ((bytes_eq-Decides x item).0 e) in omega (arith, one, t)
-    go false e = let none = times_there item x [] e in omega (arith, none, t)
-twice_neighbours item (x ∷ (y ∷ ys)) a t = go (bytes_eq x item) refl (twice_neighbours item (y ∷ ys) a.1)
-  where
-    either : (b c : Bool) → b ≡ true → (b || c) ≡ true
-    either true c h = refl
-    either false c h = absurd (true≢false (sym h))
-
-    behind : (b c : Bool) → c ≡ true → (b || c) ≡ true
-    behind true c h = refl
-    behind false c h = h
-
-    go : (b : Bool) → bytes_eq x item ≡ b → (2 ≤ times item (y ∷ ys) → has_neighbours (y ∷ ys) ≡ true) → (bytes_eq x y || has_neighbours (y ∷ ys)) ≡ true
-    go true e ih =
-        let is = (bytes_eq-Decides x item).0 e in
-        let one = times_here item x (y ∷ ys) is in
-        let below = least y item ys a.1.0 (omega (arith, one, t)) in
-        let same = same_if x y (subst (λ v. is_lt (slice_cmp nat_cmp v y) ≡ false) (sym is) below) a.0.0 in
-        either (bytes_eq x y) (has_neighbours (y ∷ ys)) ((bytes_eq-Decides x y).1 same)
-    go false e ih =
-        let none = times_there item x (y ∷ ys) e in
-        behind (bytes_eq x y) (has_neighbours (y ∷ ys)) (ih (omega (arith, none, t)))

@@ -20,6 +20,7 @@ pub mod Sharing
 pub mod GetsFine
 pub mod NowsAdded
 pub mod ItemOrder
+mod Overlaps
 pub mod NumberTable
 pub mod Numbered
 pub mod ReadSets

@@ -1,5 +1,5 @@
 -- A table of lists of items as vectors hold it.
-use Rattle.std.proofs.Common.{◌≡◌, ℕ, zero, suc, List, [], ◌∷◌, ◌++◌, Bool, true, false, Some, Vec, Global, if◌then◌else◌, option_map, map, refl, sym, ap, ◌∙◌, subst}
+use Rattle.std.proofs.Common.{◌≡◌, ◌⊎◌, inl, inr, ℕ, zero, suc, List, [], ◌∷◌, ◌++◌, Bool, true, false, Some, Vec, Global, if◌then◌else◌, option_map, map, refl, sym, ap, ◌∙◌, subst}
 use Rattle.std.specs.Prelude.{slice_get, ◌&&◌}
 use Rattle.std.specs.Str.{bytes_eq}
 use Rattle.std.specs.List.{IsDistinct, AllByRecursion, list_any}
@@ -13,9 +13,9 @@ use Rattle.std.proofs.lemmas.Option.{none-some, same_Some, slice_get-map}
 use Rattle.std.proofs.lemmas.Slice.Eq.{bytes_eq-Decides}
 use Rattle.std.proofs.Common.{◌<◌, ◌≤◌, length, get_or, arith, cond}
 use Rattle.wire_types.specs.Texts.{lists_of}
-use Rattle.wire_portable.specs.Spelling.{SpelledSet, HasTwice, items_of, times}
+use Rattle.wire_portable.specs.Spelling.{SpelledSet, HasItemTwice, HasTwice, HasWholeJobAndMore, items_of, times}
 use Rattle.wire_portable.specs.Numbering.{AreSetsDistinct, AreAscending, AreFrom, IsSetInOrder, IsSetNumbered, KeepsSets, has_neighbours}
-use Rattle.wire_portable.proofs.ItemOrder.{neighbours_twice, twice_neighbours}
+use Rattle.wire_portable.proofs.Overlaps.{item_twice, neighbours_named, twice_neighbours, whole_and_more, whole_neighbours}
 
 abbrev Text : Type 0
 Text = Vec ℕ Global
@@ -117,8 +117,16 @@ told table set items number repeats order there is = record {
   items = items;
   order = order;
   there = there;
-  twice = (
-    (λ t. let found = neighbours_twice items (sym is ∙ t) in (found.0, subst (λ n. 2 ≤ n) (order.same found.0) found.1)),
-    (λ (h : HasTwice set). is ∙ twice_neighbours h.0 items order.ascending (subst (λ n. 2 ≤ n) (sym (order.same h.0)) h.1)),
-  );
+  twice = ((λ t. named (neighbours_named items (sym is ∙ t))), (λ (h : HasTwice set). is ∙ neighbours h));
 }
+  where
+    named : HasItemTwice items ⊎ HasWholeJobAndMore items → HasTwice set
+    named (inl h) = inl (item_twice items (items_of set) order.same h)
+    named (inr h) = inr (whole_and_more items (items_of set) order.same h)
+
+    back : (item : List ℕ) → times item (items_of set) ≡ times item items
+    back item = sym (order.same item)
+
+    neighbours : HasTwice set → has_neighbours items ≡ true
+    neighbours (inl h) = let here = item_twice (items_of set) items back h in twice_neighbours here.item items order.ascending here.twice
+    neighbours (inr h) = let here = whole_and_more (items_of set) items back h in whole_neighbours here.job here.rank items order.ascending here.whole here.more here.apart

@@ -1,5 +1,6 @@
 -- How sets are numbered: for the contracts of private functions.
-use Rattle.std.specs.Prelude.{◌≡◌, ◌↔◌, ℕ, ◌||◌, Bool, false, List, [], ◌∷◌, Option, Some, None, slice_get, IsTrue}
+use Rattle.std.specs.Prelude.{◌≡◌, ◌↔◌, ℕ, ◌-◌, ◌||◌, ◌&&◌, Bool, false, List, [], ◌∷◌, Option, Some, None, slice_get, IsTrue, codes, length, take, drop}
+use Rattle.wire_types.specs.Said.{begins_with}
 use Rattle.std.specs.Str.{bytes_eq}
 use Rattle.std.specs.Ordering.{nat_cmp, is_lt}
 use Rattle.std.specs.Cmp.Lexicographic.{slice_cmp}
@@ -16,12 +17,20 @@ abbrev pub AreAscending : List (List ℕ) → Type 0
 AreAscending [] = Unit {0}
 AreAscending (x ∷ xs) = AreFrom x xs × AreAscending xs
 
--- whether an item is the same as the first of these, or two neighbours of these are the same
+-- whether an item is all processes of a job, and the other one of that job
+abbrev pub holds : List ℕ → List ℕ → Bool
+holds whole item = bytes_eq (codes ":*") (drop (length whole - 2) whole) && begins_with (take (length whole - 1) whole) item
+
+-- whether two items name a process or a job twice
+abbrev pub overlap : List ℕ → List ℕ → Bool
+overlap x y = bytes_eq x y || (holds x y || holds y x)
+
+-- whether an item and the first of these, or two neighbours of these, name one twice
 abbrev pub repeats_after : List ℕ → List (List ℕ) → Bool
 repeats_after x [] = false
-repeats_after x (y ∷ ys) = bytes_eq x y || repeats_after y ys
+repeats_after x (y ∷ ys) = overlap x y || repeats_after y ys
 
--- whether two neighbours are the same
+-- whether two neighbours do
 abbrev pub has_neighbours : List (List ℕ) → Bool
 has_neighbours [] = false
 has_neighbours (x ∷ xs) = repeats_after x xs

@@ -1,6 +1,6 @@
 -- How a plan's text spells the sets of its fences: which of its lines are calls, the items of a set, and when two sets
 -- are spelt the same.
-use Rattle.std.specs.Prelude.{◌≡◌, ◌↔◌, ℕ, ◌≤◌, ◌==◌, ◌||◌, Bool, List, [], ◌∷◌, ◌++◌, Option, Some, None, map, codes, if◌then◌else◌, slice_get, slice_index, slice_index_or, count_by, IsTrue}
+use Rattle.std.specs.Prelude.{◌≡◌, ◌↔◌, ◌⊎◌, ℕ, ◌≤◌, ◌==◌, ◌||◌, Bool, false, List, [], ◌∷◌, ◌++◌, Option, Some, None, map, codes, if◌then◌else◌, slice_get, slice_index, slice_index_or, count_by, IsTrue}
 use Rattle.std.specs.Str.{bytes_eq}
 use Rattle.std.specs.List.{slice_split}
 use Rattle.wire_lines.specs.Text.{lines_of, words_of}
@@ -94,16 +94,29 @@ times item items = count_by (λ other. bytes_eq other item) items
 abbrev pub AreSpeltAlike : SpelledSet → SpelledSet → Type 0
 AreSpeltAlike one other = (item : List ℕ) → times item (items_of one) ≡ times item (items_of other)
 
--- some item stands there twice
+-- an item stands there twice
+pub record HasItemTwice (items : List (List ℕ)) : Type 0 where
+  pub item : List ℕ
+  pub twice : 2 ≤ times item items
+
+-- all processes of a job stand there, and another item of the job
+pub record HasWholeJobAndMore (items : List (List ℕ)) : Type 0 where
+  pub job : List ℕ
+  pub rank : List ℕ
+  pub whole : 1 ≤ times (job ++ codes ":*") items
+  pub more : 1 ≤ times (job ++ (codes ":" ++ rank)) items
+  pub apart : bytes_eq rank (codes "*") ≡ false
+
+-- a set names a process or a job twice
 abbrev pub HasTwice : SpelledSet → Type 0
-HasTwice spelled = (item : List ℕ) × (2 ≤ times item (items_of spelled))
+HasTwice spelled = HasItemTwice (items_of spelled) ⊎ HasWholeJobAndMore (items_of spelled)
 
 -- the call of a process of this number, in rows
 abbrev pub at_call : {A : Type 0} → List (List (Option A)) → ℕ → ℕ → Option A
 at_call rows p c = slice_index_or (slice_index_or rows p []) c None
 
--- each set has a number, two of them the same exactly where they are spelt alike, and it is told whether an item stands
--- there twice
+-- each set has a number, two of them the same exactly where they are spelt alike, and it is told whether it names one
+-- twice
 pub record AreSetsNumbered (sets : List (List (Option SpelledSet))) (rows : List (List (Option Spelt))) : Type 0 where
   pub none : (p c : ℕ) → at_call sets p c ≡ None → at_call rows p c ≡ None
   pub some : (p c : ℕ) (set : SpelledSet) → at_call sets p c ≡ Some set → (spelt : Spelt) × (at_call rows p c ≡ Some spelt)

@@ -4,6 +4,7 @@ use Rattle.std.specs.Prelude.{ℕ, List, [], ◌∷◌, Bool, true, false, not, 
 use Rattle.std.specs.Prelude.{if◌then◌else◌}
 use Rattle.std.specs.Str.{bytes_eq}
 use Rattle.std.specs.List.{list_all}
+use Rattle.wire_types.specs.Said.{begins_with}
 use Rattle.wire_types.specs.declared.Call.{Call}
 use Rattle.wire_types.specs.declared.Call.TheVariants.{Fence, Get, GetNow}
 use Rattle.wire_types.specs.declared.CallAt.{CallAt}
@@ -43,9 +44,9 @@ sign_by library s rows call _ = None
 abbrev pub is_of_map : List ℕ → Bool
 is_of_map key = bytes_eq key (codes "PMIX_LOCAL_RANK") || (bytes_eq key (codes "PMIX_NODE_RANK") || bytes_eq key (codes "PMIX_HOSTNAME"))
 
--- keys that they don't tell by this name
+-- keys that they don't tell by this name, or of which they may hold a value: the names of their own begin with `pmix`
 abbrev pub is_untold : List ℕ → Bool
-is_untold key = bytes_eq key (codes "PMIX_RANK") || bytes_eq key (codes "PMIX_JOB_SIZE")
+is_untold key = bytes_eq key (codes "PMIX_RANK") || (bytes_eq key (codes "PMIX_JOB_SIZE") || begins_with (codes "pmix") key)
 
 -- whether libraries answer a call of p, if it is one of a reserved key, as the plan says
 abbrev pub told_call : Scripts → ℕ → Call → Bool

@@ -3,7 +3,7 @@
 ghost use Rattle.std.specs.Prelude.{◌≡◌, ◌||◌, Bool};
 ghost use Rattle.wire_portable.specs.Libraries as spec;
 
-/// A line of versions of OpenPMIx, each of which was measured.
+/// A line of versions of OpenPMIx, of which one was measured.
 #[derive(Clone, Copy, PartialEq, Eq)]
 pub enum Library {
     /// OpenPMIx 4.2.
@@ -55,6 +55,17 @@ impl Libraries {
         Libraries {
             v4: true,
             v5: false,
+            v7: false,
+        }
+    }
+
+    /// OpenPMIx 4.2 and 5.0.
+    pub(crate) fn before_v7() -> Libraries
+        ensures { result ≡ spec.before_v7 }
+    {
+        Libraries {
+            v4: true,
+            v5: true,
             v7: false,
         }
     }

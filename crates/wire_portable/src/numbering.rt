@@ -61,13 +61,27 @@ fn ordered_items(alloc: Global, spelled: SpelledSet<'_>) -> Result<Vec<Vec<u8>>,
     Ok(items)
 }
 
-/// Whether an item is the same as the first of these, or two neighbours of these are the same.
+/// Whether an item is all processes of a job, and the other one of that job.
+fn holds(whole: &[u8], item: &[u8]) -> bool
+    ensures { result ≡ spec.holds whole.now item.now }
+{
+    whole.ends_with(b":*".as_slice()) && item.starts_with(&whole[..whole.len() - 1])
+}
+
+/// Whether two items name a process or a job twice.
+fn overlap(x: &[u8], y: &[u8]) -> bool
+    ensures { result ≡ spec.overlap x.now y.now }
+{
+    is_word(x, y) || holds(x, y) || holds(y, x)
+}
+
+/// Whether an item and the first of these, or two neighbours of these, name a process or a job twice.
 fn repeats_after<'a>(item: &'a [u8], items: &'a [Vec<u8>]) -> bool
     ensures { result ≡ spec.repeats_after item.now (lists_of items.now) }
 {
     let mut last = item;
     for next in items {
-        if is_word(last, next.as_slice()) {
+        if overlap(last, next.as_slice()) {
             return true;
         }
         last = next.as_slice();
@@ -75,7 +89,7 @@ fn repeats_after<'a>(item: &'a [u8], items: &'a [Vec<u8>]) -> bool
     false
 }
 
-/// Whether two neighbours of these are the same.
+/// Whether two neighbours of these name a process or a job twice.
 fn has_repeats(items: &[Vec<u8>]) -> bool
     ensures { result ≡ has_neighbours (lists_of items.now) }
 {

@@ -27,11 +27,13 @@ fn is_of_map(key: &[u8]) -> bool
         || is_same_text(key, b"PMIX_HOSTNAME".as_slice())
 }
 
-/// Whether libraries don't tell a key by its name.
+/// Whether libraries don't tell a key by its name, or may hold a value of it: the names of their own begin with `pmix`.
 fn is_untold(key: &[u8]) -> bool
     ensures { result ≡ spec.is_untold key.now }
 {
-    is_same_text(key, b"PMIX_RANK".as_slice()) || is_same_text(key, b"PMIX_JOB_SIZE".as_slice())
+    is_same_text(key, b"PMIX_RANK".as_slice())
+        || is_same_text(key, b"PMIX_JOB_SIZE".as_slice())
+        || key.starts_with(b"pmix".as_slice())
 }
 
 /// Whether two processes are of one job.
