@@ -11,7 +11,7 @@ SCOPES = ("global", "global", "global", "local", "remote")
 # How often each act is taken.
 ACTS = ("put", "commit", "get", "get-now", "fence", "publish", "lookup-wait", "unpublish", "map")
 WEIGHTS = (18, 6, 18, 8, 10, 3, 4, 2, 1)
-MAP = ("PMIX_RANK", "PMIX_HOSTNAME")
+MAP = ("PMIX_RANK", "PMIX_HOSTNAME", "pmix.appnum")
 # How often a plan has two jobs, keeps what gets bring, and how often a rank calls a fence otherwise
 # than the others.
 SEVERAL_JOBS, KEEPS, SELDOM = 0.1, 0.25, 0.08
@@ -73,6 +73,8 @@ class Maker:
         for calls in self.calls:
             by_ranks = self.ranks[:1] * (chance.random() < SELDOM) + self.ranks
             spelt = ",".join(by_ranks) if chance.random() < SELDOM else target
+            if chance.random() < SELDOM:
+                spelt = f"{'app:*' if spelt == 'all' else spelt},{self.ranks[0]}"
             is_other = chance.random() < SELDOM
             calls.append(f"fence {spelt}{' collect' * (collects != is_other)}")
 
