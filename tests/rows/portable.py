@@ -450,7 +450,8 @@ ROWS = [
     ),
     Told(
         "whole job and a rank of it",
-        "rehearsal 1 / node n0 / job app / rank n0 / fence app:*,app:0 / rank n0 / fence app:0,app:*",
+        "rehearsal 1 / node n0 / job app / rank n0 / fence app:*,app:0 / rank n0 / fence "
+        "app:0,app:*",
         "unportable app:0 1 fence fence-repeats 4.2,5.0,7.0 / portable none",
         "unportable app:0 1 fence fence-repeats 4.2,5.0,7.0 / portable none",
     ),
