@@ -1,18 +1,18 @@
 -- A set names a process or a job twice exactly where two neighbours of its items in ascending order do.
-use Rattle.std.proofs.Common.{◌≡◌, ◌≢◌, ◌<◌, ◌≤◌, ◌-◌, ◌+◌, ℕ, suc, List, [], ◌∷◌, ◌++◌, ◌⊎◌, inl, inr, Bool, true, false, cond, ◌||◌, ◌&&◌, refl, sym, ap, ◌∙◌, subst, arith, Ordering, length, take, drop, codes}
+use Rattle.std.proofs.Common.{◌≡◌, ◌≤◌, ◌-◌, ◌+◌, ℕ, List, [], ◌∷◌, ◌++◌, ◌⊎◌, inl, inr, Bool, true, false, ◌||◌, ◌&&◌, refl, sym, ap, ◌∙◌, subst, arith, Ordering, length, take, drop, codes}
 use Rattle.std.specs.Str.{bytes_eq}
 use Rattle.std.specs.Ordering.{nat_cmp, is_lt, ordering_reverse, ordering_then}
 use Rattle.std.specs.declared.cmp.Ordering.TheVariants.{Less, Equal, Greater}
 use Rattle.std.specs.Cmp.Lexicographic.{slice_cmp}
-use Rattle.std.proofs.Math.Seq.{take-append_seam, drop-append_seam, take-append-add, drop-append-add}
+use Rattle.std.proofs.Math.Seq.{take-append_seam, drop-append_seam, take-append-add}
 use Rattle.std.proofs.lemmas.List.{append_assoc, take-append-drop, length-append}
 use Rattle.std.proofs.lemmas.Cmp.{nat_cmp_total}
-use Rattle.std.proofs.lemmas.Bool.{cases_Bool, and_parts, true≢false}
+use Rattle.std.proofs.lemmas.Bool.{and_parts, true≢false}
 use Rattle.std.proofs.lemmas.Slice.Eq.{bytes_eq-Decides}
 use Rattle.wire_types.specs.Said.{begins_with}
 use Rattle.wire_portable.specs.Spelling.{times, HasItemTwice, HasWholeJobAndMore}
-use Rattle.wire_portable.specs.Numbering.{AreFrom, AreAscending, has_neighbours, holds, overlap}
-use Rattle.wire_portable.proofs.ItemOrder.{least, numbers_equal, same_here, same_if, times_here, times_more, times_there}
+use Rattle.wire_portable.specs.Numbering.{AreAscending, has_neighbours, holds, overlap}
+use Rattle.wire_portable.proofs.ItemOrder.{least, numbers_equal, same_if, times_here, times_more, times_there}
 
 -- an item is all processes of a job, and the other of that job, as words
 pub record IsOfWhole (whole item : List ℕ) : Type 0 where
