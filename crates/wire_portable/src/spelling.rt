@@ -9,7 +9,7 @@ use std::alloc::Global;
 use std::marker::Model;
 use wire_types::{CallAt, Fault};
 
-/// How a call of a fence spells its set: the number of its items in whatever order, and whether one stands there twice.
+/// How a call of a fence spells its set: the number of its items in whatever order, and whether it names one twice.
 #[derive(Clone, Copy, PartialEq, Eq)]
 pub struct Spelt {
     pub number: usize,
