@@ -4,7 +4,7 @@ use Rattle.std.proofs.lemmas.Bool.{true≢false}
 use Rattle.wire_portable.specs.declared.libraries.Libraries.{Libraries}
 use Rattle.wire_portable.specs.declared.libraries.Library.{Library}
 use Rattle.wire_portable.specs.declared.libraries.Library.TheVariants.{V4, V5, V7}
-use Rattle.wire_portable.specs.Libraries.{family_of, has, all, before_v7, only_v4, either}
+use Rattle.wire_portable.specs.Libraries.{family_of, has, all, only_v4, either}
 
 pub has_all : (library : Library) → has all library ≡ true
 has_all V4 = refl
@@ -15,12 +15,6 @@ pub not_all : (library : Library) → has all library ≡ false → ⊥
 not_all library h = true≢false (sym (has_all library) ∙ h)
 
 -- 4.2 is the one that is flaky, or answers at once
--- no other takes away all names
-pub has_star : (library : Library) → has before_v7 library ≡ false → (family_of library).star ≡ true
-has_star V4 h = absurd (true≢false h)
-has_star V5 h = absurd (true≢false h)
-has_star V7 h = refl
-
 pub not_flaky : (library : Library) → has only_v4 library ≡ false → (family_of library).flaky ≡ true → ⊥
 not_flaky V4 h f = true≢false h
 not_flaky V5 h f = true≢false (sym f)

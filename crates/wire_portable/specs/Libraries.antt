@@ -26,9 +26,6 @@ all = record { v4 = true; v5 = true; v7 = true }
 abbrev pub only_v4 : Libraries
 only_v4 = record { v4 = true; v5 = false; v7 = false }
 
-abbrev pub before_v7 : Libraries
-before_v7 = record { v4 = true; v5 = true; v7 = false }
-
 abbrev pub only_v5 : Libraries
 only_v5 = record { v4 = false; v5 = true; v7 = false }
 

@@ -44,9 +44,14 @@ sign_by library s rows call _ = None
 abbrev pub is_of_map : List ℕ → Bool
 is_of_map key = bytes_eq key (codes "PMIX_LOCAL_RANK") || (bytes_eq key (codes "PMIX_NODE_RANK") || bytes_eq key (codes "PMIX_HOSTNAME"))
 
--- keys that they don't tell by this name, or of which they may hold a value: the names of their own begin with `pmix`
+-- keys of which a library may hold a value of its own: their names begin with `pmix.`. It tells neither of these two of a
+-- process
+abbrev pub is_its_own : List ℕ → Bool
+is_its_own key = begins_with (codes "pmix.") key && not (bytes_eq key (codes "pmix.rank") || bytes_eq key (codes "pmix.job.size"))
+
+-- keys that a library doesn't answer as the plan says
 abbrev pub is_untold : List ℕ → Bool
-is_untold key = bytes_eq key (codes "PMIX_RANK") || (bytes_eq key (codes "PMIX_JOB_SIZE") || begins_with (codes "pmix") key)
+is_untold key = is_its_own key || (bytes_eq key (codes "PMIX_RANK") || bytes_eq key (codes "PMIX_JOB_SIZE"))
 
 -- whether libraries answer a call of p, if it is one of a reserved key, as the plan says
 abbrev pub told_call : Scripts → ℕ → Call → Bool

@@ -59,17 +59,6 @@ impl Libraries {
         }
     }
 
-    /// OpenPMIx 4.2 and 5.0.
-    pub(crate) fn before_v7() -> Libraries
-        ensures { result ≡ spec.before_v7 }
-    {
-        Libraries {
-            v4: true,
-            v5: true,
-            v7: false,
-        }
-    }
-
     /// OpenPMIx 5.0 alone.
     pub(crate) fn only_v5() -> Libraries
         ensures { result ≡ spec.only_v5 }

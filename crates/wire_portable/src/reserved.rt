@@ -27,13 +27,23 @@ fn is_of_map(key: &[u8]) -> bool
         || is_same_text(key, b"PMIX_HOSTNAME".as_slice())
 }
 
-/// Whether libraries don't tell a key by its name, or may hold a value of it: the names of their own begin with `pmix`.
+/// Whether a library may hold a value of its own of a key: their names begin with `pmix.`. It tells neither of these two
+/// of a process.
+fn is_its_own(key: &[u8]) -> bool
+    ensures { result ≡ spec.is_its_own key.now }
+{
+    key.starts_with(b"pmix.".as_slice())
+        && !(is_same_text(key, b"pmix.rank".as_slice())
+            || is_same_text(key, b"pmix.job.size".as_slice()))
+}
+
+/// Whether a library doesn't answer a key as the plan says.
 fn is_untold(key: &[u8]) -> bool
     ensures { result ≡ spec.is_untold key.now }
 {
-    is_same_text(key, b"PMIX_RANK".as_slice())
+    is_its_own(key)
+        || is_same_text(key, b"PMIX_RANK".as_slice())
         || is_same_text(key, b"PMIX_JOB_SIZE".as_slice())
-        || key.starts_with(b"pmix".as_slice())
 }
 
 /// Whether two processes are of one job.

@@ -339,7 +339,7 @@ impl Search<'_> {
         ensures { OnOk result (AddsUnportable found.old found.new (λ library. (family_of library).star ≡ true)) }
     {
         let plan = self.marked.plan();
-        found.blame(plan, event, Rule::UnpublishAll, Libraries::before_v7())
+        found.blame(plan, event, Rule::UnpublishAll, Libraries::all())
     }
 
     /// Adds what a get breaks, if it is of another process's key.
