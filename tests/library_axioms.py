@@ -19,6 +19,8 @@ STAR = b"*"
 HOST = b"PMIX_HOSTNAME"
 MAP = (b"PMIX_LOCAL_RANK", b"PMIX_NODE_RANK", HOST)
 UNTOLD = (b"PMIX_RANK", b"PMIX_JOB_SIZE")
+# The strings of these two, which no library tells of a rank; the others that begin so it may hold.
+RANK_KEYS = (b"pmix.rank", b"pmix.job.size")
 
 
 @dataclass(frozen=True)
@@ -56,7 +58,7 @@ class Library:
     def knows(self, facts: Facts, call: Event) -> bool:
         """Whether it answers a call of a reserved key or name as the plan says: of the map what it
         tells of ranks of the caller's job, PMIX_RANK and PMIX_JOB_SIZE aside; and a get-now of
-        another key that nobody puts, unless it begins with `pmix`: so do the library's own."""
+        another key that nobody puts, unless the library may hold it by itself."""
         verb, *words = facts.words(call)
         if verb not in (b"get", b"get-now"):
             return False
@@ -64,7 +66,7 @@ class Library:
         if key in MAP:
             is_told = self.tells_far or key == HOST or facts.is_near(owner, call.rank)
             return is_told and facts.job(owner) == facts.job(call.rank)
-        is_its_own = key.startswith(b"pmix") or key in UNTOLD
+        is_its_own = (key.startswith(b"pmix.") and key not in RANK_KEYS) or key in UNTOLD
         return verb == b"get-now" and not is_its_own and not facts.is_put(key)
 
 

@@ -382,8 +382,7 @@ class Conditions:
         by how often the name is published or taken away."""
         name = self.facts.words(call)[1]
         if [verb, name] == model.STAR:
-            if not self.family.star:
-                yield "unpublish-all"
+            yield "unpublish-all"
             return
         reply = model_runs.Run(self.plan).go().end(call)
         is_once = len(self.plan.publishes[name]) == 1 and not self.is_taken_away(name)

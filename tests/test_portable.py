@@ -123,8 +123,7 @@ class Examples(ProgramCase):
             self.assertEqual("portable 4.2,7.0", found[name], name)
         for name in ("ordered-get", "ring", "second-card", "service"):
             self.assertEqual("portable 5.0,7.0", found[name], name)
-        self.assertEqual("portable 7.0", found["closed-service"])
-        for name in ("kept-card", "foreign-fence", "process-map", "two-jobs"):
+        for name in ("closed-service", "kept-card", "foreign-fence", "process-map", "two-jobs"):
             self.assertEqual("portable none", found[name], name)
 
 

@@ -11,8 +11,9 @@ from rows.portable import ROWS, Told
 
 MOST_STATES = 20_000
 # The rows that blame a library which can't do otherwise by the axioms: these aren't meant for plans
-# that put a key again.
-NEEDLESS = {"rewrite": {"4.2", "5.0", "7.0"}}
+# that put a key again, and 7.0 takes away all names as the standard says.
+STAR = {"unpublish all": {"7.0"}, "unpublish all of nothing": {"7.0"}}
+NEEDLESS = {"rewrite": {"4.2", "5.0", "7.0"}, **STAR}
 
 
 def portable_in(row: Told) -> set[str]:

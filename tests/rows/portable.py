@@ -286,8 +286,8 @@ ROWS = [
     Told(
         "unpublish all",
         "rehearsal 2 / node n0 / job app / rank n0 / publish x 1 / unpublish *",
-        "unportable app:0 2 unpublish unpublish-all 4.2,5.0 / portable 7.0",
-        "unportable app:0 2 unpublish unpublish-all 4.2,5.0 / portable 7.0",
+        "unportable app:0 2 unpublish unpublish-all 4.2,5.0,7.0 / portable none",
+        "unportable app:0 2 unpublish unpublish-all 4.2,5.0,7.0 / portable none",
     ),
     Told(
         "reserved",
@@ -445,8 +445,8 @@ ROWS = [
     Told(
         "unpublish all of nothing",
         "rehearsal 2 / node n0 / job app / rank n0 / unpublish *",
-        "unportable app:0 1 unpublish unpublish-all 4.2,5.0 / portable 7.0",
-        "unportable app:0 1 unpublish unpublish-all 4.2,5.0 / portable 7.0",
+        "unportable app:0 1 unpublish unpublish-all 4.2,5.0,7.0 / portable none",
+        "unportable app:0 1 unpublish unpublish-all 4.2,5.0,7.0 / portable none",
     ),
     Told(
         "whole job and a rank of it",
@@ -465,7 +465,7 @@ ROWS = [
     Told(
         "key of the library's own",
         "rehearsal 1 / node n0 / job app / rank n0 / get-now app:1 pmix.appnum / get-now app:1 "
-        "PMIX_APPNUM / rank n0",
+        "PMIX_APPNUM / get-now app:1 pmix.rank / get-now app:1 pmix / rank n0",
         "unportable app:0 1 get-now reserved 4.2,5.0,7.0 / portable none",
         "unportable app:0 1 get-now reserved 4.2,5.0,7.0 / portable none",
     ),
