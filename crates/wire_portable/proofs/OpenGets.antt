@@ -1,15 +1,21 @@
 -- The gets that come to be made, as the events are looked at one after the other.
-use Rattle.std.proofs.Common.{◌≡◌, ◌≢◌, ◌∙◌, ap, sym, subst, ℕ, suc, ◌≤◌, [], ◌∷◌, ◌++◌, Bool, Some, false, arith, inl, inr, eqb-true}
+use Rattle.std.proofs.Common.{◌≡◌, ◌≢◌, ◌∙◌, ap, sym, subst, ℕ, suc, ◌<◌, ◌≤◌, [], ◌∷◌, ◌++◌, Bool, Some, None, true, false, arith, inl, inr, eqb-true}
+use Rattle.std.specs.Prelude.{slice_get, cond}
+use Rattle.std.specs.HashMap.{get}
 use Rattle.std.proofs.lemmas.Bool.{cases_eq, cases_Bool, and_parts}
 use Rattle.std.proofs.lemmas.Option.{same_Some}
 use Rattle.std.specs.Map.{lookup}
 use Rattle.wire_runs.specs.Plan.{Plan, Event, Kind, Get, kind, kind_at, event_count, process_count}
+use Rattle.wire_runs.specs.Puts.{stored}
+use Rattle.wire_runs.specs.Order.{Stores}
 use Rattle.wire_runs.specs.EventLists.{AreAll}
+use Rattle.wire_runs.proofs.Lists.{slice_get_push_cases, not_in_empty}
 use Rattle.wire_runs.proofs.Basics.{event_within, process_within}
 use Rattle.wire_plan.proofs.Grown.{place, Earlier, none_yet, one_more, one_other, whole_process, whole_plan}
 use Rattle.wire_library_laws.specs.Portable.{IsAsked}
 use Rattle.wire_portable.specs.declared.gets.GetTable.{GetTable}
-use Rattle.wire_portable.specs.Gets.{place_in, IsOpenGet, is_same, events_in, gets_under, AreGetsTo, AreGetLists}
+use Rattle.wire_portable.specs.Gets.{place_in, IsOpenGet, is_same, events_in, gets_under, number_or_all, first_under, AreGetsTo, AreGetLists, AreUnread, AreFirst}
+use Rattle.wire_portable.proofs.Keys.{missing_before}
 
 abbrev pub IsOther : ℕ × ℕ → ℕ × ℕ → Type 0
 IsOther a b = a ≢ b
@@ -31,6 +37,10 @@ empty_under table none asked = ap (λ es. events_in (lookup (is_same asked) es))
 abbrev owner_of : Kind → ℕ
 owner_of (Get owner key) = owner
 owner_of _ = 0
+
+abbrev key_of : Kind → ℕ
+key_of (Get owner key) = key
+key_of _ = 0
 
 module _ (together : Bool) (plan : Plan) where
   -- a get stands last in its list
@@ -78,3 +88,71 @@ module _ (together : Bool) (plan : Plan) where
   -- an empty table
   pub none_added : (table : GetTable) → ((asked : ℕ × ℕ) → gets_under table asked ≡ []) → AreGetsTo together plan 0 0 table
   none_added table none = λ p n. subst (AreAll (Earlier (IsOpenGet together plan p n) 0 0)) (sym (none (p, n))) (none_yet (IsOpenGet together plan p n))
+
+-- a list with one more get, of a key that isn't there before it either
+pub still_first : (plan : Plan) (p n key : ℕ) (z : Event) (old lower new : GetTable) → kind plan z ≡ Some (Get p key) → stored plan p key (first_under lower (p, n)) ≡ None →
+    ((other : ℕ × ℕ) → first_under lower other ≤ first_under old other) → lower.lists ≡ old.lists → new.firsts ≡ lower.firsts →
+    gets_under new (p, n) ≡ gets_under lower (p, n) ++ z ∷ [] → ((other : ℕ × ℕ) → (p, n) ≢ other → gets_under new other ≡ gets_under lower other) →
+    AreFirst plan old → AreFirst plan new
+still_first plan p n key z old lower new is none less same firsts here others are = λ o m. elim (cases_eq p o) [
+  | inr ne ↦ other o m (λ e. ne (ap (λ (t : ℕ × ℕ). t.0) e))
+  | inl a ↦ elim (cases_eq n m) [
+    | inr ne ↦ other o m (λ e. ne (ap (λ (t : ℕ × ℕ). t.1) e))
+    | inl b ↦ subst (λ (t : ℕ × ℕ). AreUnread plan t.0 (first_under new (t.0, t.1)) (gets_under new (t.0, t.1))) (λ t. (a t, b t)) mine
+  ]
+]
+  where
+    same_lists : (o m : ℕ) → gets_under lower (o, m) ≡ gets_under old (o, m)
+    same_lists o m = ap (λ lists. events_in (get is_same lists (o, m))) same
+
+    same_first : (o m : ℕ) → first_under new (o, m) ≡ first_under lower (o, m)
+    same_first o m = ap (λ table. number_or_all (get is_same table (o, m))) firsts
+
+    earlier : (o m : ℕ) → AreUnread plan o (first_under new (o, m)) (gets_under lower (o, m))
+    earlier o m k h other_key at its = missing_before plan o other_key (first_under new (o, m)) (first_under old (o, m))
+        (let le = less (o, m) in let e = same_first o m in omega (arith, le, e)) (are o m k h other_key (subst (λ hs. slice_get hs k ≡ Some h) (same_lists o m) at) its)
+
+    other : (o m : ℕ) → IsOther (p, n) (o, m) → AreUnread plan o (first_under new (o, m)) (gets_under new (o, m))
+    other o m ne = subst (AreUnread plan o (first_under new (o, m))) (sym (others (o, m) ne)) (earlier o m)
+
+    its_key : (other_key : ℕ) → kind plan z ≡ Some (Get p other_key) → stored plan p other_key (first_under new (p, n)) ≡ None
+    its_key other_key its = subst (λ f. stored plan p other_key f ≡ None) (sym (same_first p n))
+        (subst (λ k. stored plan p k (first_under lower (p, n)) ≡ None) (ap key_of (same_Some _ _ (sym is ∙ its))) none)
+
+    mine : AreUnread plan p (first_under new (p, n)) (gets_under new (p, n))
+    mine = subst (AreUnread plan p (first_under new (p, n))) (sym here) (λ k h other_key at its. elim (slice_get_push_cases (gets_under lower (p, n)) z k h at) [
+      | inl low ↦ earlier p n k h other_key low its
+      | inr e ↦ its_key other_key (subst (λ y. kind plan y ≡ Some (Get p other_key)) (sym e.1) its)
+    ])
+
+-- no get is listed in an empty table
+pub none_first : (plan : Plan) (table : GetTable) → ((asked : ℕ × ℕ) → gets_under table asked ≡ []) → AreFirst plan table
+none_first plan table none p n = subst (AreUnread plan p (first_under table (p, n))) (sym (none (p, n))) (λ k z key at is. absurd (not_in_empty k z at))
+
+same_place : (a b : ℕ × ℕ) → is_same a b ≡ true → a ≡ b
+same_place a b t =
+    (let p = and_parts _ _ t in
+    let e = eqb-true _ _ p.0 in
+    let f = eqb-true _ _ p.1 in
+    λ i. (e i, f i))
+
+-- the number of a list is lowered, and others aren't raised
+pub lowered : (listed other : ℕ × ℕ) (at : ℕ) (old new : GetTable) → at < first_under old listed →
+    ((q : ℕ × ℕ) → get is_same new.firsts q ≡ cond (is_same listed q) (Some at) (get is_same old.firsts q)) → first_under new other ≤ first_under old other
+lowered listed other at old new lt updates = elim (cases_Bool (is_same listed other)) [
+  | inl t ↦
+      (let e : first_under new other ≡ at = ap number_or_all (updates other ∙ ap (λ b. cond b (Some at) (get is_same old.firsts other)) t) in
+      let s : first_under old listed ≡ first_under old other = ap (first_under old) (same_place listed other t) in
+      omega (arith, e, s, lt))
+  | inr f ↦
+      (let e : first_under new other ≡ first_under old other = ap number_or_all (updates other ∙ ap (λ b. cond b (Some at) (get is_same old.firsts other)) f) in
+      omega (arith, e))
+]
+
+-- a table with the same lists
+pub gets_kept : (together : Bool) (plan : Plan) (q i : ℕ) (old new : GetTable) → new.lists ≡ old.lists → AreGetsTo together plan q i old → AreGetsTo together plan q i new
+gets_kept together plan q i old new same are = λ p n. subst (AreAll (Earlier (IsOpenGet together plan p n) q i)) (sym (ap (λ lists. events_in (get is_same lists (p, n))) same)) (are p n)
+
+-- a key isn't there before the commit that stores it
+pub unread_below : (plan : Plan) (p key n : ℕ) (x : Event) → x.proc ≡ p → Stores plan x key → n ≤ x.at → stored plan p key n ≡ None
+unread_below plan p key n x its stores le = missing_before plan p key n x.at le (subst (λ q. stored plan q key x.at ≡ None) its stores.nothing_before)

@@ -37,3 +37,9 @@ of_either V7 s t h = or_false s.v7 t.v7 h
 pub not_false : (b : Bool) → not b ≡ false → b ≡ true
 not_false true h = refl
 not_false false h = absurd (true≢false h)
+
+-- what isn't of a set that has 4.2 isn't 4.2
+pub not_v4 : (library : Library) (found : Libraries) → found.v4 ≡ true → has found library ≡ false → has only_v4 library ≡ false
+not_v4 V4 found t f = absurd (true≢false (sym t ∙ f))
+not_v4 V5 found t f = refl
+not_v4 V7 found t f = refl

@@ -1,5 +1,5 @@
 -- Gets that share a request.
-use Rattle.std.proofs.Common.{◌≡◌, ◌∙◌, ℕ, suc, ◌+◌, ◌-◌, ◌<◌, ◌≤◌, inl, inr, List, Some, None, map, take, drop, length, refl, sym, ap, subst, arith}
+use Rattle.std.proofs.Common.{◌≡◌, ◌∙◌, ℕ, suc, ◌+◌, ◌-◌, ◌<◌, ◌≤◌, inl, inr, List, Some, None, false, map, take, drop, length, refl, sym, ap, subst, arith}
 use Rattle.std.specs.Prelude.{slice_get}
 use Rattle.std.proofs.lemmas.Bool.{cases_eq, cases_lt}
 use Rattle.std.proofs.lemmas.Option.{same_Some, slice_get_within}
@@ -11,10 +11,14 @@ use Rattle.wire_runs.proofs.Histories.{before_live, same_process, joined}
 use Rattle.wire_fates.specs.Deliveries.{AreOfOne}
 use Rattle.wire_library_laws.specs.Library.{Family}
 use Rattle.wire_library_laws.specs.Portable.{IsRightBefore, EndsFirst, IsAsked, Lacks}
+use Rattle.wire_portable.specs.declared.libraries.Library.{Library}
+use Rattle.wire_portable.specs.Libraries.{family_of, has, only_v4}
+use Rattle.wire_portable.specs.Commits.{IsLastOf}
+use Rattle.wire_portable.specs.Gets.{AreUnread}
 use Rattle.wire_portable.specs.Judging.{IsFineMate, AreFineMates}
 use Rattle.wire_portable.specs.Sharing.{AreAskedGets, AreTurns, IsApart}
-use Rattle.wire_portable.proofs.Keys.{never_there}
-use Rattle.wire_portable.proofs.Waits.{mate_ends_other, mate_ends_one, mate_after, store_later}
+use Rattle.wire_portable.proofs.Keys.{never_there, missing_before}
+use Rattle.wire_portable.proofs.Waits.{mate_ends_other, mate_ends_one, mate_after, mate_later, store_later}
 use Rattle.wire_portable.proofs.Parts.{behind_in, behind_at, part_within, part_in, part_at}
 
 abbrev owner_of : Kind → ℕ
@@ -182,3 +186,11 @@ module _ (plan : Plan) (mate : Event) (p key q other n : ℕ) (is : kind plan ma
 
   pub key_never : ((x : Event) → x.proc ≡ q → Stores plan x other → ⊥) → stored plan p key (suc n) ≡ None
   key_never never = never_there plan p key (λ x its stores. never x (its ∙ sym same_owner) (subst (Stores plan x) (sym same_key) stores)) (suc n)
+
+-- where none of the keys that gets read is there at the last commit that lacks a get's, 4.2 alone answers it by them
+pub later_fine : (plan : Plan) (p key : ℕ) (g : Event) (library : Library) (hs : List Event) (e : CodeEvent) (first : ℕ) → has only_v4 library ≡ false →
+    IsLastOf (Lacks plan p key) (Some e) → e.at < first → AreUnread plan p first hs → AreFineMates (family_of library) plan p key g hs
+later_fine plan p key g library hs e first not last lt unread k h at = mate_later plan p key g library h e not last (λ q other its same.
+    let mine : q ≡ p = sym same ∙ last.0.its in
+    subst (λ r. stored plan r other (suc e.at) ≡ None) (sym mine)
+    (missing_before plan p other (suc e.at) first lt (unread k h other at (subst (λ r. kind plan h ≡ Some (Get r other)) mine its))))

@@ -1,9 +1,10 @@
 -- The gets that come to be made, listed by the owner of the key and the place of the reader: for the contracts of private
 -- functions.
-use Rattle.std.specs.Prelude.{◌≡◌, ◌≢◌, ℕ, List, [], Bool, ◌&&◌, ◌==◌, Option, Some, None, Vec, map, if◌then◌else◌}
+use Rattle.std.specs.Prelude.{◌≡◌, ◌≢◌, ◌-◌, ◌^◌, ℕ, List, [], Bool, ◌&&◌, ◌==◌, Option, Some, None, Vec, map, slice_get, if◌then◌else◌}
 use Rattle.std.specs.declared.alloc.Global.{Global}
 use Rattle.std.specs.HashMap.{get}
 use Rattle.wire_runs.specs.Plan.{Plan, Event, Get, kind, node_of, event_of}
+use Rattle.wire_runs.specs.Puts.{stored}
 use Rattle.wire_runs.specs.EventLists.{IsLower, AreAll}
 use Rattle.wire_types.specs.declared.Event.{Event as CodeEvent}
 use Rattle.wire_library_laws.specs.Portable.{IsAsked}
@@ -44,3 +45,19 @@ AreGetLists together plan table = (p n : ℕ) → AreOpenGets together plan p n 
 abbrev pub AreGetsTo : Bool → Plan → ℕ → ℕ → GetTable → Type 0
 AreGetsTo together plan q i table =
     (p n : ℕ) → AreAll (λ z. IsOpenGet together plan p n z × IsLower z (record { proc = q; at = i })) (gets_under table (p, n))
+
+-- up to the owner's event of this number none of the keys is there that a list's gets read; any number, where there is no get
+abbrev pub number_or_all : Option ℕ → ℕ
+number_or_all None = 2 ^ 32 - 1
+number_or_all (Some n) = n
+
+abbrev pub first_under : GetTable → ℕ × ℕ → ℕ
+first_under table asked = number_or_all (get is_same table.firsts asked)
+
+-- none of p's keys that these read is there before its n-th event
+abbrev pub AreUnread : Plan → ℕ → ℕ → List Event → Type 0
+AreUnread plan p n places = (k : ℕ) (z : Event) (key : ℕ) → slice_get places k ≡ Some z → kind plan z ≡ Some (Get p key) → stored plan p key n ≡ None
+
+-- so it is of each list
+abbrev pub AreFirst : Plan → GetTable → Type 0
+AreFirst plan table = (p n : ℕ) → AreUnread plan p (first_under table (p, n)) (gets_under table (p, n))

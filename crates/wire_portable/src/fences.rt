@@ -11,6 +11,7 @@ ghost use Rattle.wire_fates.specs.Deliveries.{Arrives};
 ghost use Rattle.wire_portable.specs.declared.libraries.Library.{Library as L};
 ghost use Rattle.wire_portable.specs.Adding.{AddsUnportable};
 ghost use Rattle.wire_portable.specs.Libraries.{has};
+ghost use Rattle.wire_portable.specs.Unportable.{IsUnblamed};
 ghost use Rattle.wire_portable.specs.Words.{is_one_job as is_of_one, takes};
 ghost use Rattle.wire_portable.specs.Fences.{AreEventsOfPlan, IsFirstSpelt, IsPlainArrival, IsPlainCall, NamesNobodyTwice, KeepsFenceRules, TellsJobs};
 ghost use Rattle.wire_portable.specs.Fences as spec;
@@ -381,6 +382,14 @@ fn add_first(
     found.blame(plan, first, Rule::FenceSpelling, apart)
 }
 
+/// Adds that a call doesn't spell its set as the first live call over it does.
+fn add_apart(plan: &Plan, found: &mut UnportableList, arrival: Event) -> Result<(), AllocError>
+    requires { arrival.at < event_count (plan_of plan.now) arrival.proc.number }
+    ensures { OnOk result ((library : L) → IsUnblamed library found.new → ⊥) }
+{
+    found.blame(plan, arrival, Rule::FenceSpelling, Libraries::all())
+}
+
 /// Adds what a call of a fence breaks.
 fn add_call(
     plan: &Plan,
@@ -399,6 +408,9 @@ fn add_call(
     let _ = plan.scripts();
     let arrivals = all_arrivals(plan, call.arrival);
     let number = number_at(plan, spelling, call.arrival);
+    if !are_same(number, sets.spelt_first(call.set)) {
+        return add_apart(plan, found, call.arrival);
+    }
     match first_spelt(plan, spelling, arrivals, number) {
         Some(first) => add_first(plan, spelling, sets, found, Compared { call, first }),
         None => found.blame(plan, call.arrival, Rule::FenceCollect, Libraries::all()),

@@ -1,6 +1,6 @@
 //! Gets that share a request.
 
-ghost use Rattle.std.specs.Prelude.{◌≡◌, ◌<◌, ◌≤◌, ℕ, suc, Some, None, false, map, length, slice_get, IsTrue};
+ghost use Rattle.std.specs.Prelude.{◌≡◌, ◌<◌, ◌≤◌, ℕ, suc, Some, None, false, true, map, length, slice_get, IsTrue};
 ghost use Rattle.wire_runs.specs.Plan.{Get, event_of, event_count, kind};
 ghost use Rattle.wire_runs.specs.Puts.{stored};
 ghost use Rattle.wire_runs.specs.Plan as runs;
@@ -9,6 +9,7 @@ ghost use Rattle.wire_library_laws.specs.Portable.{EndsFirst, IsAsked, Lacks};
 ghost use Rattle.wire_portable.specs.declared.libraries.Library.{Library as L};
 ghost use Rattle.wire_portable.specs.Commits.{IsLastOf};
 ghost use Rattle.wire_portable.specs.Libraries.{family_of, has, only_v4};
+ghost use Rattle.wire_portable.specs.Gets.{AreUnread};
 ghost use Rattle.wire_portable.specs.Judging.{AreFineMates};
 ghost use Rattle.wire_portable.specs.Sharing.{AreAskedGets, AreTurns, IsApart};
 
@@ -120,9 +121,26 @@ fn with_process(
     Libraries::only_v4()
 }
 
-/// The libraries on which a get may get the answer of one of these, in process order, which lacks its key.
-pub(crate) fn mates(judge: &Judge<'_>, gets: &[Event], get: Event, asked: Key) -> Libraries
+/// Whether 4.2 is among the libraries that are found, and no other can be: no key that is read is there at the last
+/// commit that lacks a get's.
+fn is_told(found: Libraries, lacking: Event, first: u32) -> bool
+    ensures { IsTrue result → (found.v4 ≡ true) × (lacking.at < first) }
+{
+    found.v4 && lacking.at < first
+}
+
+/// The libraries on which a get may get the answer of one of these, in process order, which lacks its key. `first` says
+/// up to which event of the owner none of the keys is there that these read: so where the last commit that lacks the
+/// get's key is before it, 4.2 alone can be blamed, and the first such get tells it.
+pub(crate) fn mates(
+    judge: &Judge<'_>,
+    gets: &[Event],
+    first: u32,
+    get: Event,
+    asked: Key,
+) -> Libraries
     requires gets { AreAskedGets (plan_of judge.now) asked.owner.number (map event_of gets.now) }
+    requires first { AreUnread (plan_of judge.now) asked.owner.number first (map event_of gets.now) }
     requires asked { IsAsked (plan_of judge.now) (event_of get) }
     ensures { (library : L) → has result library ≡ false →
         AreFineMates (family_of library) (plan_of judge.now) asked.owner.number asked.key (event_of get) (map event_of gets.now) }
@@ -137,6 +155,9 @@ pub(crate) fn mates(judge: &Judge<'_>, gets: &[Event], get: Event, asked: Key) -
         let row = &gets[place..end];
         found = found.or(with_process(judge, row, get, asked, lacking));
         if found.is_all() {
+            return found;
+        }
+        if is_told(found, lacking, first) {
             return found;
         }
         place = end;

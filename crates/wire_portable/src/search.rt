@@ -1,13 +1,13 @@
 //! The search for calls by which a plan isn't portable.
 
-ghost use Rattle.std.specs.Prelude.{◌≡◌, ◌≢◌, ◌<◌, ℕ, true, false, Some, MatchOption, OnOk, IfOk, IsOkUnless, map};
+ghost use Rattle.std.specs.Prelude.{◌≡◌, ◌≢◌, ◌<◌, ℕ, List, true, false, Some, MatchOption, OnOk, IfOk, IsOkUnless, map};
 ghost use Rattle.wire_scripts.specs.Planned.{plan_of};
 ghost use Rattle.wire_types.specs.declared.Scope.{Scope};
 ghost use Rattle.wire_runs.specs.Plan as runs;
 ghost use Rattle.wire_runs.specs.Plan.{Get, GetNow, Publish, Put, Unpublish, kind, event_count, event_of, process_count, same_node};
 ghost use Rattle.wire_runs.specs.Races.{IsRewrite, IsSettled};
 ghost use Rattle.wire_library_laws.specs.Portable.{IsAsked};
-ghost use Rattle.wire_portable.specs.Gets.{place_in, AreGetLists, AreOpenGets};
+ghost use Rattle.wire_portable.specs.Gets.{place_in, AreGetLists, AreOpenGets, AreFirst, AreUnread};
 ghost use Rattle.wire_portable.specs.declared.libraries.Library.{Library as L};
 ghost use Rattle.wire_portable.specs.Adding.{AddsUnportable};
 ghost use Rattle.wire_portable.specs.Judging.{IsNoRewrite};
@@ -60,7 +60,7 @@ impl<'a> Model for Search<'a> {
     ghost use Rattle.wire_runs.specs.Plan.{event_of};
     ghost use Rattle.wire_runs.specs.Races.{IsSettled};
     ghost use Rattle.wire_portable.specs.Fences.{TellsJobs};
-    ghost use Rattle.wire_portable.specs.Gets.{AreGetLists};
+    ghost use Rattle.wire_portable.specs.Gets.{AreGetLists, AreFirst};
     ghost use Rattle.wire_portable.specs.Named.{AreNever};
     ghost use Rattle.wire_portable.specs.Searched.{Searched};
 
@@ -69,7 +69,7 @@ impl<'a> Model for Search<'a> {
     ghost view = { λ s. record { scripts = s.marked.now; rows = s.spelling.now; sets = s.sets.now; anywhere = s.anywhere } };
 
     ghost invariant = { λ s. (s.judge.now ≡ s.marked.now)
-        × MatchOption s.gets (Unit {0}) (λ g. (g.now.together ≡ s.anywhere) × AreGetLists s.anywhere (plan_of s.marked.now) g.now)
+        × MatchOption s.gets (Unit {0}) (λ g. (g.now.together ≡ s.anywhere) × AreGetLists s.anywhere (plan_of s.marked.now) g.now × AreFirst (plan_of s.marked.now) g.now)
         × IsSound s.marked.now
         × TellsJobs s.marked.now s.sets.now
         × (s.settled ≡ true → IsSettled (plan_of s.marked.now))
@@ -143,6 +143,18 @@ impl Search<'_> {
         }
     }
 
+    /// How many events of the owner bring none of the keys that those gets read.
+    fn first_beside(&self, owner: Proc, proc: Proc) -> u32
+        requires { proc.number < process_count (plan_in self.now) }
+        ensures { (places : List runs.Event) → AreOpenGets self.now.anywhere (plan_in self.now) owner.number
+            (place_in self.now.anywhere (plan_in self.now) proc.number) places → AreUnread (plan_in self.now) owner.number result places }
+    {
+        match self.gets {
+            Some(table) => table.first_beside(self.marked, owner, proc),
+            None => 0,
+        }
+    }
+
     /// The libraries on which a get may get the answer of another one of its node, which lacks its key.
     fn with_mates(&self, get: Event, asked: Key) -> Libraries
         requires is { kind (plan_in self.now) (event_of get) ≡ Some (Get asked.owner.number asked.key) }
@@ -153,8 +165,9 @@ impl Search<'_> {
         let Some(_) = self.judge.last_lacking(asked) else {
             return Libraries::none();
         };
+        let first = self.first_beside(asked.owner, get.proc);
         match self.beside(asked.owner, get.proc) {
-            Some(gets) => mates(self.judge, gets, get, asked),
+            Some(gets) => mates(self.judge, gets, first, get, asked),
             None => Libraries::all(),
         }
     }
@@ -486,7 +499,8 @@ fn gets_of(
     marked: &MarkedPlan<'_>,
     anywhere: bool,
 ) -> Result<Option<GetTable>, AllocError>
-    ensures { IfOk result (λ gets. MatchOption gets (Unit {0}) (λ g. (g.together ≡ anywhere) × AreGetLists anywhere (plan_of marked.now) g)) }
+    ensures { IfOk result (λ gets. MatchOption gets (Unit {0}) (λ g. (g.together ≡ anywhere)
+        × AreGetLists anywhere (plan_of marked.now) g × AreFirst (plan_of marked.now) g)) }
 {
     if !asks_for_gets(judge) {
         return Ok(None);

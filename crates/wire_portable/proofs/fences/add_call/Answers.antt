@@ -38,6 +38,12 @@ add_first-requires-clause-arrives c = arrives c.args.plan.now c.scripts.ensures.
 pub blame-requires : goal.blame-requires
 blame-requires c = event_within (plan_of c.args.plan.now) c.args.call.arrival.proc.number c.args.call.arrival.at _ c.requires.is
 
+pub add_apart-requires : goal.add_apart-requires
+add_apart-requires c = event_within (plan_of c.args.plan.now) c.args.call.arrival.proc.number c.args.call.arrival.at _ c.requires.is
+
+pub returns-then-not-are_same : goal.returns-then-not-are_same
+returns-then-not-are_same c = on_ok_weaker c.add_apart.result (λ never library free. absurd (never library free)) c.add_apart.ensures
+
 pub returns-in-Some : goal.returns-in-Some
 returns-in-Some c =
     let s = c.args.plan.now in

@@ -3,8 +3,8 @@ use Rattle.std.proofs.lemmas.List.{length-map}
 use Rattle.wire_runs.specs.Plan.{event_of}
 use Rattle.wire_scripts.specs.Planned.{plan_of}
 use Rattle.wire_portable.specs.Libraries.{family_of, has}
-use Rattle.wire_portable.proofs.Sets.{of_either}
-use Rattle.wire_portable.proofs.Sharing.{none_lacking, part_fine, turns_between, all_fine}
+use Rattle.wire_portable.proofs.Sets.{of_either, not_v4}
+use Rattle.wire_portable.proofs.Sharing.{none_lacking, part_fine, turns_between, all_fine, later_fine}
 use Rattle.wire_portable.proofs.mates.mates.Goals as goal
 
 pub returns-in_default : goal.returns-in_default
@@ -24,6 +24,12 @@ processes-preserved c = λ library free.
     let after = c.process_end-end.ensures.after in
     part_fine (plan_of c.args.judge.now) c.args.asked.owner.number c.args.asked.key (event_of c.args.get) (family_of library) c.args.gets.now c.processes.place c.process_end-end.result
     (omega (arith, after)) (c.processes.invariant library both.0) (c.with_process.ensures library both.1)
+
+pub returns-then-is_told : goal.returns-then-is_told
+returns-then-is_told c = λ library free.
+    let told = c.is_told.ensures c.if-is_told.true in
+    later_fine (plan_of c.args.judge.now) c.args.asked.owner.number c.args.asked.key (event_of c.args.get) library (map event_of c.args.gets.now) c.in-Some.lacking c.args.first
+    (not_v4 library c.or-found.result told.0 free) c.in-Some.ensures told.1 c.requires.first
 
 pub returns : goal.returns
 returns c = λ library free.

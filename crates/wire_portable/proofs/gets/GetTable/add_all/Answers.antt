@@ -20,4 +20,5 @@ loop-number-preserved c = (
       c.loop-number.invariant.1 c.in_ok-add_process.ensures.added in
       subst (λ p. AreGetsTo c.args.self.now.together (plan_of c.args.marked.now) p 0 c.add_process.new.self) next (told (c.loop-number.invariant.0 start))),
   c.in_ok-add_process.ensures.kept ∙ c.loop-number.invariant.1,
+  (λ start. c.in_ok-add_process.ensures.firsts (c.loop-number.invariant.2 start)),
 )

@@ -8,7 +8,7 @@ use Rattle.wire_portable.proofs.OpenGets.{nothing_added, own_get}
 use Rattle.wire_portable.proofs.gets.GetTable.add_event.Goals as goal
 
 pub add_get-requires-clause-is : goal.add_get-requires-clause-is
-add_get-requires-clause-is c = (_, (rw c.plan.ensures at c.kind.ensures) ∙ ap (λ k. Some (kind_of c.args.marked.now.sets k)) c.in-Get.is)
+add_get-requires-clause-is c = (rw c.plan.ensures at c.kind.ensures) ∙ ap (λ k. Some (kind_of c.args.marked.now.sets k)) c.in-Get.is
 
 pub returns-else-owner-event-clause-added : goal.returns-else-owner-event-clause-added
 returns-else-owner-event-clause-added c =

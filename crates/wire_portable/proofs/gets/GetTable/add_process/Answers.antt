@@ -20,4 +20,5 @@ loop-at-preserved c = (
       c.loop-at.invariant.1 c.in_ok-add_event.ensures.added in
       subst (λ i. AreGetsTo c.args.self.now.together (plan_of c.args.marked.now) c.args.proc.number i c.add_event.new.self) next (told (c.loop-at.invariant.0 start))),
   c.in_ok-add_event.ensures.kept ∙ c.loop-at.invariant.1,
+  (λ start. c.in_ok-add_event.ensures.firsts (c.loop-at.invariant.2 start)),
 )

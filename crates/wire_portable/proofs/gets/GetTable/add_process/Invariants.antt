@@ -1,9 +1,10 @@
 use Rattle.std.proofs.Common.{◌≡◌}
 use Rattle.wire_scripts.specs.Planned.{plan_of}
-use Rattle.wire_portable.specs.Gets.{AreGetsTo}
+use Rattle.wire_portable.specs.Gets.{AreGetsTo, AreFirst}
 use Rattle.wire_portable.proofs.gets.GetTable.add_process.Given as goal
 
 abbrev pub invariant-loop-at : goal.invariant-loop-at
 invariant-loop-at l =
     (AreGetsTo l.fn.self.together (plan_of l.marked) l.proc.number 0 l.fn.self → AreGetsTo l.fn.self.together (plan_of l.marked) l.proc.number l.at l.self)
     × (l.self.together ≡ l.fn.self.together)
+    × (AreFirst (plan_of l.marked) l.fn.self → AreFirst (plan_of l.marked) l.self)

@@ -2,13 +2,13 @@ use Rattle.std.proofs.Common.{◌≡◌, ◌<◌, ◌∙◌, ap, sym, subst, map
 use Rattle.std.specs.Prelude.{MatchOption}
 use Rattle.wire_runs.specs.Plan.{event_of, process_count}
 use Rattle.wire_scripts.specs.Planned.{plan_of}
-use Rattle.wire_portable.specs.Gets.{place_in, AreGetLists, AreOpenGets}
+use Rattle.wire_portable.specs.Gets.{place_in, AreGetLists, AreOpenGets, AreFirst}
 use Rattle.wire_portable.specs.Searched.{Searched}
 use Rattle.wire_portable.proofs.search.Search.beside.Goals as goal
 
 pub beside-requires-clause-lists : goal.beside-requires-clause-lists
 beside-requires-clause-lists c =
-    let held = subst (λ o. MatchOption o (Unit {0}) (λ g. (g.now.together ≡ c.self.inside.anywhere) × AreGetLists c.self.inside.anywhere (plan_of c.self.inside.marked.now) g.now)) c.in-Some.is c.self.invariant.1 in
+    let held = subst (λ o. MatchOption o (Unit {0}) (λ g. (g.now.together ≡ c.self.inside.anywhere) × AreGetLists c.self.inside.anywhere (plan_of c.self.inside.marked.now) g.now × AreFirst (plan_of c.self.inside.marked.now) g.now)) c.in-Some.is c.self.invariant.1 in
     subst (λ b. AreGetLists b (plan_of c.self.inside.marked.now) c.in-Some.table.now) (sym held.0) held.1
 
 pub beside-requires-clause-there : goal.beside-requires-clause-there
@@ -16,7 +16,7 @@ beside-requires-clause-there c = subst (λ s. c.args.proc.number < process_count
 
 pub returns-in-Some : goal.returns-in-Some
 returns-in-Some c =
-    let held = subst (λ o. MatchOption o (Unit {0}) (λ g. (g.now.together ≡ c.self.inside.anywhere) × AreGetLists c.self.inside.anywhere (plan_of c.self.inside.marked.now) g.now)) c.in-Some.is c.self.invariant.1 in
+    let held = subst (λ o. MatchOption o (Unit {0}) (λ g. (g.now.together ≡ c.self.inside.anywhere) × AreGetLists c.self.inside.anywhere (plan_of c.self.inside.marked.now) g.now × AreFirst (plan_of c.self.inside.marked.now) g.now)) c.in-Some.is c.self.invariant.1 in
     let p = c.args.owner.number in
     let q = c.args.proc.number in
     let places = map event_of c.beside.result.now in

@@ -3,7 +3,7 @@ use Rattle.wire_runs.specs.Plan.{Event, event_of}
 use Rattle.wire_runs.proofs.Basics.{process_within}
 use Rattle.wire_scripts.specs.Planned.{plan_of}
 use Rattle.wire_library_laws.specs.Portable.{IsAsked, Lacks}
-use Rattle.wire_portable.specs.Gets.{place_in}
+use Rattle.wire_portable.specs.Gets.{place_in, AreUnread}
 use Rattle.wire_portable.specs.Libraries.{family_of}
 use Rattle.wire_portable.specs.Judging.{AreFineMates}
 use Rattle.wire_portable.specs.Searched.{plan_in}
@@ -23,6 +23,15 @@ mates-requires-clause-gets c =
     let places = map event_of c.in-Some-beside.gets.now in
     subst (λ s. AreAskedGets (plan_of s) c.args.asked.owner.number places) (sym (c.self.invariant.0 ∙ ap (λ v. v.scripts) c.self.view_is))
     (asked_gets anywhere plan c.args.asked.owner.number (place_in anywhere plan c.args.get.proc.number) places (rw c.in-Some-beside.is at c.beside.ensures))
+
+pub first_beside-first-requires : goal.first_beside-first-requires
+first_beside-first-requires c = process_within (plan_in c.args.self.now) c.args.get.proc.number c.args.get.at _ c.requires.is
+
+pub mates-requires-clause-first : goal.mates-requires-clause-first
+mates-requires-clause-first c =
+    let places = map event_of c.in-Some-beside.gets.now in
+    subst (λ s. AreUnread (plan_of s) c.args.asked.owner.number c.first_beside-first.result places) (sym (c.self.invariant.0 ∙ ap (λ v. v.scripts) c.self.view_is))
+    (c.first_beside-first.ensures places (rw c.in-Some-beside.is at c.beside.ensures))
 
 pub mates-requires-clause-asked : goal.mates-requires-clause-asked
 mates-requires-clause-asked c = subst (λ s. IsAsked (plan_of s) (event_of c.args.get)) (sym (c.self.invariant.0 ∙ ap (λ v. v.scripts) c.self.view_is)) c.requires.asked
