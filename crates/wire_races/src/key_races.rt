@@ -1,6 +1,6 @@
 //! Races on keys: a get that is answered at once, and the commit or the fence that brings the key.
 
-ghost use Rattle.std.specs.Prelude.{◌≡◌, ◌<◌, ◌≤◌, ◌*◌, ◌/◌, ℕ, max, Some, OnOk, IsTrue, IfOk, ◌↔◌, true, false};
+ghost use Rattle.std.specs.Prelude.{◌≡◌, ◌<◌, ◌≤◌, ◌*◌, ◌/◌, ℕ, Some, OnOk, IsTrue, IfOk, ◌↔◌, true, false};
 ghost use Rattle.wire_runs.specs.Plan.{GetNow, event_of, process_count, event_count, event_total, kind, node_of};
 ghost use Rattle.wire_runs.specs.Plan.{same_node};
 ghost use Rattle.wire_scripts.specs.Planned.{plan_of};
@@ -253,12 +253,19 @@ fn add_processes(
     Ok(())
 }
 
-/// How many processes have some 4,096 events on average. A piece of the search isn't worth a thread with fewer: to start
-/// one takes as long as to look at several hundred gets.
+/// How many processes a piece of the search has at least, so that it is worth a thread: so many as have some 4,096 events
+/// on average, or all processes of a plan of less than 65,536 events, which one thread searches in a few milliseconds.
 pub fn least_processes(plan: &Plan) -> usize
-    ensures { result ≡ process_count (plan_of plan.now) * 4096 / max (event_total (plan_of plan.now)) 1 }
+    ensures small { event_total (plan_of plan.now) < 65536 → result ≡ process_count (plan_of plan.now) }
+    ensures large { 65536 ≤ event_total (plan_of plan.now) →
+        result ≡ process_count (plan_of plan.now) * 4096 / event_total (plan_of plan.now) }
 {
-    plan.process_count() as usize * 4096 / plan.event_total().max(1)
+    let count = plan.process_count() as usize;
+    let total = plan.event_total();
+    if total < 65_536 {
+        return count;
+    }
+    count * 4_096 / total
 }
 
 /// How many processes, side by side, a piece of the search has.
