@@ -112,6 +112,26 @@ def chain_report(ranks: int) -> Iterator[str]:
     yield "waiting 1"
 
 
+def stopped(ranks: int, first: str) -> Iterator[str]:
+    """A plan in which the first rank never comes past this call, and the second waits for it."""
+    yield from ("rehearsal 1", "node n0", "node n1", "job app")
+    yield from ("rank n0", first, "lookup-wait gone", "put global card c0", "commit")
+    for rank in range(1, ranks):
+        yield from (f"rank n{rank % 2}", f"put global card c{rank}", "commit")
+        yield f"get app:{rank - 1} card"
+
+
+def stopped_report(ranks: int, first: str) -> Iterator[str]:
+    """What `replay` writes of that plan."""
+    yield f"app:0 1 {first.split()[0]} waiting"
+    yield from (f"app:0 {n} {it} unreached" for n, it in ((2, "lookup-wait"), (3, "put")))
+    yield "app:0 4 commit unreached"
+    for rank in range(1, ranks):
+        yield from (f"app:{rank} 1 put PMIX_SUCCESS", f"app:{rank} 2 commit PMIX_SUCCESS")
+        yield f"app:{rank} 3 get " + (f"PMIX_SUCCESS c{rank - 1}" if rank > 1 else "waiting")
+    yield "waiting 2"
+
+
 def with_memory() -> None:
     resource.setrlimit(resource.RLIMIT_AS, (MEMORY, MEMORY))
 
@@ -121,6 +141,9 @@ def replays(room: str) -> Runs:
     for ranks in (MOST_SEATED, MOST_SEATED + 2, MANY_RANKS):
         plans = {"machine": machine(True, ranks), "chain": chain(ranks)}
         reports = {"machine": machine_report(ranks), "chain": chain_report(ranks)}
+        # A live lookup that waits for ever, and one that isn't live.
+        for name, first in (("stop", "lookup-wait gone"), ("halt", "get app:1 gone")):
+            plans[name], reports[name] = stopped(ranks, first), stopped_report(ranks, first)
         for name, plan in plans.items():
             yield Run(
                 f"a {name} of {ranks} ranks",

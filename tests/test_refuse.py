@@ -57,14 +57,21 @@ REFUSED = (
 )
 ONE_NODE = b"rehearsal 1\nnode n0\njob app\n"
 # Plans that are large enough for the search for races to start a thread: for the calls on names,
-# and for the gets.
+# and for the gets, which no thread searches in a plan of less than 65,536 events.
 PUBLISHES = b"".join(b"publish x%d 1\n" % it for it in range(32))
 NAMES = ONE_NODE + (b"rank n0\n" + PUBLISHES) * 2
-ASKS = (b"rank n0\n" + b"get-now app:0 k\n" * 4_100) * 2
+ASKS = (b"rank n0\n" + b"get-now app:0 k\n" * 32_800) * 2
 # A plan that is long enough for its lines to be read by several threads, the last of them while
 # those above are judged.
 LONG = ONE_NODE + b"# a comment\n" * 200_000 + b"rank n0\nput global k v\ncommit\n"
 GETS = ONE_NODE + b"rank n0\nput global k v\ncommit\n" + ASKS
+# A plan of so many ranks that its report is told from fates, in which two ranks wait.
+MANY = (
+    ONE_NODE
+    + b"rank n0\nput global k v\ncommit\npublish x 1\nget app:1 none\n"
+    + b"rank n0\nlookup-wait x\nget app:0 k\nget app:0 none\n"
+    + b"rank n0\n" * 1_023
+)
 # The clock of each event of the cards: how many events of each rank are it or before it.
 CLOCKS = "100 200 300 400 531 631 310 320 330 441 001 432 433 634"
 LATE = b"""\
@@ -107,8 +114,9 @@ def forms(room: str) -> Forms:
         yield Form(f"replay a race anyway, {name}", [*words, racy], is_free=True)
         yield Form(f"replay a race anyway, {name}, JSON", [*words, "--json", racy], is_free=True)
     yield Form("replay cards, 7 workers", ["replay", "--workers", "7", cards])
+    yield Form("replay many ranks", ["replay", "--large", written(room, "many.plan", MANY)])
     yield Form("check many names", ["check", written(room, "names.plan", NAMES)])
-    yield Form("check many gets", ["check", written(room, "gets.plan", GETS)])
+    yield Form("check many gets", ["check", "--large", written(room, "gets.plan", GETS)])
     yield Form("check many lines", ["check", written(room, "long.plan", LONG)])
     yield Form("check many lines, in groups", ["check", "--lines", written(room, "l.plan", LONG)])
     yield Form("check standard input", ["check"], given=CARDS)
