@@ -1,5 +1,5 @@
 -- The first instance in which a rank waits, and what is told of it.
-use Rattle.std.proofs.Common.{◌≡◌, ◌≢◌, ◌∙◌, ap, sym, subst, refl, ℕ, ◌+◌, ◌<◌, ◌≤◌, List, [], ◌∷◌, ◌++◌, length, map, drop, append-nil, Option, None, Some, Ok, Result, Err, IfOk, Bool, true, false, append_assoc, if◌then◌else◌, ◌==◌, inl, inr, arith}
+use Rattle.std.proofs.Common.{◌≡◌, ◌≢◌, ◌∙◌, ap, sym, subst, refl, ℕ, ◌≤◌, List, [], ◌∷◌, ◌++◌, length, drop, append-nil, Option, None, Some, Ok, Result, Err, IfOk, Bool, true, false, append_assoc, if◌then◌else◌, ◌==◌, inl, inr}
 use Rattle.std.specs.Prelude.{Vec, MatchOption, slice_get, codes, not, OnOk, is_ok}
 use Rattle.std.specs.declared.alloc.Global.{Global}
 use Rattle.std.proofs.lemmas.Bool.{true≢false, not-true, not-false, eqb-true, eqb-false}
@@ -13,20 +13,18 @@ use Rattle.wire_pattern.specs.Pattern.{Role, Pattern}
 use Rattle.wire_pattern.specs.Instances as spec
 use Rattle.wire_pattern.specs.Instances.{instance_text}
 use Rattle.wire_pattern_waits.specs.Waits.{alone}
-use Rattle.wire_pattern_waits.proofs.Judged.{EachBefore, listed_at, each_all}
-use Rattle.wire_cutoff.specs.declared.selections.Selection.{Selection as CodeSelection}
+use Rattle.wire_pattern_waits.proofs.Judged.{EachBefore}
 use Rattle.wire_cutoff.specs.Selections.{Selection, selections}
-use Rattle.wire_cutoff.specs.Views.{selection_by}
 use Rattle.wire_pattern_later.specs.Later.{IsInstanceWith, IsPastLimits}
 use Rattle.wire_pattern_later.specs.declared.later.Later.{Later}
 use Rattle.wire_pattern_later.specs.declared.later.Instance.{Instance}
 use Rattle.wire_pattern_commands.specs.declared.first_wait.FirstWait.{FirstWait}
 use Rattle.wire_pattern_commands.specs.declared.beyond.Beyond.{Beyond}
-use Rattle.wire_pattern_commands.specs.declared.beyond.Beyond.TheVariants.{Unsaid, Never, First, Unknown}
+use Rattle.wire_pattern_commands.specs.declared.beyond.Beyond.TheVariants.{First}
 use Rattle.wire_pattern_commands.specs.Beyond.{first_ranks}
-use Rattle.wire_pattern_commands.specs.FirstWait.{RunsThrough, StandsAs, AllRunThrough, IsFirstWait, IsWaitOf, IsFirstWaitOf, sizes_words, size_words, first_line}
-use Rattle.wire_pattern_commands.specs.FirstWait.{IsLaterWait, IsNoLaterWait, IsLaterWaitOf, IsExplainedWaitOf}
-use Rattle.wire_pattern_commands.specs.FirstWait.{AddsLines, NoLines, WaitLines, AddsMember, NullMember, WaitMember, without_end, plan_members}
+use Rattle.wire_pattern_commands.specs.FirstWait.{RunsThrough, IsWaitOf, IsFirstWaitOf, sizes_words}
+use Rattle.wire_pattern_commands.specs.FirstWait.{IsNoLaterWait, IsLaterWaitOf, IsExplainedWaitOf}
+use Rattle.wire_pattern_commands.specs.FirstWait.{AddsLines, NoLines, WaitLines, AddsMember, NullMember, WaitMember, without_end}
 use Rattle.wire_pattern_commands.specs.FirstWait.{TellsFirst, ListsFirst, LinesOf, MemberOf, ExplainsFirstWait}
 
 -- the instance of a selection

@@ -12,5 +12,6 @@ mod InstancesShown
 mod ShownJson
 mod SettledJson
 mod Succeeded
+mod Together
 mod Emptied
 mod FirstWaits

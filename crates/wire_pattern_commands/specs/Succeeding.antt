@@ -1,23 +1,19 @@
 -- Whether every call of the instances that are judged succeeds: is answered PMIX_SUCCESS, both with each process on a node
 -- of its own and with all on one.
 use Rattle.std.specs.Prelude.{◌≡◌, ◌&&◌, ℕ, Bool, true, false, [], Some, Ok, slice_get}
-use Rattle.std.specs.List.{list_all}
 use Rattle.wire_scripts.specs.Scripts.{Scripts}
+use Rattle.wire_scripts.specs.Planned.{plan_of}
 use Rattle.wire_scripts.specs.Placed.{placed}
+use Rattle.wire_runs.specs.Placings.{IsSettledAnywhere}
 use Rattle.wire_reader.specs.declared.Size.TheVariants.{OfVersion}
 use Rattle.wire_reader.specs.Reads.{Reads}
-use Rattle.wire_core.specs.EndsAfter.{plain_ends}
 use Rattle.wire_pattern.specs.Pattern.{Pattern}
 use Rattle.wire_pattern.specs.Instances.{Cast, instance_text}
 use Rattle.wire_pattern_waits.specs.Waits.{alone}
 use Rattle.wire_cutoff.specs.Selections.{Selection, selections}
-use Rattle.wire_command.specs.Success.{succeeds}
+use Rattle.wire_pattern_stages.specs.Succeeding.{all_succeed, some_puts_remote}
 
--- every call of these scripts succeeds in their plain run
-abbrev pub all_succeed : Scripts → Bool
-all_succeed scripts = list_all (list_all succeeds) (plain_ends scripts).rows
-
--- so it is on the nodes where the processes are, and with all processes on one node
+-- every call succeeds on the nodes where the processes are, and with all processes on one node
 abbrev pub succeed_on_both : Scripts → Bool
 succeed_on_both scripts = all_succeed scripts && all_succeed (placed scripts [])
 
@@ -46,3 +42,18 @@ pub record SomeFails (p : Pattern) : Type 0 where
 abbrev pub IsSuccessTold : Pattern → Bool → Type 0
 IsSuccessTold p true = AllSucceed p
 IsSuccessTold p false = SomeFails p
+
+-- where nothing is found on any nodes, and no key is put for other nodes alone: what succeeds on the nodes where the
+-- processes are succeeds with all of them on one
+abbrev pub SucceedTogether : Type 0
+SucceedTogether = (s : Scripts) → IsSettledAnywhere (plan_of s) → some_puts_remote s ≡ false → all_succeed s ≡ true → all_succeed (placed s []) ≡ true
+
+-- the rest is for private contracts alone
+
+-- every call of the instance of this selection succeeds with each process on a node of its own
+abbrev pub SucceedsIn : Pattern → Selection → Type 0
+SucceedsIn p selection = (scripts : Scripts) → Reads OfVersion (instance_text p (alone p selection)) (Ok scripts) → all_succeed scripts ≡ true
+
+-- so it is in the instance of each selection that is judged
+abbrev pub AllSucceedApart : Pattern → Type 0
+AllSucceedApart p = (number : ℕ) (selection : Selection) → slice_get (selections p) number ≡ Some selection → SucceedsIn p selection

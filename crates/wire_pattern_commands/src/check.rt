@@ -1,6 +1,6 @@
 //! `check --pattern`: one verdict for every number of ranks on every placement.
 
-ghost use Rattle.std.specs.Prelude.{◌≡◌, ◌≢◌, ◌⊎◌, ◌++◌, ◌==◌, ◌&&◌, ◌||◌, ◌<◌, ◌^◌, [], true, not, Ok, Err, OnOk, IfOk, IfErr};
+ghost use Rattle.std.specs.Prelude.{◌≡◌, ◌≢◌, ◌↔◌, ◌⊎◌, ◌++◌, ◌==◌, ◌&&◌, ◌||◌, ◌<◌, ◌^◌, [], true, not, Ok, Err, OnOk, IfOk, IfErr};
 ghost use Rattle.std.specs.Prelude.{codes, count_by, if◌then◌else◌};
 ghost use Rattle.std.specs.List.{flat_map};
 ghost use Rattle.wire_types.specs.declared.Fault.TheVariants.{Memory, Read};
@@ -14,6 +14,8 @@ ghost use Rattle.wire_cutoff_laws.specs.Promised.{IsSettledForAll};
 ghost use Rattle.wire_pattern_answers.specs.Answers.{AreAnswers};
 ghost use Rattle.wire_command.specs.Ending.{ended_of};
 ghost use Rattle.wire_pattern_commands.specs.CheckPattern as spec;
+ghost use Rattle.wire_pattern_waits.specs.Waits.{AllReadAsPlans};
+ghost use Rattle.wire_pattern_stages.specs.Succeeding.{SomeFailsApart, SomePutsRemote};
 ghost use Rattle.wire_pattern_commands.specs.Succeeding.{IsSuccessTold};
 ghost use Rattle.wire_pattern_commands.specs.CheckPattern.{BreaksOffPatternVerdict, EndsInOneStateForAll};
 ghost use Rattle.wire_pattern_commands.specs.CheckPattern.{IsExplainedSaid, IsPatternVerdict, IsSettledSaid, StopsBeforePattern, WritesPatternVerdict};
@@ -33,7 +35,7 @@ use wire_cutoff::{Counterexample, judge_pattern};
 use wire_findings::Finding;
 use wire_pattern::Pattern;
 use wire_pattern_answers::{LineAnswers, find_answers, write_answers};
-use wire_pattern_stages::find_waiting;
+use wire_pattern_stages::{Waiting, find_waiting};
 use wire_pattern_waits::{CallLine, write_waits};
 use wire_reply_laws::laws::{all_answered, texts_answered};
 use wire_report::{push_count, push_finding};
@@ -194,19 +196,24 @@ fn answers_asked(
 }
 
 /// Whether every call of the instances that are judged succeeds, if that is asked for and no call waits with any number
-/// of ranks.
+/// of ranks, by what these instances show.
 fn success_asked(
     alloc: Global,
     pattern: &Pattern,
     asked: PatternAsked,
     everywhere: bool,
+    waiting: &Waiting,
 ) -> Result<bool, Fault>
-    requires { total_of (most_sizes pattern.now.roles) < 2 ^ 31 }
+    requires settled { IsSettledForAll pattern.now }
+    requires few { total_of (most_sizes pattern.now.roles) < 2 ^ 31 }
+    requires read { AllReadAsPlans pattern.now }
+    requires failing { (waiting.now.failing ≡ true) ↔ SomeFailsApart pattern.now }
+    requires remote { (waiting.now.remote ≡ true) ↔ SomePutsRemote pattern.now }
     ensures ok { IfOk result (λ succeeding. asked.complete && everywhere ≡ true → IsSuccessTold pattern.now succeeding) }
     ensures err { IfErr result (λ e. IsJudgeFault pattern.now e) }
 {
     if asked.complete && everywhere {
-        let succeeding = every_call_succeeds(alloc, pattern)?;
+        let succeeding = every_call_succeeds(alloc, pattern, waiting)?;
         return Ok(succeeding);
     }
     Ok(false)
@@ -276,7 +283,7 @@ fn answer_settled(alloc: Global, pattern: &Pattern, asked: PatternAsked) -> Resu
     let waiting = find_waiting(alloc, pattern)?;
     let beyond = find_beyond(alloc, pattern, &waiting)?;
     let never = beyond.is_never();
-    let succeeding = success_asked(alloc, pattern, asked, never)?;
+    let succeeding = success_asked(alloc, pattern, asked, never, &waiting)?;
     let answers = answers_asked(alloc, pattern, asked)?;
     let text = settled_form(
         alloc,

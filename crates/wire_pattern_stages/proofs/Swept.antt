@@ -1,5 +1,5 @@
 -- Of one selection, and of all.
-use Rattle.std.proofs.Common.{◌≡◌, ap, subst, Ok, Result, Err}
+use Rattle.std.proofs.Common.{◌≡◌, ◌∙◌, ◌↔◌, ap, sym, subst, refl, Bool, true, false, not, Ok, Result, Err}
 use Rattle.wire_types.specs.declared.Fault.{Fault}
 use Rattle.wire_scripts.specs.Scripts.{Scripts}
 use Rattle.wire_scripts.specs.Planned.{plan_of}
@@ -13,6 +13,7 @@ use Rattle.wire_cutoff.specs.Selections.{Selection}
 use Rattle.wire_pattern_waits.specs.Waits.{alone}
 use Rattle.wire_reply_laws.specs.Kept.{KeepsStages}
 use Rattle.wire_pattern_stages.specs.Staged.{SelectionKeeps}
+use Rattle.wire_pattern_stages.specs.Succeeding.{all_succeed, some_puts_remote, FailsIn, PutsRemoteIn}
 
 abbrev read_or : Scripts → Result Scripts Fault → Scripts
 read_or other (Ok scripts) = scripts
@@ -24,3 +25,29 @@ selection_kept p stages s cast scripts once is reads keeps other other_reads =
     let read_alone : Reads OfVersion (instance_text p (alone p s)) (Ok scripts) = subst (λ c. Reads OfVersion (instance_text p c) (Ok scripts)) is reads in
     let same : scripts ≡ other = ap (read_or scripts) (once OfVersion (instance_text p (alone p s)) (Ok scripts) (Ok other) read_alone other_reads) in
     subst (λ t. KeepsStages stages (pattern_of p) (cast_of (alone p s)) (plan_of t)) same (subst (λ c. KeepsStages stages (pattern_of p) (cast_of c) (plan_of scripts)) is keeps)
+
+not_true : (b : Bool) → not b ≡ true → b ≡ false
+not_true true e = cc
+not_true false e = refl
+
+module _ (p : Pattern) (s : Selection) (cast : Cast) (scripts : Scripts) (once : ReadsOnce) (is : cast ≡ alone p s)
+    (reads : Reads OfVersion (instance_text p cast) (Ok scripts)) where
+  read_alone : Reads OfVersion (instance_text p (alone p s)) (Ok scripts)
+  read_alone = subst (λ c. Reads OfVersion (instance_text p c) (Ok scripts)) is reads
+
+  same_scripts : (other : Scripts) → Reads OfVersion (instance_text p (alone p s)) (Ok other) → other ≡ scripts
+  same_scripts other other_reads = ap (read_or scripts) (once OfVersion (instance_text p (alone p s)) (Ok other) (Ok scripts) other_reads read_alone)
+
+  -- whether a call fails there
+  pub selection_fails : (told : Bool) → told ≡ not (all_succeed scripts) → (told ≡ true) ↔ FailsIn p s
+  selection_fails told told_is = (
+    (λ h. record { scripts = scripts; reads = read_alone; fails = not_true _ (sym told_is ∙ h) }),
+    (λ x. told_is ∙ ap not (sym (ap all_succeed (same_scripts x.scripts x.reads)) ∙ x.fails)),
+  )
+
+  -- whether a key is put for other nodes alone
+  pub selection_puts : (told : Bool) → told ≡ some_puts_remote scripts → (told ≡ true) ↔ PutsRemoteIn p s
+  selection_puts told told_is = (
+    (λ h. record { scripts = scripts; reads = read_alone; puts = sym told_is ∙ h }),
+    (λ x. told_is ∙ sym (ap some_puts_remote (same_scripts x.scripts x.reads)) ∙ x.puts),
+  )

@@ -3,3 +3,4 @@ pub mod Lines
 pub mod Rising
 pub mod Tables
 pub mod Staged
+pub mod Succeeding

@@ -1,6 +1,6 @@
 //! What the instances that are judged show: at which call lines something waits, and whether they keep stages.
 
-ghost use Rattle.std.specs.Prelude.{◌≡◌, ◌↔◌, ◌⊎◌, ◌<◌, ◌^◌, [], ℕ, true, OnOk, IfOk, IfErr, map};
+ghost use Rattle.std.specs.Prelude.{◌≡◌, ◌↔◌, ◌⊎◌, ◌||◌, ◌<◌, ◌^◌, [], ℕ, true, not, OnOk, IfOk, IfErr, map};
 ghost use Rattle.wire_types.specs.declared.Fault.TheVariants.{Memory};
 ghost use Rattle.wire_scripts.specs.Planned.{plan_of};
 ghost use Rattle.wire_pattern.specs.Instances.{IsCast, cast_of};
@@ -19,11 +19,13 @@ ghost use Rattle.wire_reply_laws.specs.Kept.{KeepsStages};
 ghost use Rattle.wire_reply_laws.specs.Promised.{AllStaged};
 ghost use Rattle.wire_pattern_stages.specs.Views.{stages_by};
 ghost use Rattle.wire_pattern_stages.specs.Staged.{SelectionKeeps};
+ghost use Rattle.wire_pattern_stages.specs.Succeeding.{FailsIn, PutsRemoteIn, SomeFailsApart, SomePutsRemote, all_succeed, some_puts_remote};
 
 use crate::instance::{View, is_plan_right};
 use crate::labels::all_labels;
 use crate::last::last_stages;
 use crate::stage::Stages;
+use crate::succeeding::{rows_succeed, some_puts_remote};
 use std::alloc::{AllocError, Global};
 use wire_core::plain_outcome;
 use wire_cutoff::{Selection, all_selections, cast_for, instance_scripts};
@@ -36,12 +38,15 @@ use wire_reader::reads_once;
 use wire_scripts::Scripts;
 use wire_types::Fault;
 
-/// At which call lines something waits in the instances that are judged, and whether all of them are known to keep the
-/// same stages.
+/// At which call lines something waits in the instances that are judged, each process on a node of its own, whether all
+/// of them are known to keep the same stages, whether a call of one doesn't succeed, and whether one puts a key for other
+/// nodes alone.
 #[derive(Drop)]
 pub struct Waiting {
     pub lines: Vec<CallLine>,
     pub staged: bool,
+    pub failing: bool,
+    pub remote: bool,
 }
 
 /// What is asked of an instance of a pattern: whether it keeps these stages, unless that isn't asked any more.
@@ -52,11 +57,23 @@ struct Question<'a> {
     asked: bool,
 }
 
-/// What is seen of instances: the call lines at which something waits, and whether all keep the stages.
+/// What is seen of instances: the call lines at which something waits, whether all keep the stages, whether a call of one
+/// doesn't succeed, and whether one puts a key for other nodes alone.
 #[derive(Drop)]
 struct Seen {
     noted: LineSet,
     kept: bool,
+    failing: bool,
+    remote: bool,
+}
+
+/// What one instance shows: whether it keeps the stages, whether a call doesn't succeed, and whether one puts a key for
+/// other nodes alone.
+#[derive(Clone, Copy)]
+struct Shown {
+    kept: bool,
+    failing: bool,
+    remote: bool,
 }
 
 /// Whether the plan of an instance keeps stages.
@@ -100,19 +117,21 @@ fn keeps_asked(
     Ok(kept)
 }
 
-/// Notes the call lines at which the processes of an instance wait that is this plan. Answers whether it keeps the stages.
+/// Notes the call lines at which the processes of an instance wait that is this plan. Answers what it shows.
 fn see_plan(
     noted: &mut LineSet,
     alloc: Global,
     question: &Question,
     cast: &Cast,
     plan: &Plan,
-) -> Result<bool, Fault>
+) -> Result<Shown, Fault>
     requires { IsCast question.now.pattern.now (cast_by cast.now) }
     ensures waits { OnOk result ((role line : ℕ) → (has_line noted.new role line ≡ true)
         ↔ ((has_line noted.old role line ≡ true) ⊎ StuckAt question.now.pattern.now (cast_by cast.now) plan.now role line)) }
-    ensures kept { IfOk result (λ kept. kept ≡ true → (question.now.asked ≡ true) × KeepsStages (stages_by question.now.stages.now)
+    ensures kept { IfOk result (λ it. it.kept ≡ true → (question.now.asked ≡ true) × KeepsStages (stages_by question.now.stages.now)
         (pattern_of question.now.pattern.now) (cast_of (cast_by cast.now)) (plan_of plan.now)) }
+    ensures failing { IfOk result (λ it. it.failing ≡ not (all_succeed plan.now)) }
+    ensures remote { IfOk result (λ it. it.remote ≡ some_puts_remote plan.now) }
     ensures err { IfErr result (λ e. e ≡ Memory) }
 {
     let outcome = plain_outcome(alloc, plan)?;
@@ -124,7 +143,11 @@ fn see_plan(
         outcome.rows.as_slice(),
     )?;
     let kept = keeps_asked(alloc, question, cast, plan)?;
-    Ok(kept)
+    Ok(Shown {
+        kept,
+        failing: !rows_succeed(outcome.rows.as_slice()),
+        remote: some_puts_remote(plan.scripts().processes()),
+    })
 }
 
 /// The same of an instance that reads as these scripts.
@@ -134,18 +157,20 @@ fn see_scripts(
     question: &Question,
     cast: &Cast,
     scripts: Scripts,
-) -> Result<bool, Fault>
+) -> Result<Shown, Fault>
     requires { IsCast question.now.pattern.now (cast_by cast.now) }
     ensures waits { OnOk result ((role line : ℕ) → (has_line noted.new role line ≡ true)
         ↔ ((has_line noted.old role line ≡ true) ⊎ StuckAt question.now.pattern.now (cast_by cast.now) scripts role line)) }
-    ensures kept { IfOk result (λ kept. kept ≡ true → (question.now.asked ≡ true) × KeepsStages (stages_by question.now.stages.now)
+    ensures kept { IfOk result (λ it. it.kept ≡ true → (question.now.asked ≡ true) × KeepsStages (stages_by question.now.stages.now)
         (pattern_of question.now.pattern.now) (cast_of (cast_by cast.now)) (plan_of scripts)) }
+    ensures failing { IfOk result (λ it. it.failing ≡ not (all_succeed scripts)) }
+    ensures remote { IfOk result (λ it. it.remote ≡ some_puts_remote scripts) }
     ensures err { IfErr result (λ e. e ≡ Memory) }
 {
     let plan = Plan::build(alloc, scripts)?;
-    let kept = see_plan(noted, alloc, question, cast, &plan);
+    let shown = see_plan(noted, alloc, question, cast, &plan);
     drop(plan);
-    kept
+    shown
 }
 
 /// The same of the instance of a selection.
@@ -154,22 +179,31 @@ fn see_selection(
     alloc: Global,
     question: &Question,
     selection: &Selection,
-) -> Result<bool, Fault>
+) -> Result<Shown, Fault>
     requires sizes { AreFewSizes question.now.pattern.now.roles selection.now.sizes.items }
     requires few { counted.total_of selection.now.sizes.items < 2 ^ 31 }
     ensures waits { OnOk result ((role line : ℕ) → (has_line noted.new role line ≡ true)
         ↔ ((has_line noted.old role line ≡ true) ⊎ StopsIn question.now.pattern.now (selection_by selection.now) role line)) }
     ensures read { OnOk result (ReadsAsPlan question.now.pattern.now (selection_by selection.now)) }
-    ensures kept { IfOk result (λ kept. kept ≡ true → (question.now.asked ≡ true)
+    ensures kept { IfOk result (λ it. it.kept ≡ true → (question.now.asked ≡ true)
         × SelectionKeeps question.now.pattern.now (stages_by question.now.stages.now) (selection_by selection.now)) }
+    ensures failing { IfOk result (λ it. (it.failing ≡ true) ↔ FailsIn question.now.pattern.now (selection_by selection.now)) }
+    ensures remote { IfOk result (λ it. (it.remote ≡ true) ↔ PutsRemoteIn question.now.pattern.now (selection_by selection.now)) }
     ensures err { IfErr result (λ e. IsJudgeFault question.now.pattern.now e) }
 {
     reads_once();
     let cast = cast_for(alloc, question.pattern, selection)?;
     let (text, scripts) = instance_scripts(alloc, question.pattern, &cast)?;
     drop(text);
-    let kept = see_scripts(noted, alloc, question, &cast, scripts)?;
-    Ok(kept)
+    let shown = see_scripts(noted, alloc, question, &cast, scripts)?;
+    Ok(shown)
+}
+
+/// Whether one of two things is so.
+fn either(one: bool, other: bool) -> bool
+    ensures { result ≡ one || other }
+{
+    one || other
 }
 
 /// What is seen of the instances of all selections.
@@ -179,19 +213,31 @@ fn see_all(alloc: Global, question: &Question, all: &[Selection]) -> Result<Seen
     ensures waits { IfOk result (λ s. (role line : ℕ) → (has_line s.noted role line ≡ true) ↔ Waits question.now.pattern.now role line) }
     ensures read { IfOk result (λ s. AllReadAsPlans question.now.pattern.now) }
     ensures kept { IfOk result (λ s. s.kept ≡ true → AllStaged question.now.pattern.now (stages_by question.now.stages.now)) }
+    ensures failing { IfOk result (λ s. (s.failing ≡ true) ↔ SomeFailsApart question.now.pattern.now) }
+    ensures remote { IfOk result (λ s. (s.remote ≡ true) ↔ SomePutsRemote question.now.pattern.now) }
     ensures err { IfErr result (λ e. IsJudgeFault question.now.pattern.now e) }
 {
     let mut noted = LineSet::new(alloc);
     let mut kept = question.asked;
+    let mut failing = false;
+    let mut remote = false;
     for selection in all {
         let now = Question {
             pattern: question.pattern,
             stages: question.stages,
             asked: kept,
         };
-        kept = see_selection(&mut noted, alloc, &now, selection)?;
+        let shown = see_selection(&mut noted, alloc, &now, selection)?;
+        kept = shown.kept;
+        failing = either(failing, shown.failing);
+        remote = either(remote, shown.remote);
     }
-    Ok(Seen { noted, kept })
+    Ok(Seen {
+        noted,
+        kept,
+        failing,
+        remote,
+    })
 }
 
 /// The same, with stages that were found, if any were.
@@ -206,6 +252,8 @@ fn see_with(
     ensures waits { IfOk result (λ s. (role line : ℕ) → (has_line s.noted role line ≡ true) ↔ Waits pattern.now role line) }
     ensures read { IfOk result (λ s. AllReadAsPlans pattern.now) }
     ensures kept { IfOk result (λ s. s.kept ≡ true → (stages : StagesSpec) × AllStaged pattern.now stages) }
+    ensures failing { IfOk result (λ s. (s.failing ≡ true) ↔ SomeFailsApart pattern.now) }
+    ensures remote { IfOk result (λ s. (s.remote ≡ true) ↔ SomePutsRemote pattern.now) }
     ensures err { IfErr result (λ e. IsJudgeFault pattern.now e) }
 {
     let asked = found.is_some();
@@ -223,13 +271,16 @@ fn see_with(
 /// selection a process stands there where the plain run can't go on. The text of each of these instances reads as a
 /// plan; and if there is no such line, every call of them has its reply. Whether stages were found that all of them keep:
 /// then, if nothing is found and no call waits in them, no call waits for ever in any instance, with any number of
-/// processes (`all_answered` in `wire_reply_laws`).
+/// processes (`all_answered` in `wire_reply_laws`). Whether a call of one of these instances isn't answered
+/// `PMIX_SUCCESS`, and whether one puts a key for other nodes alone.
 pub fn find_waiting(alloc: Global, pattern: &Pattern) -> Result<Waiting, Fault>
     requires { counted.total_of (most_sizes pattern.now.roles) < 2 ^ 31 }
     ensures waits { IfOk result (λ w. AreWaiting pattern.now w.lines.items) }
     ensures read { IfOk result (λ w. AllReadAsPlans pattern.now) }
     ensures replied { IfOk result (λ w. w.lines.items ≡ [] → AllReplied pattern.now) }
     ensures staged { IfOk result (λ w. w.staged ≡ true → (stages : StagesSpec) × AllStaged pattern.now stages) }
+    ensures failing { IfOk result (λ w. (w.failing ≡ true) ↔ SomeFailsApart pattern.now) }
+    ensures remote { IfOk result (λ w. (w.remote ≡ true) ↔ SomePutsRemote pattern.now) }
     ensures err { IfErr result (λ e. IsJudgeFault pattern.now e) }
 {
     // The roles are sound, and the text of an instance has as many calls as its script says.
@@ -242,5 +293,7 @@ pub fn find_waiting(alloc: Global, pattern: &Pattern) -> Result<Waiting, Fault>
     Ok(Waiting {
         lines,
         staged: seen.kept,
+        failing: seen.failing,
+        remote: seen.remote,
     })
 }

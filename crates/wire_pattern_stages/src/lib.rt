@@ -9,5 +9,7 @@ mod labels;
 mod last;
 mod search;
 mod stage;
+mod succeeding;
 
 pub use cutoff::{Waiting, find_waiting};
+pub use succeeding::rows_succeed;

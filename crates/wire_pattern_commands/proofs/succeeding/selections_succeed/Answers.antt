@@ -15,6 +15,12 @@ selection_succeeds-requires-clause-few c =
     item_total c.args.pattern.now c.args.all.now c.loop-selection.selection-index c.selection-item.result c.requires.all c.loop-selection-test.true c.selection-item.is
     c.requires.few
 
+pub selection_succeeds-requires-clause-apart : goal.selection_succeeds-requires-clause-apart
+selection_succeeds-requires-clause-apart c =
+    let n = c.loop-selection.selection-index in
+    c.requires.apart n (selection_by c.selection-item.result)
+    (listed_at c.args.pattern.now c.args.all.now n c.selection-item.result c.requires.all c.loop-selection-test.true c.selection-item.is)
+
 pub loop-selection-init : goal.loop-selection-init
 loop-selection-init c = λ i s lt at. absurd (omega (arith, lt))
 

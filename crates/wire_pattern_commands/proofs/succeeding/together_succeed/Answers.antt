@@ -1,7 +1,7 @@
 use Rattle.std.proofs.Common.{◌∙◌, ap}
 use Rattle.wire_scripts.specs.Placed.{placed}
 use Rattle.wire_scripts.specs.Scripts.{numbers_of}
-use Rattle.wire_pattern_commands.specs.Succeeding.{all_succeed}
+use Rattle.wire_pattern_stages.specs.Succeeding.{all_succeed}
 use Rattle.wire_pattern_commands.proofs.succeeding.together_succeed.Goals as goal
 
 pub returns-clause-ok : goal.returns-clause-ok

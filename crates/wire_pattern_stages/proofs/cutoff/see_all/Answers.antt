@@ -1,11 +1,12 @@
-use Rattle.std.proofs.Common.{arith}
+use Rattle.std.proofs.Common.{refl, arith}
 use Rattle.wire_cutoff.specs.Views.{selection_by}
 use Rattle.wire_cutoff.proofs.Judged.{item_sizes, item_total}
 use Rattle.wire_pattern_waits.specs.LineSets.{has_line}
 use Rattle.wire_pattern_waits.specs.Waits.{StopsIn, ReadsAsPlan}
-use Rattle.wire_pattern_waits.proofs.Judged.{listed_at, each_more, each_all, none_before, one_before, all_before}
+use Rattle.wire_pattern_waits.proofs.Judged.{listed_at, each_more, each_all, none_before, one_before, all_before, told_more}
 use Rattle.wire_pattern_stages.specs.Views.{stages_by}
 use Rattle.wire_pattern_stages.specs.Staged.{SelectionKeeps}
+use Rattle.wire_pattern_stages.specs.Succeeding.{FailsIn, PutsRemoteIn}
 use Rattle.wire_pattern_stages.proofs.cutoff.see_all.Goals as goal
 
 pub see_selection-requires-clause-sizes : goal.see_selection-requires-clause-sizes
@@ -23,6 +24,8 @@ loop-selection-init c = record {
   told = λ role line. none_before c.args.question.now.pattern.now (λ s. StopsIn c.args.question.now.pattern.now s role line) _ (c.new-noted.ensures role line);
   read = λ i s lt at. absurd (omega (arith, lt));
   kept = λ k i s lt at. absurd (omega (arith, lt));
+  failing = none_before c.args.question.now.pattern.now (FailsIn c.args.question.now.pattern.now) _ refl;
+  remote = none_before c.args.question.now.pattern.now (PutsRemoteIn c.args.question.now.pattern.now) _ refl;
 }
 
 pub loop-selection-preserved : goal.loop-selection-preserved
@@ -34,11 +37,15 @@ loop-selection-preserved c =
     record {
       told = λ role line.
           one_before p (λ s. StopsIn p s role line) n s (has_line c.loop-selection.noted role line) (has_line c.see_selection.new.noted role line) at
-          (c.loop-selection.invariant.told role line) (c.in_ok-kept.ensures.waits role line);
-      read = each_more p (ReadsAsPlan p) n s at c.loop-selection.invariant.read c.in_ok-kept.ensures.read;
+          (c.loop-selection.invariant.told role line) (c.in_ok-shown.ensures.waits role line);
+      read = each_more p (ReadsAsPlan p) n s at c.loop-selection.invariant.read c.in_ok-shown.ensures.read;
       kept = λ k.
-          let both = c.in_ok-kept.ensures.kept k in
+          let both = c.in_ok-shown.ensures.kept k in
           each_more p (SelectionKeeps p (stages_by c.args.question.now.stages.now)) n s at (c.loop-selection.invariant.kept both.0) both.1;
+      failing = one_before p (FailsIn p) n s _ _ at c.loop-selection.invariant.failing
+          (told_more c.loop-selection.failing c.in_ok-shown.shown.failing _ (FailsIn p s) c.either-failing.ensures c.in_ok-shown.ensures.failing);
+      remote = one_before p (PutsRemoteIn p) n s _ _ at c.loop-selection.invariant.remote
+          (told_more c.loop-selection.remote c.in_ok-shown.shown.remote _ (PutsRemoteIn p s) c.either-remote.ensures c.in_ok-shown.ensures.remote);
     }
 
 pub returns-clause-waits : goal.returns-clause-waits
@@ -63,3 +70,23 @@ returns-clause-kept c = λ kept number selection scripts is reads.
     let end = c.loop-selection-test.false in
     each_all p (SelectionKeeps p (stages_by c.args.question.now.stages.now)) c.args.all.now c.loop-selection.selection-index c.requires.all (omega (arith, end))
     (c.loop-selection.invariant.kept kept) number selection is scripts reads
+
+pub returns-clause-failing : goal.returns-clause-failing
+returns-clause-failing c =
+    let p = c.args.question.now.pattern.now in
+    let end = c.loop-selection-test.false in
+    let told = all_before p (FailsIn p) c.args.all.now c.loop-selection.selection-index c.loop-selection.failing c.requires.all (omega (arith, end))
+    c.loop-selection.invariant.failing in (
+      (λ h. let w = told.0 h in record { number = w.number; selection = w.selection; is = w.is; fails = w.holds }),
+      (λ w. told.1 (record { number = w.number; selection = w.selection; is = w.is; holds = w.fails })),
+    )
+
+pub returns-clause-remote : goal.returns-clause-remote
+returns-clause-remote c =
+    let p = c.args.question.now.pattern.now in
+    let end = c.loop-selection-test.false in
+    let told = all_before p (PutsRemoteIn p) c.args.all.now c.loop-selection.selection-index c.loop-selection.remote c.requires.all (omega (arith, end))
+    c.loop-selection.invariant.remote in (
+      (λ h. let w = told.0 h in record { number = w.number; selection = w.selection; is = w.is; puts = w.holds }),
+      (λ w. told.1 (record { number = w.number; selection = w.selection; is = w.is; holds = w.puts })),
+    )

@@ -4,6 +4,7 @@ use Rattle.wire_pattern_waits.specs.Waits.{StopsIn, ReadsAsPlan}
 use Rattle.wire_pattern_waits.proofs.Judged.{IsBefore, EachBefore}
 use Rattle.wire_pattern_stages.specs.Views.{stages_by}
 use Rattle.wire_pattern_stages.specs.Staged.{SelectionKeeps}
+use Rattle.wire_pattern_stages.specs.Succeeding.{FailsIn, PutsRemoteIn}
 use Rattle.wire_pattern_stages.proofs.cutoff.see_all.Given as goal
 
 abbrev pub invariant-loop-selection : goal.invariant-loop-selection
@@ -12,4 +13,6 @@ invariant-loop-selection l = record {
       ↔ IsBefore l.question.pattern.now (λ s. StopsIn l.question.pattern.now s role line) l.selection-index;
   read : EachBefore l.question.pattern.now (ReadsAsPlan l.question.pattern.now) l.selection-index;
   kept : l.kept ≡ true → EachBefore l.question.pattern.now (SelectionKeeps l.question.pattern.now (stages_by l.question.stages.now)) l.selection-index;
+  failing : (l.failing ≡ true) ↔ IsBefore l.question.pattern.now (FailsIn l.question.pattern.now) l.selection-index;
+  remote : (l.remote ≡ true) ↔ IsBefore l.question.pattern.now (PutsRemoteIn l.question.pattern.now) l.selection-index;
 }

@@ -7,7 +7,7 @@ use Rattle.wire_cutoff.specs.Views.{selection_by}
 use Rattle.wire_pattern_waits.proofs.Told.{cast_is, selection_stops}
 use Rattle.wire_pattern_stages.specs.Views.{stages_by}
 use Rattle.wire_pattern_stages.proofs.Seen.{seen_more}
-use Rattle.wire_pattern_stages.proofs.Swept.{selection_kept}
+use Rattle.wire_pattern_stages.proofs.Swept.{selection_kept, selection_fails, selection_puts}
 use Rattle.wire_pattern_stages.proofs.cutoff.see_selection.Goals as goal
 
 pub returns-clause-waits : goal.returns-clause-waits
@@ -17,7 +17,7 @@ returns-clause-waits c = λ role line.
     seen_more _ _ _ _
     (selection_stops p selection (cast_by c.in_ok-cast.cast) c.in_ok-text.scripts c.reads_once.ensures
     (cast_is p selection c.in_ok-cast.cast c.in_ok-cast.ensures.few c.in_ok-cast.ensures.of c.in_ok-cast.ensures.alone)
-    c.in_ok-text.ensures.reads role line) (c.in_ok-kept.ensures.waits role line)
+    c.in_ok-text.ensures.reads role line) (c.in_ok-shown.ensures.waits role line)
 
 pub returns-clause-read : goal.returns-clause-read
 returns-clause-read c =
@@ -33,9 +33,25 @@ pub returns-clause-kept : goal.returns-clause-kept
 returns-clause-kept c = λ kept.
     let p = c.args.question.now.pattern.now in
     let selection = selection_by c.args.selection.now in
-    let both = c.in_ok-kept.ensures.kept kept in (
+    let both = c.in_ok-shown.ensures.kept kept in (
       both.0,
       selection_kept p (stages_by c.args.question.now.stages.now) selection (cast_by c.in_ok-cast.cast) c.in_ok-text.scripts c.reads_once.ensures
           (cast_is p selection c.in_ok-cast.cast c.in_ok-cast.ensures.few c.in_ok-cast.ensures.of c.in_ok-cast.ensures.alone)
           c.in_ok-text.ensures.reads both.1,
     )
+
+pub returns-clause-failing : goal.returns-clause-failing
+returns-clause-failing c =
+    let p = c.args.question.now.pattern.now in
+    let selection = selection_by c.args.selection.now in
+    selection_fails p selection (cast_by c.in_ok-cast.cast) c.in_ok-text.scripts c.reads_once.ensures
+    (cast_is p selection c.in_ok-cast.cast c.in_ok-cast.ensures.few c.in_ok-cast.ensures.of c.in_ok-cast.ensures.alone)
+    c.in_ok-text.ensures.reads c.in_ok-shown.shown.failing c.in_ok-shown.ensures.failing
+
+pub returns-clause-remote : goal.returns-clause-remote
+returns-clause-remote c =
+    let p = c.args.question.now.pattern.now in
+    let selection = selection_by c.args.selection.now in
+    selection_puts p selection (cast_by c.in_ok-cast.cast) c.in_ok-text.scripts c.reads_once.ensures
+    (cast_is p selection c.in_ok-cast.cast c.in_ok-cast.ensures.few c.in_ok-cast.ensures.of c.in_ok-cast.ensures.alone)
+    c.in_ok-text.ensures.reads c.in_ok-shown.shown.remote c.in_ok-shown.ensures.remote
