@@ -7,8 +7,9 @@
   added. That every call is answered is said only where none waits.
 - A counterexample is a plan of which `check` finds what the counterexample says.
 - Of a pattern without findings, `check` finds nothing in instances that are larger than those that
-  are judged: 4 to 7 ranks of a group, any turns, and any placement. If it is said that every call
-  is answered, none of these waits.
+  are judged: 4 to 8 ranks of a group, any turns, and any placement. No get-now there has a status
+  that `--answers` doesn't list, also where ranks wait. If it is said that every call is answered,
+  none of these waits.
 - With `--complete` the same is written. The status is 0 only if it is said that every call is
   answered, and then each succeeds in an instance of a size that is judged.
 - `expand` writes the plan of an instance in which all turns are taken, as the reference has it.
@@ -17,6 +18,7 @@ A pattern with too many instances for the reference is held to all of this but t
 with very many isn't looked at.
 """
 import functools
+import json
 import random
 import subprocess
 from typing import NamedTuple
@@ -33,8 +35,12 @@ from soak_runner import Difference, Ran, Runner, same
 MOST_INSTANCES, MOST_LOOKED_AT = 200, 4_096
 # How many larger instances are looked at, how many ranks of each group they have, and how many
 # calls in all they may have.
-LARGER, LARGER_SIZES, MOST_CALLS = 4, (4, 7), 4_000
+LARGER, LARGER_SIZES, MOST_CALLS = 4, (4, 8), 4_000
 CHECK, ANSWERS = ("check", "--pattern"), ("check", "--pattern", "--answers")
+
+
+# The statuses of each get-now line, by the name of its role and its number.
+Statuses = dict[tuple[bytes, int], frozenset[bytes]]
 
 
 class Instance(NamedTuple):
@@ -78,6 +84,12 @@ def has_expand(program: str) -> bool:
 def known(ran: Ran) -> Ran:
     """How a run ended, without the line that the reference can't say."""
     return ran._replace(wrote=without_answered(ran.wrote))
+
+
+def read_statuses(wrote: bytes) -> Statuses:
+    """The statuses of each get-now line, of what `--answers` wrote."""
+    lines = [it.split(b" ") for it in wrote.splitlines() if it.startswith(b"answers ")]
+    return {(role, int(line)): frozenset(told) for _, role, line, _, *told in lines}
 
 
 def canonical_nodes(nodes: list[int]) -> list[int]:
@@ -149,7 +161,7 @@ class Look:
         is_answered = ANSWERED in said.wrote
         if is_answered and b"\nwaits " in said.wrote:
             raise Difference("every call is answered, and one waits", said.wrote.decode())
-        self.at_larger(is_answered)
+        self.at_larger(is_answered, read_statuses(longest.wrote) if words == ANSWERS else None)
         self.at_complete(said, is_answered)
         return "without findings"
 
@@ -168,8 +180,9 @@ class Look:
         checked = self.runner.run("check", given=said.wrote)
         same("a counterexample that has other findings", Ran(1, found, b""), checked)
 
-    def at_larger(self, is_answered: bool) -> None:
-        """Nothing is found in larger instances; and where every call is answered, no rank waits."""
+    def at_larger(self, is_answered: bool, listed: Statuses | None) -> None:
+        """Nothing is found in larger instances; where every call is answered, no rank waits; and
+        their get-nows have no other statuses than are listed."""
         for _ in range(LARGER):
             it = random_instance(self.pattern, self.dice, *LARGER_SIZES)
             is_plan = it.ranks.count <= grammar.LIMITS[b"2"].ranks
@@ -182,12 +195,28 @@ class Look:
                     self.runner.held["a larger instance"] += 1
                 if checked.status == 0 and is_answered:
                     self.at_answered(text)
+                if checked.status == 0 and listed is not None:
+                    self.at_statuses(it, listed)
 
     def at_answered(self, plan: bytes) -> None:
         """No rank of an instance waits."""
         last = self.runner.run("replay", given=plan).wrote.splitlines()[-1]
         same("a call waits in a pattern that is answered", b"waiting 0", last, plan)
         self.runner.held["an answered instance"] += 1
+
+    def at_statuses(self, instance: Instance, listed: Statuses) -> None:
+        """Each get-now of an instance that is answered has a status that is listed for its line."""
+        report = json.loads(self.runner.run("replay", "--json", given=instance.text).wrote)
+        waits = "where ranks wait" if report["waiting"] else "where none waits"
+        for script, ended in zip(instance.scripts, report["ranks"]):
+            role = self.pattern.roles[instance.ranks.role[script.rank]].name
+            for call, told in zip(script.calls, ended["calls"]):
+                status = told["reply"].encode()
+                if call.verb == b"get-now" and status.startswith(b"PMIX_"):
+                    if status not in listed[role, call.line]:
+                        where = (role, call.line, status, instance.text)
+                        raise Difference("a status that isn't listed", repr(where))
+                    self.runner.held[f"a status {waits}"] += 1
 
     def at_complete(self, said: Ran, is_answered: bool) -> None:
         """What `--complete` says by its status."""

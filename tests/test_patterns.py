@@ -279,6 +279,8 @@ class Program(ProgramCase):
             self.assertGreater(runner.held["a larger instance"], PATTERNS)
             self.assertGreater(runner.held["an answered instance"], PATTERNS)
             self.assertGreater(runner.held["a complete instance"], 0)
+            self.assertGreater(runner.held["a status where ranks wait"], PATTERNS)
+            self.assertGreater(runner.held["a status where none waits"], PATTERNS)
 
     def test_damaged_patterns(self) -> None:
         """Random patterns that are damaged are refused, or read, as the second reader does."""

@@ -18,6 +18,7 @@ use Rattle.wire_runs.specs.Patterns.{instance_of, calls_from}
 use Rattle.wire_runs.specs.Restrictions.{on_nodes}
 use Rattle.wire_runs.specs.Renamed.{renumbering}
 use Rattle.wire_runs.proofs.Codings.{have_coding}
+use Rattle.wire_runs.proofs.Lists.{slice_get-map_back}
 use Rattle.wire_scripts.specs.Scripts.{Scripts, text_at, call_at, calls_in}
 use Rattle.wire_scripts.specs.Planned.{reply_of_key, unless_reserved, planned_call, plan_of}
 use Rattle.wire_pattern.specs.Pattern.{Pattern, Step}
@@ -102,6 +103,19 @@ module _ (p : Pattern) (cast : Cast) (s : Scripts) (of : IsOfCast p cast s) (nod
       sym (leaves_without (kinds (plan_of s) v)) ∙ ap (map is_leave) (i.placing.same_calls v) ∙ leaves_without (kinds i.other v)
       ∙ ap (map is_leave) (i.renumbered.calls v) ∙ leaves_image (renumbering i.key i.name) (kinds own v)
 
+  -- an event of the one that leaves no fence is such an event of the other
+  pub kind_own : (v at : ℕ) (k : Kind) → kind (plan_of s) (record { proc = v; at = at }) ≡ Some k → is_leave k ≡ false
+      → (l : Kind) × (kind own (record { proc = v; at = at }) ≡ Some l) × (is_leave l ≡ false)
+  unfolding kind_at
+  kind_own v at k is none = slice_get-map_back is_leave (kinds own v) at false
+      (ap (λ bs. slice_get bs at) (sym (leaves_same v)) ∙ slice_get-map is_leave (kinds (plan_of s) v) at ∙ ap (option_map is_leave) is ∙ ap Some none)
+
+  pub kind_read : (v at : ℕ) (l : Kind) → kind own (record { proc = v; at = at }) ≡ Some l → is_leave l ≡ false
+      → (k : Kind) × (kind (plan_of s) (record { proc = v; at = at }) ≡ Some k) × (is_leave k ≡ false)
+  unfolding kind_at
+  kind_read v at l is none = slice_get-map_back is_leave (kinds (plan_of s) v) at false
+      (ap (λ bs. slice_get bs at) (leaves_same v) ∙ slice_get-map is_leave (kinds own v) at ∙ ap (option_map is_leave) is ∙ ap Some none)
+
   -- the same calls are fences
   fences_same : (v : ℕ) → map is_fence (calls_of (plan_of s) v) ≡ map is_fence (calls_of own v)
   fences_same v = one_list (map is_fence (calls_of (plan_of s) v)) (map is_fence (calls_of own v)) (
@@ -136,16 +150,16 @@ module _ (p : Pattern) (cast : Cast) (s : Scripts) (of : IsOfCast p cast s) (nod
           ∙ spread_at places fences c line at (subst (λ n. c < n) (sym (length-map (calls_of (plan_of s) v) is_fence)) low);
     }
 
-    stays : (n owner key : ℕ) → kind (plan_of s) (record { proc = v; at = n }) ≡ Some (GetNow owner key) → slice_get (leaves_of fences) n ≡ Some false
+    stays : (n : ℕ) (k : Kind) → kind (plan_of s) (record { proc = v; at = n }) ≡ Some k → is_leave k ≡ false → slice_get (leaves_of fences) n ≡ Some false
     unfolding kind_at
-    stays n owner key is =
+    stays n k is none =
         ap (λ bs. slice_get bs n) (sym (leaves_are (calls_of (plan_of s) v))) ∙ slice_get-map is_leave (kinds_of (calls_of (plan_of s) v)) n
-        ∙ ap (option_map is_leave) (ap (λ ks. slice_get ks n) (sym (kinds_are (plan_of s) v)) ∙ is)
+        ∙ ap (option_map is_leave) (ap (λ ks. slice_get ks n) (sym (kinds_are (plan_of s) v)) ∙ is) ∙ ap Some none
 
-    -- an event that asks is that of a call of its line
-    pub event_call : (at n owner key : ℕ) → IsOfLine (pattern_of p) on (record { proc = v; at = at }) role n
-        → kind (plan_of s) (record { proc = v; at = at }) ≡ Some (GetNow owner key) → HasCall places fences at n
-    event_call at n owner key of_line is = at_spread places fences at n (ap (λ ns. slice_get ns at) (sym numbers_are) ∙ of_line.its_line) (stays at owner key is)
+    -- an event that leaves no fence is that of a call of its line
+    pub event_call : (at n : ℕ) (k : Kind) → IsOfLine (pattern_of p) on (record { proc = v; at = at }) role n
+        → kind (plan_of s) (record { proc = v; at = at }) ≡ Some k → is_leave k ≡ false → HasCall places fences at n
+    event_call at n k of_line is none = at_spread places fences at n (ap (λ ns. slice_get ns at) (sym numbers_are) ∙ of_line.its_line) (stays at k is none)
 
     pub call_stands : (at n : ℕ) (h : HasCall places fences at n) → place_in s v h.call ≡ at
     call_stands at n h = place_is (calls_of (plan_of s) v) h.call ∙ h.stands

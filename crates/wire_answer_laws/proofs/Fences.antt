@@ -78,7 +78,7 @@ pub leaves_without : (ks : List Kind) → map is_leave (map without_reply ks) �
 leaves_without [] = refl
 leaves_without (k ∷ ks) = ap (λ b. b ∷ map is_leave (map without_reply ks)) (reply_blind k) ∙ ap (λ bs. is_leave k ∷ bs) (leaves_without ks)
 
-image_blind : (to : Renaming) (k : Kind) → is_leave (image_kind to k) ≡ is_leave k
+pub image_blind : (to : Renaming) (k : Kind) → is_leave (image_kind to k) ≡ is_leave k
 image_blind to (Put key scope) = refl
 image_blind to Commit = refl
 image_blind to (Arrive members collect) = refl

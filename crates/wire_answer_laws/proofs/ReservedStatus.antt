@@ -63,13 +63,13 @@ key_status s owner key lt =
 module _ (s : Scripts) (settled : IsSettled (plan_of s)) (v c : ℕ) (owner : Proc) (key : ℕ) (within : v < process_count (plan_of s))
     (is : call_at s.processes v c ≡ Some (GetNow owner key)) (reserved : is_reserved (text_at s.keys key) ≡ true)
     (there : owner.number < length s.processes) where
-  abbrev x : Event
+  abbrev pub x : Event
   x = record { proc = v; at = place_in s v c }
 
-  abbrev fixed : Kind
+  abbrev pub fixed : Kind
   fixed = runs.Fixed (reply_of_key s owner.number key)
 
-  kind_is : kind (plan_of s) x ≡ Some fixed
+  pub kind_is : kind (plan_of s) x ≡ Some fixed
   unfolding kind_at
   kind_is =
       ap (λ ks. slice_get ks (place_in s v c)) (kinds_are (plan_of s) v)

@@ -1,17 +1,15 @@
 -- What a get-now finds in a small instance, one of its line is answered in an instance that is judged.
-use Rattle.std.proofs.Common.{◌≡◌, ◌∙◌, ap, sym, subst, refl, ℕ, pred, ◌<◌, ◌≤◌, ◌^◌, List, [], Bool, true, length, map, Some, arith}
-use Rattle.std.specs.Prelude.{slice_get, slice_index_or, Ok}
+use Rattle.std.proofs.Common.{◌≡◌, ◌∙◌, ap, sym, subst, refl, ℕ, pred, ◌<◌, ◌≤◌, true, length, Some, arith}
+use Rattle.std.specs.Prelude.{slice_get}
 use Rattle.std.proofs.lemmas.List.{length-map}
 use Rattle.std.proofs.lemmas.Option.{slice_get_within}
-use Rattle.wire_types.specs.declared.CallEnd.TheVariants.{Replied}
-use Rattle.wire_types.specs.declared.Reply.{Reply}
 use Rattle.wire_types.specs.declared.Status.{Status}
 use Rattle.wire_runs.specs.Plan.{Plan, GetNow, kind, process_count, node_of}
 use Rattle.wire_runs.specs.State.{Answer, IsDone}
 use Rattle.wire_runs.specs.Ends.{calls_of}
 use Rattle.wire_runs.specs.Races.{IsSettled}
 use Rattle.wire_runs.specs.Laws.{plain_end}
-use Rattle.wire_runs.specs.Placings.{IsPlacing, IsSettledAnywhere}
+use Rattle.wire_runs.specs.Placings.{IsPlacing}
 use Rattle.wire_runs.specs.PlacingLaws.{plain_reply}
 use Rattle.wire_runs.specs.Patterns as plan
 use Rattle.wire_runs.specs.Patterns.{instance_of}
@@ -20,7 +18,6 @@ use Rattle.wire_runs.proofs.Anywhere.{settled_there}
 use Rattle.wire_runs.proofs.Codings.{have_coding}
 use Rattle.wire_runs.proofs.FindingsAnywhere.{placings_are}
 use Rattle.wire_runs.proofs.PlacingKeeps.{turned, kind_kept}
-use Rattle.wire_runs.proofs.PlacingReplies.{reflexive}
 use Rattle.wire_runs.proofs.PlacingRuns.{done_alike}
 use Rattle.wire_runs.proofs.Renumbered.{embeds}
 use Rattle.wire_scripts.specs.Scripts.{Scripts, call_at}
@@ -28,13 +25,10 @@ use Rattle.wire_scripts.specs.Planned.{planned_process, plan_of}
 use Rattle.wire_scripts.specs.Placed.{moved}
 use Rattle.wire_scripts.proofs.Moved.{moved_length, as_placing, node_moved}
 use Rattle.wire_scripts.proofs.PlannedCalls.{as_many_planned}
-use Rattle.wire_core.specs.EndsAfter.{plain_ends}
-use Rattle.wire_reader.specs.declared.Size.TheVariants.{OfVersion}
-use Rattle.wire_reader.specs.Reads.{Reads}
 use Rattle.wire_pattern.specs.Pattern.{Pattern}
 use Rattle.wire_pattern.specs.Planned.{pattern_of, least_of, steps_in}
 use Rattle.wire_pattern.specs.Instances as text
-use Rattle.wire_pattern.specs.Instances.{Cast, IsCast, cast_of, instance_text}
+use Rattle.wire_pattern.specs.Instances.{Cast, cast_of}
 use Rattle.wire_pattern_laws.specs.Finds.{status_of}
 use Rattle.wire_pattern_laws.specs.SmallReplies.{HasSmall, FindsInFuller}
 use Rattle.wire_pattern_laws.specs.StatusesTold.{FindsAlike}
@@ -42,82 +36,38 @@ use Rattle.wire_pattern_laws.proofs.SmallFinds.{finds_are_said}
 use Rattle.wire_pattern_laws.proofs.FindsInFuller.{reads_find}
 use Rattle.wire_pattern_laws.proofs.StatusesNumbered.{renumbered_finds}
 use Rattle.wire_instances.proofs.Groups.{length_roles}
-use Rattle.wire_instance_laws.specs.Reading.{IsInstance, IsOfCast}
-use Rattle.wire_instance_laws.proofs.Read.{instances_read}
-use Rattle.wire_cutoff_laws.specs.Sizes.{AreFewSizes, total_of}
-use Rattle.wire_cutoff_laws.specs.Choices.{optional_turns, chosen_by, cast_on}
-use Rattle.wire_cutoff_laws.specs.Promised.{IsAnyCast, AreFewSettled}
-use Rattle.wire_cutoff_laws.proofs.Few as few
+use Rattle.wire_instance_laws.specs.Reading.{IsInstance}
 use Rattle.wire_cutoff_laws.proofs.Few.{most_at}
-use Rattle.wire_cutoff.specs.Selections.{Selection, select, selections}
-use Rattle.wire_cutoff.proofs.Members.{in_place}
-use Rattle.wire_cutoff.proofs.Selected.{selection_there, selections_few}
-use Rattle.wire_cutoff.proofs.Texts.{any_cast}
 use Rattle.wire_pattern_waits.specs.Places.{steps_places}
 use Rattle.wire_pattern_waits.specs.Waits.{alone}
 use Rattle.wire_pattern_waits.proofs.Answered.{places_between}
-use Rattle.wire_pattern_waits.proofs.Replied.{alone_cast}
 use Rattle.wire_pattern_answers.specs.FewPlacings.{asks_now, IsAnsweredWith}
 use Rattle.wire_pattern_answers.specs.Answers.{Answers}
 use Rattle.wire_pattern_answers.proofs.Calls.{place_in, same_call, same_place}
-use Rattle.wire_pattern_answers.proofs.Events.{row_to, row_from, said_status, end_reached, replied_done, done_replied}
-use Rattle.wire_pattern_answers.proofs.Settled.{have_least, settled_on_all}
-use Rattle.wire_answer_laws.specs.AnySize.{IsAllAnswered}
+use Rattle.wire_pattern_answers.proofs.Events.{row_from, said_status, end_reached, done_replied}
+use Rattle.wire_answer_laws.specs.AnySize.{IsAllTold}
 use Rattle.wire_answer_laws.proofs.SameNodes.{agree_all, finds_there}
 use Rattle.wire_answer_laws.proofs.Spread.{HasCall}
 use Rattle.wire_answer_laws.proofs.Fences.{is_fence}
 use Rattle.wire_answer_laws.proofs.Calls.{asked_call, fences, event_call, call_stands}
-use Rattle.wire_answer_laws.proofs.HaveReplies.{has_reply}
+use Rattle.wire_answer_laws.proofs.Fuller.{HasFuller, fuller_of}
 use Rattle.wire_answer_laws.proofs.Large.{instance_there}
 
 -- lines are counted from 1
 pub line_from_one : (p : Pattern) (cast : Cast) (v role c line : ℕ) → slice_get (steps_places cast v 0 1 (steps_in (slice_get p.roles role))) c ≡ Some line → 1 ≤ line
 line_from_one p cast v role c line at = (places_between cast v 0 1 (steps_in (slice_get p.roles role)) c line at).0
 
-module _ (p : Pattern) (all : IsAllAnswered p) (role n : ℕ) (status : Status)
+module _ (p : Pattern) (all : IsAllTold p) (role n : ℕ) (status : Status)
     (small : HasSmall (pattern_of p) have_coding (length p.roles) (least_of p) (λ role. most_at (least_of p role)) role n status) where
-  -- with few processes nothing is found
-  few_settled : AreFewSettled p
-  few_settled = λ sizes are bits count coding nodes.
-      let s = select sizes bits in
-      let total : total_of sizes < 2 ^ 31 = selections_few p (in_place s (selections p) (selection_there p sizes bits are count)).0 s
-      (in_place s (selections p) (selection_there p sizes bits are count)).1 all.few in
-      all.settled coding (cast_on sizes (chosen_by (optional_turns p sizes) bits) nodes)
-      (any_cast p (alone p s) (alone_cast p s all.sound are total) (have_least p.roles sizes are) nodes)
-
-  any : IsAnyCast p small.cast
-  any = record { is = small.cast_is; in_order = small.in_order; least = small.has_least }
-
-  -- the selection with the same turns, but all of loops that read
-  abbrev sizes : List ℕ
-  sizes = few.sizes p all.sound few_settled have_coding small.cast any small.has_most
-
-  abbrev bits : List Bool
-  bits = map (few.taken p all.sound few_settled have_coding small.cast any small.has_most) (optional_turns p sizes)
-
-  abbrev selection : Selection
-  selection = select sizes bits
+  -- the judged instance with the same turns, but all of loops that read
+  j : HasFuller p small.cast
+  j = fuller_of p all small.cast (record { is = small.cast_is; in_order = small.in_order; least = small.has_least }) small.has_most
 
   abbrev cast : Cast
-  cast = alone p selection
-
-  fit : AreFewSizes p.roles sizes
-  fit = few.fit p all.sound few_settled have_coding small.cast any small.has_most
-
-  at : (i : ℕ) × (slice_get (selections p) i ≡ Some selection)
-  at = in_place selection (selections p) (selection_there p sizes bits fit (length-map (optional_turns p sizes) (few.taken p all.sound few_settled have_coding small.cast any small.has_most)))
-
-  is_cast : IsCast p cast
-  is_cast = alone_cast p selection all.sound fit (selections_few p at.0 selection at.1 all.few)
+  cast = alone p j.selection
 
   abbrev s : Scripts
-  s = (all.read at.0 selection at.1).0
-
-  reads : Reads OfVersion (instance_text p cast) (Ok s)
-  reads = (all.read at.0 selection at.1).1
-
-  of : IsOfCast p cast s
-  of = instances_read p cast OfVersion s all.sound is_cast reads
+  s = j.s
 
   abbrev nodes : ℕ → ℕ
   nodes = small.cast.nodes
@@ -125,12 +75,9 @@ module _ (p : Pattern) (all : IsAllAnswered p) (role n : ℕ) (status : Status)
   abbrev fuller : plan.Cast
   fuller = on_nodes nodes (cast_of cast)
 
-  fuller_settled : IsSettled (instance_of (pattern_of p) have_coding fuller)
-  fuller_settled = all.settled have_coding fuller (any_cast p cast is_cast (have_least p.roles sizes fit) nodes)
-
   f : FindsInFuller (pattern_of p) have_coding fuller role n small.owner small.key status
   f =
-      reads_find (pattern_of p) have_coding small.cast fuller (few.is_fuller p all.sound few_settled have_coding small.cast any small.has_most) fuller_settled
+      reads_find (pattern_of p) have_coding small.cast fuller j.more j.settled
       small.get role n small.owner small.key small.of_line small.is small.is_live status small.finds
 
   -- the plan that is read, and its placing on these nodes
@@ -138,13 +85,7 @@ module _ (p : Pattern) (all : IsAllAnswered p) (role n : ℕ) (status : Status)
   here = plan_of s
 
   abbrev i : IsInstance p cast s have_coding nodes
-  i = of.instances have_coding nodes
-
-  everywhere : IsSettledAnywhere here
-  everywhere = settled_on_all p cast s all.settled is_cast (have_least p.roles sizes fit) of (length_roles 0 sizes)
-
-  settled_here : IsSettled here
-  settled_here = settled_there here here (reflexive here) everywhere
+  i = j.of.instances have_coding nodes
 
   abbrev there : Scripts
   there = moved s s.nodes nodes
@@ -156,7 +97,7 @@ module _ (p : Pattern) (all : IsAllAnswered p) (role n : ℕ) (status : Status)
   placing = as_placing s s.nodes nodes
 
   settled_third : IsSettled third
-  settled_third = settled_there here third placing everywhere
+  settled_third = settled_there here third placing j.everywhere
 
   third_count : process_count third ≡ length s.processes
   third_count = length-map there.processes (planned_process there) ∙ moved_length nodes 0 s.processes
@@ -183,26 +124,21 @@ module _ (p : Pattern) (all : IsAllAnswered p) (role n : ℕ) (status : Status)
   within : f.get.proc < process_count here
   within =
       let low = slice_get_within fuller.roles f.get.proc role f.of_line.its_role in
-      let count : length fuller.roles ≡ text.process_count cast = length_roles 0 sizes in
-      omega (arith, low, count, of.count)
+      let count : length fuller.roles ≡ text.process_count cast = length_roles 0 j.selection.sizes in
+      omega (arith, low, count, j.of.count)
 
-  abbrev call : HasCall (steps_places cast f.get.proc 0 1 (steps_in (slice_get p.roles role))) (fences p cast s of nodes f.get.proc role f.of_line.its_role) f.get.at n
-  call = event_call p cast s of nodes f.get.proc role f.of_line.its_role f.get.at n owner key f.of_line kind_here
+  abbrev call : HasCall (steps_places cast f.get.proc 0 1 (steps_in (slice_get p.roles role))) (fences p cast s j.of nodes f.get.proc role f.of_line.its_role) f.get.at n
+  call = event_call p cast s j.of nodes f.get.proc role f.of_line.its_role f.get.at n (GetNow owner key) f.of_line kind_here refl
 
   stands : f.get.at ≡ place_in s f.get.proc call.call
-  stands = sym (call_stands p cast s of nodes f.get.proc role f.of_line.its_role f.get.at n call)
+  stands = sym (call_stands p cast s j.of nodes f.get.proc role f.of_line.its_role f.get.at n call)
 
   low_call : call.call < length (calls_of here f.get.proc)
   low_call = subst (λ k. call.call < k) (length-map (calls_of here f.get.proc) is_fence) call.within
 
-  -- it has its reply where each has a node of its own
-  replied : (reply : Reply) × (slice_get (slice_index_or (plain_ends s).rows f.get.proc []) call.call ≡ Some (Replied reply))
-  replied = has_reply p all.replied at.0 selection s at.1 reads f.get.proc call.call within low_call
-
+  -- it happens where each has a node of its own
   done_here : IsDone (plain_end here) f.get
-  done_here =
-      let r = row_to here settled_here f.get.proc call.call f.get.at (GetNow owner key) within stands kind_here refl replied.0 replied.1 in
-      replied_done here settled_here f.get r.0 r.1
+  done_here = j.happens f.get f.is_live
 
   -- and so on these nodes
   abbrev said : (b : Answer) × (plain_reply third f.get ≡ Some b)
@@ -211,7 +147,7 @@ module _ (p : Pattern) (all : IsAllAnswered p) (role n : ℕ) (status : Status)
   on_these : (q : ℕ) → q < process_count third → node_of i.other q ≡ node_of third q
   on_these q lt =
       let t = third_count in let h = here_count in
-      instance_there p cast s of nodes q (omega (arith, lt, t, h)) ∙ sym (node_moved s s.nodes nodes q (omega (arith, lt, t)))
+      instance_there p cast s j.of nodes q (omega (arith, lt, t, h)) ∙ sym (node_moved s s.nodes nodes q (omega (arith, lt, t)))
 
   -- with the status
   status_is : status_of said.0 ≡ status
@@ -247,12 +183,12 @@ module _ (p : Pattern) (all : IsAllAnswered p) (role n : ℕ) (status : Status)
     line = call.line;
     same = call.same;
     answers = record {
-      number = at.0;
-      selection = selection;
-      is = at.1;
+      number = j.number;
+      selection = j.selection;
+      is = j.is;
       answers = record {
         scripts = s;
-        reads = reads;
+        reads = j.reads;
         names = s.nodes;
         nodes = nodes;
         answered = record {

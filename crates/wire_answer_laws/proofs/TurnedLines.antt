@@ -1,17 +1,17 @@
--- Each call of an instance is a line in a turn, and has the number of that line; and a line that has a call in one
--- instance has one in each that takes some turn of each loop in which that takes one.
-use Rattle.std.proofs.Common.{◌≡◌, ◌∙◌, ap, refl, ℕ, suc, ◌+◌, ◌<◌, List, [], ◌∷◌, ◌++◌, map, flat_map, length, Bool, true, inl, inr}
-use Rattle.std.specs.Prelude.{slice_get, ◌&&◌, nat_lt}
+-- Each call of an instance is a line in a turn, and has the number of that line; and calls whose lines have one number
+-- are of one line.
+use Rattle.std.proofs.Common.{◌≡◌, ◌∙◌, ap, sym, refl, ℕ, suc, ◌+◌, List, [], ◌∷◌, ◌++◌, map, flat_map, length, Some, inl, inr, arith}
+use Rattle.std.specs.Prelude.{slice_get}
 use Rattle.std.specs.List.{range_with_len}
-use Rattle.std.proofs.lemmas.Bool.{and_parts, ltb-true}
 use Rattle.std.proofs.lemmas.List.{map-append}
+use Rattle.std.proofs.lemmas.Option.{same_Some}
 use Rattle.wire_runs.specs.Patterns as plan
-use Rattle.wire_runs.specs.Patterns.{Turns, turns}
-use Rattle.wire_pattern.specs.Pattern.{Line, Step, Once, Loop, Pattern}
+use Rattle.wire_runs.specs.Patterns.{turns}
+use Rattle.wire_runs.proofs.Lists.{slice_get-append_kept, slice_get-append_right}
+use Rattle.wire_pattern.specs.Pattern.{Line, Step, Once, Loop}
 use Rattle.wire_pattern.specs.Instances.{Cast, cast_of}
-use Rattle.wire_pattern.specs.Lawful.{waits_after_step, is_sound_step, are_sound_steps}
 use Rattle.wire_instance_laws.proofs.Made.{Turned, in_turn, in_turns, in_step, in_steps}
-use Rattle.wire_cutoff.proofs.Members.{In, in_left, in_right, in_parts, in_flat, flat_in}
+use Rattle.wire_cutoff.proofs.Members.{In, in_parts, flat_in}
 use Rattle.wire_pattern_waits.specs.Places.{line_count, step_places, steps_places}
 
 -- the number of a line, and the line in a turn
@@ -79,38 +79,67 @@ turned_are cast v i n (step ∷ steps) =
     map-append turned_of (step_lines cast v i n step) (script_lines cast v (suc i) (n + line_count step) steps)
     ∙ (λ j. step_turned cast v i n step j ++ turned_are cast v (suc i) (n + line_count step) steps j)
 
--- in another turn
-abbrev pub in_other : ℕ → NumberedLine → NumberedLine
-in_other e x = (x.0, in_turn e x.1.1)
+-- the lines of a script, those in loops too
+abbrev lines_in : Step → List Line
+lines_in (Once line) = line ∷ []
+lines_in (Loop number role mode lines) = lines
 
-turn_kept : (n e f : ℕ) (lines : List Line) (x : NumberedLine) → In x (turn_lines n e lines) → In (in_other f x) (turn_lines n f lines)
-turn_kept n e f [] x h = absurd h
-turn_kept n e f (line ∷ lines) x (inl is) = inl (ap (in_other f) is)
-turn_kept n e f (line ∷ lines) x (inr h) = inr (turn_kept (n + 1) e f lines x h)
+abbrev lines_of : List Step → List Line
+lines_of [] = []
+lines_of (step ∷ steps) = lines_in step ++ lines_of steps
 
--- the calls of w, where each loop of which v takes a turn takes some turn
-module _ (p : Pattern) (caller : ℕ) (cast other : plan.Cast) (v w : ℕ)
-    (some : (i role e : ℕ) (mode : Turns) → role < length p.roles → In e (turns cast v i role mode) → (f : ℕ) × In f (turns other w i role mode)) where
-  step_kept : (i n : ℕ) (waits : Bool) (step : Step) (x : NumberedLine) → is_sound_step (length p.jobs) p.roles caller waits step ≡ true
-      → In x (step_lines cast v i n step) → (f : ℕ) × In (in_other f x) (step_lines other w i n step)
-  step_kept i n waits (Once line) x sound (inl is) = (w, inl (ap (in_other w) is))
-  step_kept i n waits (Once line) x sound (inr h) = absurd h
-  step_kept i n waits (Loop number role mode lines) x sound h =
-      let e = flat_in (λ (e : ℕ). turn_lines n e lines) x (turns cast v i role mode) h in
-      let over = and_parts (nat_lt role (length p.roles)) _ sound in
-      let f = some i role e.0 mode (ltb-true role (length p.roles) over.0) e.1 in
-      (f.0, in_flat (λ (e : ℕ). turn_lines n e lines) f.0 (in_other f.0 x) (turns other w i role mode) f.1 (turn_kept n e.0 f.0 lines x e.2))
+counted : (step : Step) → line_count step ≡ length (lines_in step)
+counted (Once line) = refl
+counted (Loop number role mode lines) = refl
 
-  pub line_kept : (i n : ℕ) (waits : Bool) (steps : List Step) (x : NumberedLine) → are_sound_steps (length p.jobs) p.roles caller waits steps ≡ true
-      → In x (script_lines cast v i n steps) → (f : ℕ) × In (in_other f x) (script_lines other w i n steps)
-  line_kept i n waits [] x sound h = absurd h
-  line_kept i n waits (step ∷ steps) x sound h =
-      let both = and_parts (is_sound_step (length p.jobs) p.roles caller waits step) _ sound in
-      elim (in_parts x (step_lines cast v i n step) (script_lines cast v (suc i) (n + line_count step) steps) h) [
-        | inl here ↦
-            let k = step_kept i n waits step x both.0 here in
-            (k.0, in_left (in_other k.0 x) (step_lines other w i n step) (script_lines other w (suc i) (n + line_count step) steps) k.1)
-        | inr later ↦
-            let k = line_kept (suc i) (n + line_count step) (waits_after_step waits step) steps x both.1 later in
-            (k.0, in_right (in_other k.0 x) (step_lines other w i n step) (script_lines other w (suc i) (n + line_count step) steps) k.1)
-      ]
+-- the line with the number n + k is that at place k
+record StandsAt (n : ℕ) (lines : List Line) (x : NumberedLine) : Type 0 where
+  pub place : ℕ
+  pub number : x.0 ≡ n + place
+  pub at : slice_get lines place ≡ Some x.1.1
+
+in_turn_at : (n e : ℕ) (lines : List Line) (x : NumberedLine) → In x (turn_lines n e lines) → StandsAt n lines x
+in_turn_at n e [] x h = absurd h
+in_turn_at n e (line ∷ lines) x (inl is) =
+    let first : n ≡ x.0 = ap number_of is in
+    record { place = 0; number = omega (arith, first); at = ap (λ (y : NumberedLine). Some y.1.1) is }
+in_turn_at n e (line ∷ lines) x (inr h) =
+    let k = in_turn_at (n + 1) e lines x h in
+    record { place = suc k.place; number = (let next = k.number in omega (arith, next)); at = k.at }
+
+in_step_at : (cast : plan.Cast) (v i n : ℕ) (step : Step) (x : NumberedLine) → In x (step_lines cast v i n step) → StandsAt n (lines_in step) x
+in_step_at cast v i n (Once line) x (inl is) =
+    let first : n ≡ x.0 = ap number_of is in
+    record { place = 0; number = omega (arith, first); at = ap (λ (y : NumberedLine). Some y.1.1) is }
+in_step_at cast v i n (Once line) x (inr h) = absurd h
+in_step_at cast v i n (Loop number role mode lines) x h =
+    let e = flat_in (λ (e : ℕ). turn_lines n e lines) x (turns cast v i role mode) h in in_turn_at n e.0 lines x e.2
+
+in_script_at : (cast : plan.Cast) (v i n : ℕ) (steps : List Step) (x : NumberedLine) → In x (script_lines cast v i n steps) → StandsAt n (lines_of steps) x
+in_script_at cast v i n [] x h = absurd h
+in_script_at cast v i n (step ∷ steps) x h =
+    elim (in_parts x (step_lines cast v i n step) (script_lines cast v (suc i) (n + line_count step) steps) h) [
+      | inl here ↦
+          let k = in_step_at cast v i n step x here in
+          record { place = k.place; number = k.number; at = slice_get-append_kept (lines_in step) (lines_of steps) k.place x.1.1 k.at }
+      | inr later ↦
+          let k = in_script_at cast v (suc i) (n + line_count step) steps x later in
+          let count = counted step in
+          let number = k.number in
+          record {
+            place = length (lines_in step) + k.place;
+            number = omega (arith, number, count);
+            at = slice_get-append_right (lines_in step) (lines_of steps) k.place ∙ k.at;
+          }
+    ]
+
+-- calls of any two processes whose lines have one number are of one line
+pub one_line : (cast other : plan.Cast) (v w : ℕ) (steps : List Step) (x y : NumberedLine) → In x (script_lines cast v 0 1 steps)
+    → In y (script_lines other w 0 1 steps) → x.0 ≡ y.0 → x.1.1 ≡ y.1.1
+one_line cast other v w steps x y of_x of_y same =
+    let a = in_script_at cast v 0 1 steps x of_x in
+    let b = in_script_at other w 0 1 steps y of_y in
+    let number_a = a.number in
+    let number_b = b.number in
+    let place : a.place ≡ b.place = omega (arith, number_a, number_b, same) in
+    same_Some x.1.1 y.1.1 (sym a.at ∙ ap (slice_get (lines_of steps)) place ∙ b.at)

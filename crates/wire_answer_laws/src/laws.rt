@@ -1,9 +1,16 @@
-//! The law of answers for every number of processes. It is the contract of a function that does nothing.
+//! The laws of answers for every number of processes. Each is the contract of a function that does nothing.
 
-ghost use Rattle.wire_answer_laws.specs.AnySize.{AnswersOfSmall};
+ghost use Rattle.wire_answer_laws.specs.AnySize.{AnswersOfSmall, RepliedStandTold};
 
-/// Where nothing is found and no call waits: with whatever status a get-now is answered in an instance of any size, on
-/// any nodes, one of its line is answered in an instance that is judged.
+/// Where nothing is found, and in the instances that are judged each lookup-wait at which a process stands in the end is
+/// of a name that is published once and never taken away: with whatever status a get-now is answered in an instance of
+/// any size, on any nodes, one of its line is answered in an instance that is judged.
 pub fn answers_of_small()
     ensures { AnswersOfSmall }
+{}
+
+/// Where each call of the instances that are judged has its reply, no process of them stands at a lookup-wait.
+#[tactic(auto, using(crate::proofs::Replied::replied_stand_told))]
+pub fn replied_stand_told()
+    ensures { RepliedStandTold }
 {}
