@@ -78,11 +78,11 @@ class Reading(unittest.TestCase):
 
     def test_promises(self) -> None:
         said = {it: say_promise(take(it)) for it in (SAID, EVERY, NONE)}
-        by_call = "by 1 call (wire_up check --portable)"
+        by_call = "(by 1 call: check --portable)"
         promise = "if it keeps axioms, each run does as the rules say"
-        self.assertEqual(f"On OpenPMIx 5.0 and 7.0, {promise}; on no other, {by_call}.", said[SAID])
+        self.assertEqual(f"On OpenPMIx 5.0 and 7.0, {promise}, on no other {by_call}.", said[SAID])
         self.assertEqual(f"On OpenPMIx 4.2, 5.0 and 7.0, {promise}.", said[EVERY])
-        none = f"The plan is portable for no library that is known, {by_call}."
+        none = f"The plan is portable for no known library {by_call}."
         self.assertEqual(none, said[NONE])
 
     def test_asks(self) -> None:

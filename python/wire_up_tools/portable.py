@@ -99,8 +99,9 @@ def say_portable(portable: Portable) -> str:
 
 def say_promise(portable: Portable) -> str:
     """What that promises, as a sentence."""
-    listed, of_calls = list_libraries(portable), say_calls(portable)
+    listed, count = list_libraries(portable), len({str(it) for it in portable.calls})
+    of_calls = f"(by {count} call{'s' * (count != 1)}: check {OPTION})"
     if not listed:
-        return f"The plan is portable for no library that is known, {of_calls}."
-    others = f"; on no other, {of_calls}" if portable.calls else ""
+        return f"The plan is portable for no known library {of_calls}."
+    others = f", on no other {of_calls}" if portable.calls else ""
     return f"On {listed}, if it keeps axioms, each run does as the rules say{others}."
