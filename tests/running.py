@@ -21,7 +21,7 @@ FAULTS = (
 ).split()
 USAGE = (b"Usage: wire_up",)
 # What is said of words that are known, but don't go together.
-WORKERS_MISUSED = b"wire_up: usage --workers: its COUNT is a number\n"
+WORKERS_MISUSED = b"wire_up: usage --workers\n"
 SAME_MISUSED = b"wire_up: usage --same: it needs --anywhere\n"
 PATTERN_MISUSED = (
     b"wire_up: usage --pattern: --answers and --complete need it;"

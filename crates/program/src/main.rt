@@ -36,7 +36,7 @@ use wire_types::{Fault, FromRead, ToWrite, write_out};
 const USAGE: u8 = 5;
 
 /// What is told of words that are known, but don't go together.
-const WORKERS_MISUSED: &str = "wire_up: usage --workers: its COUNT is a number";
+const WORKERS_MISUSED: &str = "wire_up: usage --workers";
 
 const SAME_MISUSED: &str = "wire_up: usage --same: it needs --anywhere";
 
