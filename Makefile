@@ -66,21 +66,21 @@ edits:
 # Random and damaged files, for so many minutes: `make soak MINUTES=60`, and `SEED=1` for the same
 # files again.
 soak:
-	@PYTHONPATH=tests:python python3 -m build.soak --minutes $(or $(MINUTES),1) $(if $(SEED),--seed $(SEED))
+	@python3 -m build.soak --minutes $(or $(MINUTES),1) $(if $(SEED),--seed $(SEED))
 
 # The same of patterns whose calls wait for each other, with plans of them at larger sizes.
 waits:
-	@PYTHONPATH=tests:python python3 -m build.soak --waits --minutes $(or $(MINUTES),1) \
+	@python3 -m build.soak --waits --minutes $(or $(MINUTES),1) \
 		$(if $(SEED),--seed $(SEED))
 
 # Random patterns that are expanded, inferred from their plans, and judged again.
 inferred:
-	@PYTHONPATH=tests:python python3 -m build.soak --inferred --minutes $(or $(MINUTES),1) \
+	@python3 -m build.soak --inferred --minutes $(or $(MINUTES),1) \
 		$(if $(SEED),--seed $(SEED))
 
 # Small random plans, beside all that libraries may do with them.
 portable:
-	@PYTHONPATH=tests:python python3 -m build.soak --portable --minutes $(or $(MINUTES),1) \
+	@python3 -m build.soak --portable --minutes $(or $(MINUTES),1) \
 		$(if $(SEED),--seed $(SEED))
 
 # Times ./wire_up on files near the limits, beside the unproved program of build/plain, where there is
@@ -146,7 +146,7 @@ record/record-mpi.so: $(RECORD_MPI) record/record.h $(wildcard record/mpi/*.h)
 # Records MPICH's test suite, or some parts of it: `make record-suite PARTS="pt2pt f77/coll"`; with
 # TURN=1 turns the orders round of programs that call PMIx.
 record-suite:
-	@PYTHONPATH=tests python3 -m build.record_suite "$(PROGRAM)" --parts $(PARTS) \
+	@python3 -m build.record_suite "$(PROGRAM)" --parts $(PARTS) \
 		$(if $(ROOM),--room "$(ROOM)") $(if $(SECONDS),--seconds $(SECONDS)) $(if $(JOBS),--jobs $(JOBS)) \
 		$(if $(TURN),--turn)
 

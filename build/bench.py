@@ -75,7 +75,7 @@ class Bench:
     """The rows of the tables, as they are measured."""
 
     def __init__(self, args: argparse.Namespace, room: str) -> None:
-        self.programs = [os.path.abspath(it) for it in (args.program, args.beside) if it]
+        self.programs = [os.path.abspath(item) for item in (args.program, args.beside) if item]
         self.room, self.runs, self.is_small = room, args.runs, args.small
 
     def file_of(self, kind: Kind, share: int) -> tuple[str, str]:
@@ -85,21 +85,23 @@ class Bench:
             ranks, rounds = min(kind.ranks, SMALL_RANKS), SMALL_ROUNDS
         text = kind.text(ranks, rounds)
         path = os.path.join(self.room, f"{kind.name}-{share}.plan")
-        with open(path, "w", encoding="ascii") as it:
-            it.write(text)
+        with open(path, "w", encoding="ascii") as file:
+            file.write(text)
         return path, text
 
     def tell_file(self, kind: Kind) -> None:
         """Prints a row of the table of files."""
         path, text = self.file_of(kind, WHOLE)
         numbers = len(text), calls_in(text), findings_in([self.programs[0], "check", path])
-        told = " | ".join(f"{it:,}" for it in numbers)
+        told = " | ".join(f"{number:,}" for number in numbers)
         print(f"| {kind.name} | {kind.what} | {told} |", flush=True)
 
     def tell_times(self, kind: Kind, commands: Sequence[Timed]) -> None:
         """Prints a row of a table of times."""
-        paths = [self.file_of(kind, it)[0] for it in (QUARTER, WHOLE)]
-        small, large = (best_of(self.runs, [it(path) for it in commands]) for path in paths)
+        paths = [self.file_of(kind, number)[0] for number in (QUARTER, WHOLE)]
+        small, large = (
+            best_of(self.runs, [command(path) for command in commands]) for path in paths
+        )
         least, first = floor(), large[0]
         cells = [kind.name, milliseconds(small[0]), milliseconds(first)]
         cells += [f"{first.seconds / small[0].seconds:.1f}", mebibytes(first, least)]
@@ -126,15 +128,17 @@ class Bench:
         runs = [Command([PARTS, "plain"], path), Command([PARTS, "workers"], path)]
         for workers in ("1", "2", "4"):
             runs.append(Command([self.programs[0], "replay", path, "--workers", workers], path))
-        took = [[run(it).seconds for it in runs] for _ in range(self.runs)]
-        least = [1000 * min(it) for it in zip(*took)]
-        cells = [kind.name, *(f"{it:.1f}" for it in least), f"{least[2] / least[0]:.1f}"]
+        took = [[run(each_run).seconds for each_run in runs] for _ in range(self.runs)]
+        least = [1000 * min(pair) for pair in zip(*took)]
+        cells = [kind.name, *(f"{item:.1f}" for item in least), f"{least[2] / least[0]:.1f}"]
         print(f"| {' | '.join(cells)} |", flush=True)
 
     def tell_command(self, kinds: Sequence[Kind], words: Sequence[str]) -> None:
         """Prints the table of a command."""
-        programs = [it for it in self.programs if has_options(it, words)]
-        self.tell_table(f"`{' '.join(words)}`", kinds, [command_of(it, words) for it in programs])
+        programs = [program for program in self.programs if has_options(program, words)]
+        self.tell_table(
+            f"`{' '.join(words)}`", kinds, [command_of(program, words) for program in programs]
+        )
 
     def tell_all(self, kinds: Sequence[Kind]) -> None:
         """Prints all tables."""
@@ -144,11 +148,11 @@ class Bench:
         for words in COMMANDS:
             self.tell_command(kinds, words)
         last = str(SMALL_RANKS - 1) if self.is_small else "255"
-        question = [it.replace("255", last) for it in QUESTION]
-        self.tell_command([it for it in kinds if it.name in WHY], question)
-        others = [it for it in self.programs[1:] if has_options(it, ["replay"])]
-        older = [it for it in others if not has_options(it, ["replay", "--workers"])]
-        commands = [plain_run, *(command_of(it, ["replay"]) for it in older)]
+        question = [text.replace("255", last) for text in QUESTION]
+        self.tell_command([each_kind for each_kind in kinds if each_kind.name in WHY], question)
+        others = [program for program in self.programs[1:] if has_options(program, ["replay"])]
+        older = [other for other in others if not has_options(other, ["replay", "--workers"])]
+        commands = [plain_run, *(command_of(item, ["replay"]) for item in older)]
         self.tell_table("A plain run, which an earlier program has as `replay`", kinds, commands)
         print(
             "\nA plain run, one worker over a locked core, and `replay` by workers, in"
@@ -191,7 +195,7 @@ def main() -> int:
     if not build_parts():
         sys.exit("crates/one_function can't be built: out/parts.log says why")
     with tempfile.TemporaryDirectory(prefix="wire-up-") as room:
-        Bench(args, room).tell_all([it for it in KINDS if args.only in it.name])
+        Bench(args, room).tell_all([kind for kind in KINDS if args.only in kind.name])
     return 0
 
 

@@ -43,7 +43,7 @@ def exchange(ranks: int, gets: int) -> str:
     scripts = []
     for number in range(ranks):
         others = ((number + step) % ranks for step in range(1, gets + 1))
-        asked = "".join(f"get-now app:{it} card\n" for it in others)
+        asked = "".join(f"get-now app:{each_number} card\n" for each_number in others)
         scripts.append(f"put global card c{number}\ncommit\n{MEET}{asked}")
     return TWO_NODES + ranks_of(by_turns, scripts)
 
@@ -57,7 +57,7 @@ def ring_fences(ranks: int, rounds: int) -> str:
     for number in range(ranks):
         pairs = [(number, (number + 1) % ranks), ((number - 1) % ranks, number)]
         pairs = pairs if number % 2 == 0 else pairs[::-1]
-        met = "".join(f"fence app:{min(it)},app:{max(it)} collect\n" for it in pairs)
+        met = "".join(f"fence app:{min(pair)},app:{max(pair)} collect\n" for pair in pairs)
         scripts.append(met * rounds)
     return TWO_NODES + ranks_of(by_turns, scripts)
 
@@ -71,7 +71,10 @@ def falling_chain(ranks: int, rounds: int) -> str:
             waits = f"get app:0 r{turn - 1}\n"
         return f"{waits}put global r{turn} v\ncommit\n"
 
-    scripts = ["".join(turn_of(it, turn) for turn in range(rounds)) for it in range(ranks)]
+    scripts = [
+        "".join(turn_of(each_number, turn) for turn in range(rounds))
+        for each_number in range(ranks)
+    ]
     return TWO_NODES + ranks_of(by_turns, scripts)
 
 

@@ -41,7 +41,7 @@ class Checker:
 
 
 CHECKERS = (
-    Checker("mypy", ("mypy", "--strict", "--scripts-are-modules", *PYTHON), ("mypy",)),
+    Checker("mypy", ("mypy", *PYTHON), ("mypy",)),
     Checker("flake8", ("flake8", *PYTHON), ("flake8",)),
     Checker("lint-c", ("make", "-s", "lint-c"), (LINT_C, "cc", "make")),
 )
@@ -50,7 +50,7 @@ CHECKERS = (
 def run_checker(checker: Checker) -> Counts:
     """Whether a checker finds nothing. Nothing is counted where it, or a part of what it checks, is
     left out."""
-    lacking = [it for it in checker.needs if not shutil.which(it)]
+    lacking = [text for text in checker.needs if not shutil.which(text)]
     if lacking:
         print(f"{checker.name}: {LEFT_OUT} there is no {', '.join(lacking)}", flush=True)
         return Counts()
@@ -67,14 +67,14 @@ def run_checker(checker: Checker) -> Counts:
     if ran.returncode:
         print(f"{ran.stdout}{checker.name}: failed", flush=True)
         return Counts(0, 1)
-    left_out = [it for it in ran.stdout.splitlines() if it.startswith(LEFT_OUT)]
-    print(*(f"{checker.name}: {it}" for it in left_out or ["1 passed"]), sep="\n", flush=True)
+    left_out = [line for line in ran.stdout.splitlines() if line.startswith(LEFT_OUT)]
+    print(*(f"{checker.name}: {word}" for word in left_out or ["1 passed"]), sep="\n", flush=True)
     return Counts(0 if left_out else 1, 0)
 
 
 def run_checkers() -> Counts:
     """What all checkers find."""
-    return summed(run_checker(it) for it in CHECKERS)
+    return summed(run_checker(checker) for checker in CHECKERS)
 
 
 if __name__ == "__main__":

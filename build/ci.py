@@ -53,8 +53,8 @@ def reasons(log: str) -> str:
     last lines."""
     block: list[str] = []
     told: list[str] = []
-    with open(log, encoding="utf-8", errors="replace") as it:
-        for line in it:
+    with open(log, encoding="utf-8", errors="replace") as file:
+        for line in file:
             judged = JUDGED.match(line)
             if judged and judged[3] == NOT_PROVED:
                 told += [*block[-logs.TAIL:], line]

@@ -45,19 +45,19 @@ class Spent:
 def process_of(number: str) -> Process | None:
     """What the system knows of a process; nothing where it has ended."""
     try:
-        with open(f"/proc/{number}/stat", encoding="utf-8", errors="replace") as it:
-            fields = it.read().rpartition(")")[2].split()
-        with open(f"/proc/{number}/cmdline", encoding="utf-8", errors="replace") as it:
-            words = it.read().split("\0")
+        with open(f"/proc/{number}/stat", encoding="utf-8", errors="replace") as file:
+            fields = file.read().rpartition(")")[2].split()
+        with open(f"/proc/{number}/cmdline", encoding="utf-8", errors="replace") as each_file:
+            words = each_file.read().split("\0")
     except OSError:
         return None
-    return Process(fields[1], words, fields[19], sum(int(it) for it in fields[11:15]) / TICKS)
+    return Process(fields[1], words, fields[19], sum(int(field) for field in fields[11:15]) / TICKS)
 
 
 def processes() -> dict[str, Process]:
     """All processes, by their numbers."""
-    found = {it: process_of(it) for it in os.listdir("/proc") if it.isdigit()}
-    return {number: it for number, it in found.items() if it}
+    found = {name: process_of(name) for name in os.listdir("/proc") if name.isdigit()}
+    return {number: process for number, process in found.items() if process}
 
 
 def kind_of(words: Sequence[str]) -> str:
@@ -112,11 +112,15 @@ class Costs:
         """Notes what each process of the prover that was started here has used. Copies that one
         makes of itself are part of it."""
         found = processes()
-        for number, it in found.items():
-            if "--crate-name" in it.words and is_below(found, it) and not is_copy(found, it):
-                crate = it.words[it.words.index("--crate-name") + 1]
-                kind = self.phase or kind_of(it.words)
-                self.spent[Spent(number, it.began, crate, kind)] = it.seconds
+        for number, process in found.items():
+            if (
+                "--crate-name" in process.words
+                and is_below(found, process)
+                and not is_copy(found, process)
+            ):
+                crate = process.words[process.words.index("--crate-name") + 1]
+                kind = self.phase or kind_of(process.words)
+                self.spent[Spent(number, process.began, crate, kind)] = process.seconds
 
     def whole(self) -> float:
         """All that was used since this was made, in seconds."""
@@ -124,7 +128,7 @@ class Costs:
 
     def rows(self, crates: Iterable[str]) -> dict[str, dict[str, float]]:
         """The seconds of each crate, by kind."""
-        table: dict[str, dict[str, float]] = {it: dict.fromkeys(KINDS, 0.0) for it in crates}
+        table: dict[str, dict[str, float]] = {crate: dict.fromkeys(KINDS, 0.0) for crate in crates}
         for spent, seconds in self.spent.items():
             if spent.crate in table:
                 table[spent.crate][spent.kind] += seconds
@@ -134,10 +138,10 @@ class Costs:
         """The table, in whole seconds, and the sum in minutes. `others` has the seconds of what
         else was done, by name."""
         table = self.rows(crates)
-        sums = [sum(row[it] for row in table.values()) for it in KINDS]
+        sums = [sum(row[kind] for row in table.values()) for kind in KINDS]
         lines = [f"| crate | {' | '.join(KINDS)} |", f"|---|{'---|' * len(KINDS)}"]
         lines += [f"| `{crate}` | {cells_of(row)} |" for crate, row in table.items()]
-        lines.append(f"| together | {' | '.join(f'{it:.0f}' for it in sums)} |")
+        lines.append(f"| together | {' | '.join(f'{each_sum:.0f}' for each_sum in sums)} |")
         lines += ["", "| what else | seconds |", "|---|---|"]
         lines += [f"| {name} | {seconds:.0f} |" for name, seconds in others.items()]
         whole = self.whole()
@@ -147,4 +151,4 @@ class Costs:
 
 def cells_of(row: Mapping[str, float]) -> str:
     """The cells of a crate's row; an empty one for what took less than half a second."""
-    return " | ".join(f"{row[it]:.0f}" if row[it] >= 0.5 else "" for it in KINDS)
+    return " | ".join(f"{row[kind]:.0f}" if row[kind] >= 0.5 else "" for kind in KINDS)

@@ -31,7 +31,7 @@ class Ran:
         """What is told again of what failed."""
         if not self.counts.failed:
             return []
-        lines = [f"  {it[:WIDTH]}" for it in self.said.splitlines()[-LINES:]]
+        lines = [f"  {line[:WIDTH]}" for line in self.said.splitlines()[-LINES:]]
         return [f"{self.name}: {self.counts.failed} failed", *lines]
 
 
@@ -58,4 +58,4 @@ def run_counted(name: str, words: Sequence[str], settings: Mapping[str, str]) ->
     if counts is None:
         said = f"{ran.stdout}ended with status {ran.returncode}, and without counts\n"
         return Ran(name, said, Counts(0, 1))
-    return Ran(name, "".join(f"{it}\n" for it in lines if it), counts)
+    return Ran(name, "".join(f"{line}\n" for line in lines if line), counts)

@@ -6,8 +6,8 @@ from build.places import TOP
 
 def uses_at(top: str) -> dict[str, list[str]]:
     """The crates and libraries that each crate uses, by its name."""
-    with open(os.path.join(top, "crates.txt"), encoding="utf-8") as it:
-        lines = [line.partition("#")[0].partition(":") for line in it]
+    with open(os.path.join(top, "crates.txt"), encoding="utf-8") as file:
+        lines = [line.partition("#")[0].partition(":") for line in file]
     return {left.split()[0]: right.split() for left, _, right in lines if left.strip()}
 
 

@@ -39,7 +39,7 @@ def look_once() -> Iterator[dict[str, Looks]]:
 def looks_of(folder: str) -> Looks:
     """The path, the times and the size of each file of a crate."""
     found = [(path, os.stat(path)) for path in kit.files_of(folder)]
-    return [(path, it.st_mtime_ns, it.st_ctime_ns, it.st_size) for path, it in found]
+    return [(path, item.st_mtime_ns, item.st_ctime_ns, item.st_size) for path, item in found]
 
 
 class Crate(kit.KitCrate):
@@ -68,7 +68,9 @@ class Crate(kit.KitCrate):
             looks = seen.setdefault(self.folder, looks_of(self.folder))
             if self.known_own[0] != looks:
                 uses = [self.of_kit, [dep.name for dep in self.deps]]
-                files = [(os.path.relpath(it[0], self.folder), kit.sum_of(it[0])) for it in looks]
+                files = [
+                    (os.path.relpath(pair[0], self.folder), kit.sum_of(pair[0])) for pair in looks
+                ]
                 made_from = repr([kit.identity(), uses, files])
                 self.known_own = looks, hashlib.sha256(made_from.encode()).hexdigest()
         return self.known_own[1]
@@ -78,10 +80,10 @@ class Crate(kit.KitCrate):
         it, and a sum of all their texts."""
         with look_once() as seen:
             looks = []
-            for it in [self, *self.below()]:
-                if it.folder not in seen:
-                    seen[it.folder] = looks_of(it.folder)
-                looks.append(seen[it.folder])
+            for crate in [self, *self.below()]:
+                if crate.folder not in seen:
+                    seen[crate.folder] = looks_of(crate.folder)
+                looks.append(seen[crate.folder])
             if self.known_stamp[0] != looks:
                 self.known_stamp = looks, super().stamp()
         return self.known_stamp
@@ -100,13 +102,13 @@ def crates_at(top: str, kind: type[AnyCrate]) -> list[AnyCrate]:
         known[folder] = crate
         kit.read_words(crate)
         found.append(crate)
-    return sorted(found, key=lambda it: len(it.below()))
+    return sorted(found, key=lambda item: len(item.below()))
 
 
 def crates_for(name: str, top: str) -> list[Crate]:
     """The crate of this name and all below it, each after those that it uses."""
     wanted = crate_list.names_below(name, top)
-    return [it for it in crates_at(top, Crate) if it.name in wanted]
+    return [crate for crate in crates_at(top, Crate) if crate.name in wanted]
 
 
 def copy_to(room: str, top: str) -> None:
@@ -126,5 +128,5 @@ def locked(crates: Sequence[Crate]) -> Iterator[None]:
     try:
         yield
     finally:
-        for it in held:
-            os.close(it)
+        for number in held:
+            os.close(number)

@@ -98,7 +98,7 @@ def read_crates(text: str) -> list[Crate]:
         elif colon:
             found.append((name, layer, rest.split()))
     own = {name for name, _, _ in found}
-    return [Crate(name, layer, tuple(it for it in uses if it in own))
+    return [Crate(name, layer, tuple(each_text for each_text in uses if each_text in own))
             for name, layer, uses in found]
 
 
@@ -122,16 +122,20 @@ def reach(uses: Uses, name: str) -> set[str]:
 def drawn_uses(crates: Sequence[Crate]) -> dict[str, list[str]]:
     """The uses of each crate that don't follow from its other uses."""
     uses: Uses = {crate.name: crate.uses for crate in crates}
-    implied = {name: set().union(*(reach(uses, it) for it in used)) for name, used in uses.items()}
-    return {name: [it for it in used if it not in implied[name]] for name, used in uses.items()}
+    implied = {
+        name: set().union(*(reach(uses, text) for text in used)) for name, used in uses.items()
+    }
+    return {
+        name: [text for text in used if text not in implied[name]] for name, used in uses.items()
+    }
 
 
 def users_of(uses: Uses) -> dict[str, list[str]]:
     """For each crate those that use it."""
     users: dict[str, list[str]] = {name: [] for name in uses}
     for name, used in uses.items():
-        for it in used:
-            users[it].append(name)
+        for text in used:
+            users[text].append(name)
     return users
 
 
@@ -139,7 +143,7 @@ def lowest_rows(uses: Uses) -> dict[str, int]:
     """The row of each crate, 0 the lowest: right above the highest crate that it uses."""
     rows: dict[str, int] = {}
     for name in uses:
-        rows[name] = 1 + max((rows[it] for it in uses[name]), default=-1)
+        rows[name] = 1 + max((rows[text] for text in uses[name]), default=-1)
     return rows
 
 
@@ -148,7 +152,7 @@ def rows_of(uses: Uses) -> dict[str, int]:
     rows = lowest_rows(uses)
     users = users_of(uses)
     for name in reversed(list(uses)):
-        highest = min((rows[it] for it in users[name]), default=0) - 1
+        highest = min((rows[user] for user in users[name]), default=0) - 1
         is_free = list(rows.values()).count(highest) < MOST_BESIDE
         if is_free and highest > rows[name] and len(users[name]) >= len(uses[name]):
             rows[name] = highest
@@ -171,15 +175,19 @@ def line_between(user: Spot, used: Spot, rows: Sequence[list[Spot]]) -> Line:
 
 def average_place(spot: Spot, places: Mapping[int, int], beside: Sequence[Spot]) -> float:
     """Where a spot stands best: in the middle of those that it is joined with in the next row."""
-    known = [places[id(it)] for it in beside if id(it) in places]
+    known = [places[id(each_spot)] for each_spot in beside if id(each_spot) in places]
     return sum(known) / len(known) if known else places[id(spot)]
 
 
 def sweep_order(rows: Sequence[list[Spot]], is_up: bool) -> None:
     """Puts each row in the order of what is joined with it, from the lowest row up or back."""
     for row in rows if is_up else reversed(rows):
-        places = {id(it): place for other in rows for place, it in enumerate(other)}
-        row.sort(key=lambda it: average_place(it, places, it.below if is_up else it.above))
+        places = {id(spot): place for other in rows for place, spot in enumerate(other)}
+        row.sort(
+            key=lambda each_spot: average_place(
+                each_spot, places, each_spot.below if is_up else each_spot.above
+            )
+        )
 
 
 def put_in_order(rows: Sequence[list[Spot]]) -> None:
@@ -223,9 +231,14 @@ def place_evenly(rows: Iterable[list[Spot]]) -> None:
 def draw_near(rows: Iterable[list[Spot]]) -> None:
     """Moves each spot towards the middle of all that it is joined with, row by row."""
     for row in rows:
-        joined = [it.below + it.above for it in row]
-        spread(row, [sum(it.middle for it in near) / len(near) if near else spot.middle
-                     for spot, near in zip(row, joined)])
+        joined = [each_spot.below + each_spot.above for each_spot in row]
+        spread(
+            row,
+            [
+                sum(other_spot.middle for other_spot in near) / len(near) if near else spot.middle
+                for spot, near in zip(row, joined)
+            ],
+        )
 
 
 def place_all(rows: Sequence[list[Spot]]) -> None:
@@ -243,7 +256,7 @@ def lay_out(crates: Sequence[Crate]) -> Picture:
     boxes = {crate.name: Spot(crate.name, numbers[crate.name]) for crate in crates}
     for box in boxes.values():
         rows[box.row].append(box)
-    lines = [line_between(boxes[name], boxes[it], rows) for name in uses for it in uses[name]]
+    lines = [line_between(boxes[name], boxes[text], rows) for name in uses for text in uses[name]]
     put_in_order(rows)
     place_all(rows)
     return Picture(tuple(tuple(row) for row in rows), tuple(lines))

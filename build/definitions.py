@@ -50,7 +50,7 @@ class Item:
     text: str
 
     def lines(self) -> int:
-        return len([it for it in self.text.splitlines() if it.strip()])
+        return len([line for line in self.text.splitlines() if line.strip()])
 
 
 @dataclass(frozen=True)
@@ -65,12 +65,12 @@ class File:
 def taken_in(text: str) -> dict[str, tuple[str, str]]:
     """What the lines of a file take."""
     found = {}
-    for it in USED.finditer(text):
-        path = it["path"].replace("::", ".").removeprefix("Rattle.")
+    for hit in USED.finditer(text):
+        path = hit["path"].replace("::", ".").removeprefix("Rattle.")
         above, _, last = path.rpartition(".")
-        if it["names"] is None:
-            found[it["name"] or last] = (path, "") if ".specs." in path else (above, last)
-        for named in re.sub(r"\w+::\{?", "", it["names"] or "").split(","):
+        if hit["names"] is None:
+            found[hit["name"] or last] = (path, "") if ".specs." in path else (above, last)
+        for named in re.sub(r"\w+::\{?", "", hit["names"] or "").split(","):
             name, _, other = named.strip().partition(" as ")
             found[other or name] = path, name
     return found
@@ -110,9 +110,9 @@ def spec_items(path: str, text: str) -> Iterator[Item]:
 def source_items(path: str, text: str, is_function: bool = False) -> Iterator[Item]:
     """The functions of a source file; or its types and traits, and what clauses see of a type. (No
     clause names a function.)"""
-    for it in RUST.finditer(text):
-        if (it["kind"] == "fn") == is_function:
-            yield Item(path, it["name"], COMMENT.sub("", it[0]))
+    for hit in RUST.finditer(text):
+        if (hit["kind"] == "fn") == is_function:
+            yield Item(path, hit["name"], COMMENT.sub("", hit[0]))
 
 
 def constructors(item: Item) -> list[str]:
@@ -125,8 +125,8 @@ def constructors(item: Item) -> list[str]:
 @functools.cache
 def file_at(path: str) -> File:
     """A file, by its path below the folder of all crates."""
-    with open(os.path.join(CRATES, path), encoding="utf-8") as it:
-        text = it.read()
+    with open(os.path.join(CRATES, path), encoding="utf-8") as file:
+        text = file.read()
     items: dict[str, list[Item]] = {}
     for item in spec_items(path, text) if path.endswith(".antt") else source_items(path, text):
         for name in [item.name, *constructors(item)]:
@@ -138,7 +138,7 @@ def file_at(path: str) -> File:
 def files_of(crate: str, name: str) -> list[str]:
     """The source files of a crate with an item of this name."""
     found = sorted(glob.glob(f"{crate}/src/**/*.rt", root_dir=CRATES, recursive=True))
-    return [it for it in found if name in file_at(it).items]
+    return [item for item in found if name in file_at(item).items]
 
 
 def passed_on(crate: str, module: str) -> str:
@@ -147,8 +147,8 @@ def passed_on(crate: str, module: str) -> str:
     path = os.path.join(CRATES, crate, "specs", "Lib.antt")
     if not os.path.exists(path):
         return ""
-    with open(path, encoding="utf-8") as it:
-        found = re.search(rf"^pub use Rattle\.([\w.]+\.{module})$", it.read(), re.M)
+    with open(path, encoding="utf-8") as file:
+        found = re.search(rf"^pub use Rattle\.([\w.]+\.{module})$", file.read(), re.M)
     return found[1] if found else ""
 
 
@@ -180,11 +180,11 @@ def named(path: str, word: str, of: str = "") -> list[Item]:
             wanted = module.removesuffix(".TheVariants").rpartition(".")[2]
         if module.startswith("crate"):
             module = path.partition("/")[0]
-        for it in files_at(module, wanted):
-            other = file_at(it)
+        for file in files_at(module, wanted):
+            other = file_at(file)
             found += other.items.get(wanted, [])
             if wanted in other.taken and not path.endswith(".rt"):
-                found += named(it, wanted)
+                found += named(file, wanted)
     return found
 
 
@@ -211,5 +211,5 @@ def closure_of(items: Iterable[Item]) -> set[Item]:
 
 def functions_in(path: str) -> list[Item]:
     """The functions of a source file."""
-    with open(os.path.join(CRATES, path), encoding="utf-8") as it:
-        return list(source_items(path, it.read(), True))
+    with open(os.path.join(CRATES, path), encoding="utf-8") as file:
+        return list(source_items(path, file.read(), True))

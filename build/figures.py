@@ -75,13 +75,13 @@ class Figures:
     def measure(self, name: str, pieces: Iterable[str], runs: int) -> Measured:
         """Measures `check` in its forms, and `replay`, of a plan of this text."""
         path, calls = os.path.join(self.room, "measured.plan"), 0
-        with open(path, "w", encoding="ascii") as it:
+        with open(path, "w", encoding="ascii") as file:
             for piece in pieces:
-                it.write(piece)
+                file.write(piece)
                 calls += sum(not line.startswith(NO_CALLS) for line in piece.splitlines())
         words = [[self.program, *command, "--large", path] for command in COMMANDS]
-        words += [[it, "check", "--large", path] for it in [self.unproved] if it]
-        taken = best_of(1 if self.is_small else runs, [Command(it) for it in words])
+        words += [[unproved, "check", "--large", path] for unproved in [self.unproved] if unproved]
+        taken = best_of(1 if self.is_small else runs, [Command(word) for word in words])
         findings = findings_in([self.program, "check", "--large", path])
         print(f"{name}: check {taken[0].seconds:.3f} s", file=sys.stderr, flush=True)
         return Measured(name, calls, findings, *taken)
@@ -105,9 +105,9 @@ class Figures:
         """A check of the cards of many ranks, and the report of it with what the checker takes."""
         path = os.path.join(self.room, "cards.plan")
         ranks = SMALL_RANKS if self.is_small else CARDS
-        with open(path, "w", encoding="ascii") as it:
+        with open(path, "w", encoding="ascii") as file:
             words = [sys.executable, os.path.join(TOP, "examples", "cards.py"), "8", str(ranks)]
-            subprocess.run(words, stdout=it, check=True)
+            subprocess.run(words, stdout=file, check=True)
         report = [sys.executable, os.path.join(TOP, "wire_up-report"), "--checker", self.program]
         words = [self.program, "check", "--large", path]
         made = Command([*report, "--large", "-o", os.devnull, path])
@@ -117,24 +117,36 @@ class Figures:
 
 def table(heads: Sequence[str], rows: Iterable[Sequence[str]]) -> str:
     """A table of Markdown."""
-    lines = [" | ".join(it) for it in (heads, ["---"] * len(heads), *rows)]
-    return "".join(f"| {it} |\n" for it in lines)
+    lines = [" | ".join(row) for row in (heads, ["---"] * len(heads), *rows)]
+    return "".join(f"| {line} |\n" for line in lines)
 
 
 def check_rows(measured: Iterable[Measured], least: int) -> Iterator[list[str]]:
     """The rows of `check`, beside the unproved program where there is one. Least is the size of a
     program that does nothing."""
-    for it in measured:
-        row = [it.name, f"{it.calls:,}", f"{it.findings:,}", *told(it.check, least)]
-        yield [*row, *beside(it.check, it.unproved, least)] if it.unproved else row
+    for each_measured in measured:
+        row = [
+            each_measured.name,
+            f"{each_measured.calls:,}",
+            f"{each_measured.findings:,}",
+            *told(each_measured.check, least),
+        ]
+        yield [
+            *row,
+            *beside(each_measured.check, each_measured.unproved, least),
+        ] if each_measured.unproved else row
 
 
 def other_rows(measured: Iterable[Measured], least: int) -> Iterator[list[str]]:
     """The rows of what else was measured."""
-    for it in measured:
-        placed = [seconds(each.seconds) for each in (it.anywhere, it.same)]
-        over = [times(it.replay.seconds, it.unproved.seconds)] if it.unproved else []
-        yield [it.name, *placed, *told(it.replay, least), *over]
+    for each_measured in measured:
+        placed = [seconds(each.seconds) for each in (each_measured.anywhere, each_measured.same)]
+        over = (
+            [times(each_measured.replay.seconds, each_measured.unproved.seconds)]
+            if each_measured.unproved
+            else []
+        )
+        yield [each_measured.name, *placed, *told(each_measured.replay, least), *over]
 
 
 def told(taken: Taken, least: int) -> list[str]:
@@ -159,9 +171,15 @@ def times(much: float, of_what: float) -> str:
 
 def report_rows(check: Taken, report: Taken, least: int) -> Iterator[list[str]]:
     """The rows of a check, and of the report that asks for it."""
-    for name, it in (("check", check), ("wire_up-report", report)):
-        spent, more = f"{it.processor:.1f}", times(it.processor, check.processor)
-        yield [f"`{name} --large`", seconds(it.seconds), spent, more or "0.0", mebibytes(it, least)]
+    for name, taken in (("check", check), ("wire_up-report", report)):
+        spent, more = f"{taken.processor:.1f}", times(taken.processor, check.processor)
+        yield [
+            f"`{name} --large`",
+            seconds(taken.seconds),
+            spent,
+            more or "0.0",
+            mebibytes(taken, least),
+        ]
 
 
 def seconds(taken: float) -> str:
@@ -173,8 +191,8 @@ def seconds(taken: float) -> str:
 def read(path: str) -> str:
     """The text of a file; nothing where there is none."""
     try:
-        with open(path, encoding="utf-8") as it:
-            return it.read()
+        with open(path, encoding="utf-8") as file:
+            return file.read()
     except FileNotFoundError:
         return ""
 
@@ -197,12 +215,12 @@ def commit() -> str:
 def proofs() -> str:
     """What is known of the proofs: the minutes to expect, and what the last gate took."""
     minutes = minutes_of()
-    crates = {it: minutes.get(it, 0) for it in crate_list.names_below(None)}
-    of_program = sum(crates[it] for it in crate_list.names_below("program"))
-    dearest = sorted(crates, key=lambda it: -crates[it])[:DEAREST]
+    crates = {name: minutes.get(name, 0) for name in crate_list.names_below(None)}
+    of_program = sum(crates[name] for name in crate_list.names_below("program"))
+    dearest = sorted(crates, key=lambda crate: -crates[crate])[:DEAREST]
     rows = [["the program and all below it", f"{of_program:.0f}"]]
     rows += [["all crates", f"{sum(crates.values()):.0f}"]]
-    rows += [[f"`{it}`", f"{crates[it]:.1f}"] for it in dearest]
+    rows += [[f"`{crate}`", f"{crates[crate]:.1f}"] for crate in dearest]
     return table(("proof", "minutes of processor time to expect"), rows) + last_gate()
 
 
@@ -212,13 +230,15 @@ def last_gate() -> str:
     sums, whole = ROW.search(said), WHOLE.search(said)
     if not sums or not whole:
         return ""
-    parts = [f"{it} {int(spent) / 60:.0f}" for it, spent in zip(costs.KINDS, sums[1].split(" | "))]
+    parts = [
+        f"{kind} {int(spent) / 60:.0f}" for kind, spent in zip(costs.KINDS, sums[1].split(" | "))
+    ]
     return f"\nThe last gate took {whole[1]} minutes of processor time: {', '.join(parts)}.\n"
 
 
 def tables(measured: Sequence[Measured], least: int) -> str:
     """What was measured, in two tables."""
-    is_beside = any(it.unproved for it in measured)
+    is_beside = any(each_measured.unproved for each_measured in measured)
     checks = table(CHECK + UNPROVED * is_beside, check_rows(measured, least))
     return f"{checks}\n{table(OTHERS + ('times',) * is_beside, other_rows(measured, least))}"
 
@@ -274,8 +294,8 @@ def main() -> int:
         sys.exit(f"{BETWEEN} isn't there: Debian's package time")
     with tempfile.TemporaryDirectory(prefix="wire-up-") as room:
         text = page(Figures(program, room, args.small))
-    with open(f"{args.output}.new", "w", encoding="utf-8") as it:
-        it.write(text)
+    with open(f"{args.output}.new", "w", encoding="utf-8") as file:
+        file.write(text)
     os.replace(f"{args.output}.new", args.output)
     print(shown(args.output))
     return 0

@@ -24,7 +24,7 @@ import traceback
 from collections.abc import Callable, Sequence
 from typing import TextIO
 
-from build import checkers, ci, costs, crate_list, records, test_files
+from build import checkers, ci, costs, crate_list, records
 from build.counted_runs import LINES, WIDTH
 from build.counts import Counts, counted, summed
 from build.crates import Crate, copy_to, crates_at, locked
@@ -35,6 +35,7 @@ from build.logs import log_at
 from build.minutes import minutes_of
 from build.places import BUILT, LOGS, PARTS, TOP, shown
 from build.progress import Progress
+from build.test_runs import Session, run_tests
 
 # What users and tests run, of what `rt ci` builds in the copy.
 KEPT = (BUILT, PARTS)
@@ -75,7 +76,7 @@ class Gate:
         """Runs a part. A part that breaks off, such as by a time limit, is one failure, and the
         others go on."""
         before = costs.used()
-        with contextlib.redirect_stdout(Copied(sys.stdout)) as it:
+        with contextlib.redirect_stdout(Copied(sys.stdout)) as said:
             try:
                 counts = part()
             except Exception:
@@ -83,7 +84,7 @@ class Gate:
                 counts = Counts(0, 1)
         self.seconds[name] = costs.used() - before
         if counts.failed:
-            lines = it.getvalue().splitlines()[-LINES:]
+            lines = said.getvalue().splitlines()[-LINES:]
             self.failures.append(f"{name}: {counts.failed} failed")
             self.failures += [f"  {line[:WIDTH]}" for line in lines]
         self.counts.append(counts)
@@ -110,14 +111,17 @@ class Gate:
             self.counts.append(Counts(0, 1))
 
     def run_tests(self) -> None:
-        """Runs each file of tests."""
-        for file in test_files.test_files():
+        """Runs all tests."""
+        with Progress("tests", minutes_of()["tests"]) as line:
+            log = os.path.join(LOGS, "gate.log")
+            session = Session(False, {"WIRE_UP_PROGRAM": BUILT}, log, line.now)
             before = costs.used()
-            ran = test_files.run_file(file, {"WIRE_UP_PROGRAM": BUILT})
-            self.seconds[file] = costs.used() - before
-            self.counts.append(ran.counts)
-            self.failures += ran.failures()
-            print(ran.whole(), flush=True)
+            for ran in run_tests(session):
+                self.seconds[ran.name] = costs.used() - before
+                self.counts.append(ran.counts)
+                self.failures += ran.failures()
+                line.note(ran.whole())
+                before = costs.used()
 
 
 def prove(room: str) -> Counts:
@@ -139,14 +143,14 @@ def refuse_edits(files: Sequence[EditFile]) -> Counts:
     """Tries all edits over the libraries that `rt ci` built in the copy."""
     with Progress("edits", minutes_of()["edits"]) as line:
         found = list(try_all(files, line.now).values())
-    with open(os.path.join(LOGS, "gate.log"), "a", encoding="utf-8") as it:
-        it.writelines(f"{outcome.text}\n" for outcome in found)
+    with open(os.path.join(LOGS, "gate.log"), "a", encoding="utf-8") as file:
+        file.writelines(f"{outcome.text}\n" for outcome in found)
         for outcome in found:
-            it.write(f"{outcome.seconds:.1f} seconds: {outcome.text.partition(':')[0]}\n")
+            file.write(f"{outcome.seconds:.1f} seconds: {outcome.text.partition(':')[0]}\n")
     for outcome in found:
         if not outcome.is_refused or outcome.is_poor:
             print(outcome.text)
-    counts = counted(it.is_refused for it in found)
+    counts = counted(each_outcome.is_refused for each_outcome in found)
     print(f"edits: {counts}", flush=True)
     return counts
 
@@ -154,11 +158,11 @@ def refuse_edits(files: Sequence[EditFile]) -> Counts:
 def keep_built(room: str) -> bool:
     """Puts what `rt ci` built in the copy where users and tests look for it. Answers whether all of
     it is there."""
-    programs = [it for it in crates_at(TOP, Crate) if records.made_of(it) in KEPT]
+    programs = [crate for crate in crates_at(TOP, Crate) if records.made_of(crate) in KEPT]
     with locked(programs):
-        for it in programs:
-            place = records.made_of(it)
-            records.take_away(it)
+        for program in programs:
+            place = records.made_of(program)
+            records.take_away(program)
             made = os.path.join(room, os.path.relpath(place, TOP))
             if os.path.exists(made):
                 os.makedirs(os.path.dirname(place), exist_ok=True)
@@ -170,8 +174,8 @@ def tell_costs(gate: Gate) -> None:
     """Prints what the gate cost, and keeps it in a file."""
     crates = crate_list.names_below(None)
     told = gate.watch.report(crates, gate.seconds)
-    with open(os.path.join(LOGS, "gate-costs.md"), "w", encoding="utf-8") as it:
-        it.write(f"{told}\n")
+    with open(os.path.join(LOGS, "gate-costs.md"), "w", encoding="utf-8") as file:
+        file.write(f"{told}\n")
     print(
         f"{told} The budget is {BUDGET}: more is a reason to look, and no failure, as machines"
         " differ (`python3 -m build.speed` says by how much).",
@@ -192,7 +196,8 @@ def main() -> int:
         gate.judge(files)
         tell_costs(gate)
     counts = summed(gate.counts)
-    print(*gate.failures, sep="\n", end="\n" * bool(gate.failures))
+    if gate.failures:
+        print(*gate.failures, sep="\n")
     print(counts)
     return 1 if counts.failed else 0
 

@@ -33,7 +33,7 @@ class Machine:
 def minutes_behind(proofs: Mapping[str, Proof[Any]]) -> dict[str, float]:
     """How long each proof and the longest chain of those behind it take, in minutes. A proof comes
     after those for which it waits."""
-    behind = {name: it.minutes for name, it in proofs.items()}
+    behind = {name: proof.minutes for name, proof in proofs.items()}
     for name in reversed(list(proofs)):
         for below in proofs[name].waits:
             behind[below] = max(behind[below], proofs[below].minutes + behind[name])
@@ -48,7 +48,7 @@ def start_ready(
     case."""
     beside, started = list(running), []
     for name in ready:
-        room = machine.memory - sum(proofs[it].memory for it in beside)
+        room = machine.memory - sum(proofs[text].memory for text in beside)
         fits = not beside or proofs[name].memory <= room
         if len(beside) < machine.processors and fits:
             beside.append(name)
@@ -59,15 +59,17 @@ def start_ready(
 def run_all(proofs: Mapping[str, Proof[Given]], machine: Machine) -> dict[str, Given]:
     """Runs all proofs, and answers what each gave. A proof comes after those for which it waits."""
     behind = minutes_behind(proofs)
-    left = sorted(proofs, key=lambda it: -behind[it])
+    left = sorted(proofs, key=lambda proof: -behind[proof])
     tasks: dict[Future[Given], str] = {}
     given: dict[str, Given] = {}
     with ThreadPoolExecutor(machine.processors) as pool:
         while left or tasks:
-            ready = [it for it in left if all(below in given for below in proofs[it].waits)]
+            ready = [
+                proof for proof in left if all(below in given for below in proofs[proof].waits)
+            ]
             for name in start_ready(proofs, ready, tasks.values(), machine):
                 left.remove(name)
                 tasks[pool.submit(proofs[name].call, given)] = name
-            for it in wait(tasks, return_when=FIRST_COMPLETED).done:
-                given[tasks.pop(it)] = it.result()
+            for run in wait(tasks, return_when=FIRST_COMPLETED).done:
+                given[tasks.pop(run)] = run.result()
     return given

@@ -22,7 +22,7 @@ class LargePlan:
     def pieces(self) -> Iterator[str]:
         """The text, piece by piece."""
         yield "rehearsal 2\n"
-        yield from (f"node n{it}\n" for it in range(-(-self.ranks // self.of_node)))
+        yield from (f"node n{number}\n" for number in range(-(-self.ranks // self.of_node)))
         yield "job app\n"
         for rank in range(self.ranks):
             yield f"rank n{rank // self.of_node}\n{self.script(rank, self.ranks)}"
@@ -30,12 +30,12 @@ class LargePlan:
 
 def asks(verb: str, others: Iterable[int]) -> str:
     """The lines that ask other ranks for their cards."""
-    return "".join(f"{verb} app:{it} card\n" for it in others)
+    return "".join(f"{verb} app:{number} card\n" for number in others)
 
 
 def others_of(rank: int, ranks: int) -> Iterator[int]:
     """All other ranks."""
-    return (it for it in range(ranks) if it != rank)
+    return (number for number in range(ranks) if number != rank)
 
 
 def cards(rank: int, ranks: int) -> str:

@@ -25,14 +25,14 @@ def lay_out(folder: str) -> None:
 def not_laid_out(room: str) -> list[str]:
     """A line for each file that `rt fmt` would lay out in another way. It does so in this copy of
     the repository."""
-    folders = [os.path.join(room, "crates", it) for it in crate_list.names_below(None)]
+    folders = [os.path.join(room, "crates", name) for name in crate_list.names_below(None)]
     with ThreadPoolExecutor(kit.processors()) as pool:
         list(pool.map(lay_out, folders))
     found = []
     for at, _, names in os.walk(os.path.join(room, "crates")):
-        files = [os.path.relpath(os.path.join(at, it), room) for it in names]
-        found += [it for it in files if not is_same(os.path.join(room, it), it)]
-    return [f"{it}: not as rt fmt lays it out" for it in sorted(found)]
+        files = [os.path.relpath(os.path.join(at, name), room) for name in names]
+        found += [file for file in files if not is_same(os.path.join(room, file), file)]
+    return [f"{text}: not as rt fmt lays it out" for text in sorted(found)]
 
 
 def is_same(made: str, file: str) -> bool:

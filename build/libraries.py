@@ -24,9 +24,13 @@ def expected(crates: Sequence[Crate], keeps: bool = False) -> float:
     all of them by all processors."""
     minutes = minutes_of()
     chain: dict[str, float] = {}
-    left = {it.name: minutes.get(it.name, 1) for it in crates if not records.is_done(it, keeps)}
+    left = {
+        each_crate.name: minutes.get(each_crate.name, 1)
+        for each_crate in crates
+        if not records.is_done(each_crate, keeps)
+    }
     for crate in crates:
-        below = max((chain[it.name] for it in crate.deps), default=0)
+        below = max((chain[dep.name] for dep in crate.deps), default=0)
         chain[crate.name] = left.get(crate.name, 0) + below
     return max(*chain.values(), sum(left.values()) / kit.processors())
 
@@ -40,7 +44,7 @@ def counted(line: Progress, total: int) -> Callable[[str], None]:
 def build_libraries() -> None:
     # As `rt` does: Python would wait for the threads' checks.
     signal.signal(signal.SIGINT, signal.SIG_DFL)
-    crates = [it for it in crates_at(TOP, Crate) if not it.is_program]
+    crates = [crate for crate in crates_at(TOP, Crate) if not crate.is_program]
     log = log_at("libraries.log")
     with Progress("proving", expected(crates, True)) as line, locked(crates):
         with open(log, "a", encoding="utf-8") as to:

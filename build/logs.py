@@ -39,17 +39,17 @@ def keep(
             stderr=subprocess.STDOUT,
             text=True,
             errors="replace",
-        ) as it:
+        ) as process:
             try:
-                for line in it.stdout or ():
+                for line in process.stdout or ():
                     to.write(line)
                     to.flush()
                     take(line.rstrip("\n"))
             except BaseException:
-                it.kill()
+                process.kill()
                 raise
-        to.write(f"(exit status {it.returncode})\n")
-    return it.returncode
+        to.write(f"(exit status {process.returncode})\n")
+    return process.returncode
 
 
 def is_routine(line: str) -> bool:
@@ -59,7 +59,7 @@ def is_routine(line: str) -> bool:
 
 def tail_of(log: str) -> str:
     """The last lines that the last command in a log printed, and that aren't routine."""
-    with open(log, encoding="utf-8", errors="replace") as it:
-        lines = it.readlines()
+    with open(log, encoding="utf-8", errors="replace") as file:
+        lines = file.readlines()
     begun = max((n for n, line in enumerate(lines) if line.startswith("$ ")), default=0)
     return "".join([line for line in lines[begun:] if not is_routine(line)][-TAIL:])

@@ -33,7 +33,7 @@ def machine_here() -> Machine:
 def lanes_for(crates: Sequence[Crate]) -> int:
     """How many crates are proved side by side by one process each: one to a processor, as many as
     memory has room for."""
-    most = max((kit.need(it) for it in crates), default=1)
+    most = max((kit.need(crate) for crate in crates), default=1)
     return max(1, min(kit.processors(), int(GIVEN * kit.free() / (SHARE * most))))
 
 

@@ -5,7 +5,8 @@ Usage: make newer-root [ROOT=FOLDER]
 It takes debootstrap, root, 4 GB of disk, of which it keeps 1, and some minutes. FOLDER is
 /var/tmp/wire-up-trixie, unless it is told or WIRE_UP_NEWER_ROOT names another. It has that name
 only once it is whole; what is made of one that fails or is stopped goes. Where the folder is, the
-gate runs live tests in it too, by tests/test_recording_newer.py and tests/test_run_newer.py.
+gate runs live tests in it too, by tests/record/test_recording_newer.py and
+tests/run/test_run_newer.py.
 WIRE_UP_NEWER_RELEASE=forky takes another release than trixie, in a folder of its name.
 
 `.ci/run` runs this beside the proofs, and writes what it says to out/newer-root.log.
@@ -83,15 +84,15 @@ def find_dates() -> list[str]:
     if not asked:
         return []
     said = subprocess.run([asked, "dump", *DATES], capture_output=True, text=True, check=False)
-    return [f"-o{name}={it}" for name, it in re.findall(r'(?m)^(\S+) "(.*)";$', said.stdout)]
+    return [f"-o{name}={item}" for name, item in re.findall(r'(?m)^(\S+) "(.*)";$', said.stdout)]
 
 
 def fill_root(made: str) -> None:
     """Puts Debian into an empty folder. Raises OSError."""
     options = ["--variant=minbase", "--include=ca-certificates"]
     run("debootstrap", [*ALONE, "debootstrap", *options, RELEASE, made, MIRROR, SCRIPT])
-    with open("/etc/resolv.conf", "rb") as it, open(f"{made}/etc/resolv.conf", "wb") as to:
-        to.write(it.read())
+    with open("/etc/resolv.conf", "rb") as file, open(f"{made}/etc/resolv.conf", "wb") as to:
+        to.write(file.read())
     install = ["install", "-y", "--no-install-recommends", *PACKAGES]
     for words in (["update"], install, ["clean"]):
         run(f"apt-get {words[0]}", enter(made, ["apt-get", "-q", *find_dates(), *words]))

@@ -22,7 +22,7 @@ def is_built() -> bool:
     if not os.path.exists(PLAIN):
         return False
     made = os.stat(PLAIN).st_mtime_ns
-    return all(os.stat(it).st_mtime_ns < made for it in glob.glob(os.path.join(SOURCE, "*.rs")))
+    return all(os.stat(path).st_mtime_ns < made for path in glob.glob(os.path.join(SOURCE, "*.rs")))
 
 
 def build_plain() -> tuple[str | None, str]:
@@ -40,7 +40,7 @@ def build_plain() -> tuple[str | None, str]:
         words = [rustc, *options, os.path.join(SOURCE, "main.rs")]
         ran = subprocess.run(words, capture_output=True, text=True, errors="replace", check=False)
         if ran.returncode:
-            wrong = next((it for it in ran.stderr.splitlines() if it.startswith("error")), "")
+            wrong = next((line for line in ran.stderr.splitlines() if line.startswith("error")), "")
             return None, f"rustc can't build it: {wrong}"
         os.replace(made, PLAIN)
     return PLAIN, ""

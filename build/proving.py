@@ -48,18 +48,20 @@ def prove_all(
     of its functions aren't kept. What a check prints goes to the log, that of those that failed
     last. Answers the names of those that failed."""
     course = Proving(log, tell, keeps)
-    is_new = {it.name: not records.is_done(it, keeps) for it in crates}
-    for it in crates:
+    is_new = {crate.name: not records.is_done(crate, keeps) for crate in crates}
+    for crate in crates:
         # (`rt` would take a library as built that doesn't fit what is below it now)
-        if is_new[it.name]:
-            (records.forget if records.may_stand(it) else records.take_away)(it)
+        if is_new[crate.name]:
+            (records.forget if records.may_stand(crate) else records.take_away)(crate)
     share = 1 if holds_proofs(crates, keeps) else SHARE
     minutes = minutes_of()
     proofs = {}
-    for it in crates:
-        takes = minutes.get(it.name, 1) if is_new[it.name] else 0
-        memory = share * kit.need(it) + FILES
-        proofs[it.name] = lanes.Proof(names_below(it), takes, memory, proof_of(it, course))
+    for each_crate in crates:
+        takes = minutes.get(each_crate.name, 1) if is_new[each_crate.name] else 0
+        memory = share * kit.need(each_crate) + FILES
+        proofs[each_crate.name] = lanes.Proof(
+            names_below(each_crate), takes, memory, proof_of(each_crate, course)
+        )
     lanes.run_all(proofs, machine_here())
     tell_failures(course)
     return list(course.failed)
@@ -77,7 +79,7 @@ def tell_failures(course: Proving) -> None:
 def holds_proofs(crates: Sequence[Crate], keeps: bool) -> bool:
     """Whether a library among crates holds its proofs, or is to. A proof over it takes all the
     memory that the kit reckons with."""
-    return keeps or any(holds_its_proofs(it) for it in crates if not it.is_program)
+    return keeps or any(holds_its_proofs(crate) for crate in crates if not crate.is_program)
 
 
 def holds_its_proofs(library: Crate) -> bool:
@@ -87,14 +89,14 @@ def holds_its_proofs(library: Crate) -> bool:
 
 def names_below(crate: Crate) -> list[str]:
     """The names of the crates for whose proofs that of a crate waits."""
-    return [it.name for it in crate.below()]
+    return [each_crate.name for each_crate in crate.below()]
 
 
 def proof_of(crate: Crate, course: Proving) -> Callable[[Mapping[str, bool]], bool]:
     """What proves and builds one crate, where it isn't built. It gives whether that went well."""
 
     def prove(given: Mapping[str, bool]) -> bool:
-        if not all(given[it] for it in names_below(crate)):
+        if not all(given[name] for name in names_below(crate)):
             return False
         if not records.is_done(crate, course.keeps):
             said, why = prove_anew(crate, course.keeps)
@@ -165,7 +167,7 @@ def why_refused(status: int, said: str) -> str:
     verdict = next((line.split() for line in lines if line.startswith("logic=proved ")), None)
     if verdict is None:
         return "the prover gave no verdict"
-    found = [it for it in verdict if it.partition("=")[0] in DOUBTS]
+    found = [split for split in verdict if split.partition("=")[0] in DOUBTS]
     return f"the gate would refuse this: {' '.join(found)}" if found else ""
 
 
@@ -189,6 +191,6 @@ def build_program(crate: Crate) -> int:
         words += kit.KEPT
     words += ["--backend", "llvm", "-o", f"{made}.o"]
     link = ["--target", TARGET, "--toolchain", tools, "-o", made, f"{made}.o"]
-    link += [f"{kit.PLACE}/c/{it}" for it in ("libos_c.a", "liblibc_c.a")]
+    link += [f"{kit.PLACE}/c/{word}" for word in ("libos_c.a", "liblibc_c.a")]
     status = crate.call(kit.PROVER, "build", *words)
     return status or crate.call(f"{kit.PLACE}/bin/rattle-link", *link)

@@ -10,26 +10,21 @@ which is 'N passed, M failed'. What is left out here is for `make test`.
 """
 import itertools
 import os
-import re
 import sys
 from collections.abc import Sequence
 from concurrent.futures import ThreadPoolExecutor, as_completed
 from dataclasses import dataclass
 
-from build import kit
 from build.counted_runs import Ran, run_counted
 from build.counts import summed
 from build.minutes import minutes_of
 from build.progress import Progress
-from build.test_files import test_files
 
 # The tables of plans that are run, those of each line by a build of their own: so they end within
 # the time.
 TRIED = ("fences witnesses", "names forms")
-# Tests that ask the prover, and those that start MPI programs.
-LONG = re.compile(r"test_(edits_proved|recording_(live|locks|newer)|run_(live|newer))\.py$")
-# What takes longest, so that it begins first.
-TABLES = "tests/test_tables_tried.py"
+# The file of these tables.
+TABLES = "tests/commands/test_tables_tried.py"
 
 
 @dataclass(frozen=True)
@@ -50,21 +45,20 @@ class Part:
 
 def parts() -> list[Part]:
     """All parts, the longest first."""
-    files = [it for it in test_files() if not LONG.search(it) and it != TABLES]
-    found = [Part(f"{TABLES}, {it}", ["build.unit_tests", TABLES], it) for it in TRIED]
-    found += [Part(it, [f"build.{it}"]) for it in ("checkers", "layout")]
-    return found + [Part(it, ["build.unit_tests", it]) for it in files]
+    found = [Part(f"{TABLES}, {text}", ["build.plain_tests", TABLES], text) for text in TRIED]
+    found.append(Part("tests", ["build.test_runs", "--quick"]))
+    return found + [Part(word, [f"build.{word}"]) for word in ("checkers", "layout")]
 
 
 def run_all(line: Progress) -> list[Ran]:
-    """Runs all parts, as many side by side as there are processors."""
+    """Runs all parts side by side."""
     todo = parts()
     count, found = itertools.count(1), []
-    with ThreadPoolExecutor(kit.processors()) as pool:
-        ran = [pool.submit(it.run) for it in todo]
-        for it in as_completed(ran):
-            found.append(it.result())
-            line.note(it.result().whole())
+    with ThreadPoolExecutor(len(todo)) as pool:
+        ran = [pool.submit(task.run) for task in todo]
+        for run in as_completed(ran):
+            found.append(run.result())
+            line.note(run.result().whole())
             line.now(f"{next(count)} of {len(todo)} parts")
     return found
 
@@ -72,9 +66,10 @@ def run_all(line: Progress) -> list[Ran]:
 def main() -> int:
     with Progress("without proofs", minutes_of()["quick"]) as line:
         found = run_all(line)
-    for it in found:
-        print(*it.failures(), sep="\n", end="\n" * bool(it.counts.failed))
-    counts = summed(it.counts for it in found)
+    for ran in found:
+        if ran.counts.failed:
+            print(*ran.failures(), sep="\n")
+    counts = summed(each_ran.counts for each_ran in found)
     print(counts)
     return 1 if counts.failed else 0
 

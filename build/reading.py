@@ -47,9 +47,9 @@ def public_functions() -> dict[str, list[Item]]:
     """The functions of all libraries that stand at the margin, by their names."""
     found: dict[str, list[Item]] = {}
     for path in sorted(glob.glob("*/src/**/*.rt", root_dir=CRATES, recursive=True)):
-        for it in functions_in(path):
-            if it.text.startswith("pub fn"):
-                found.setdefault(it.name, []).append(it)
+        for function in functions_in(path):
+            if function.text.startswith("pub fn"):
+                found.setdefault(function.name, []).append(function)
     return found
 
 
@@ -73,13 +73,17 @@ def contracts_in(text: str) -> list[Item]:
         for name, clauses in NAMED.findall(sentence):
             wanted.setdefault(name, []).extend(re.findall(r"\w+", clauses))
     functions = public_functions()
-    return [contract_of(it, wanted[name]) for name in wanted for it in functions.get(name, [])]
+    return [
+        contract_of(function, wanted[name])
+        for name in wanted
+        for function in functions.get(name, [])
+    ]
 
 
 def statements() -> list[Statement]:
     """The statements that have a contract."""
-    with open(STATEMENTS, encoding="utf-8") as it:
-        sections = list(SECTION.finditer(it.read()))
+    with open(STATEMENTS, encoding="utf-8") as file:
+        sections = list(SECTION.finditer(file.read()))
     found = []
     for section in sections:
         contracts = tuple(contracts_in(section["text"]))
@@ -91,33 +95,35 @@ def statements() -> list[Statement]:
 def table() -> str:
     """How much has to be read for each statement."""
     rows = ["| statement | files | definitions | lines |", "|---|---|---|---|"]
-    for it in statements():
-        items = it.items()
+    for statement in statements():
+        items = statement.items()
         files, lines = len({item.path for item in items}), sum(item.lines() for item in items)
-        rows.append(f"| {it.number}. {it.title} | {files} | {len(items)} | {lines:,} |")
+        rows.append(
+            f"| {statement.number}. {statement.title} | {files} | {len(items)} | {lines:,} |"
+        )
     return "\n".join(rows) + "\n"
 
 
 def listing(statement: Statement) -> str:
     """The files of a statement, and the definitions in each."""
     found = []
-    for path, items in itertools.groupby(statement.items(), lambda it: it.path):
+    for path, items in itertools.groupby(statement.items(), lambda item: item.path):
         here = list(items)
-        names = ", ".join(dict.fromkeys(it.name for it in here))
-        found.append(f"{path}: {sum(it.lines() for it in here)} lines: {names}\n")
+        names = ", ".join(dict.fromkeys(each_item.name for each_item in here))
+        found.append(f"{path}: {sum(other_item.lines() for other_item in here)} lines: {names}\n")
     return "".join(found)
 
 
 def write_table() -> None:
     """Writes the table anew where it stands."""
-    with open(STATEMENTS, encoding="utf-8") as it:
-        text, rows = it.read(), table()
+    with open(STATEMENTS, encoding="utf-8") as file:
+        text, rows = file.read(), table()
     with open(STATEMENTS, "w", encoding="utf-8") as to:
         to.write(TABLE.sub(lambda _: rows, text))
 
 
 def main(words: Sequence[str]) -> int:
-    chosen = [it for it in statements() if [str(it.number)] == list(words)]
+    chosen = [statement for statement in statements() if [str(statement.number)] == list(words)]
     if chosen:
         print(listing(chosen[0]), end="")
     elif list(words) == ["--write"]:

@@ -1,7 +1,7 @@
 """Records MPICH's test suite with Open MPI, program by program, and says what came of it.
 
 Usage: make record-suite [PARTS="pt2pt f77/coll"] [ROOM=FOLDER] [SECONDS=N] [JOBS=N]
-       PYTHONPATH=tests python3 -m build.record_suite [PROGRAM] [--parts PART..] [--room FOLDER]
+       python3 -m build.record_suite [PROGRAM] [--parts PART..] [--room FOLDER]
                                                       [--seconds N] [--jobs N] [--turn]
 It fetches the suite as Debian's source package (with lists of apt of its own), builds it for the
 MPI that is here, and runs each program without the recorder and with it, JOBS parts side by side. A
@@ -43,45 +43,47 @@ COLUMNS = (
 
 def count_row(name: str, outcomes: Sequence[Outcome]) -> Sequence[str]:
     """The row of a table about some programs."""
-    plans = [it for it in outcomes if not it.lacks and not it.no_plan]
+    plans = [outcome for outcome in outcomes if not outcome.lacks and not outcome.no_plan]
     counts = (
         len(outcomes),
-        sum(bool(it.lacks) for it in outcomes),
+        sum(bool(outcome.lacks) for outcome in outcomes),
         len(plans),
-        sum(it.is_in_part for it in plans),
-        sum(bool(it.findings) for it in plans),
-        sum(bool(it.differs) for it in outcomes),
-        sum(it.is_replayed and not it.replay for it in plans),
-        sum(bool(it.replay) for it in plans),
-        sum(it.kept for it in plans),
-        sum(bool(it.turned) for it in plans),
+        sum(plan.is_in_part for plan in plans),
+        sum(bool(plan.findings) for plan in plans),
+        sum(bool(outcome.differs) for outcome in outcomes),
+        sum(plan.is_replayed and not plan.replay for plan in plans),
+        sum(bool(plan.replay) for plan in plans),
+        sum(plan.kept for plan in plans),
+        sum(bool(plan.turned) for plan in plans),
     )
     return [name, *map(str, counts)]
 
 
 def make_table(outcomes: Sequence[Outcome]) -> Iterable[str]:
     """A table of all programs by their parts."""
-    parts = dict.fromkeys(it.program.part for it in outcomes)
+    parts = dict.fromkeys(outcome.program.part for outcome in outcomes)
     rows: list[Sequence[str]] = [COLUMNS]
-    rows += [count_row(it, [one for one in outcomes if one.program.part == it]) for it in parts]
+    rows += [
+        count_row(part, [one for one in outcomes if one.program.part == part]) for part in parts
+    ]
     rows.append(count_row("all", outcomes))
     widths = [max(map(len, column)) for column in zip(*rows)]
     for name, *counts in rows:
-        cells = (it.rjust(width) for it, width in zip(counts, widths[1:]))
+        cells = (count.rjust(width) for count, width in zip(counts, widths[1:]))
         yield f"{name:<{widths[0]}}  {'  '.join(cells)}"
 
 
-def tell(it: Outcome) -> Iterable[str]:
+def tell(outcome: Outcome) -> Iterable[str]:
     """What went another way with a program."""
     found = (
-        ("left out", it.lacks),
-        ("no plan", it.no_plan),
-        ("differs", it.differs),
-        ("findings", str(it.findings or "")),
-        ("replay", it.replay),
-        ("turned round", it.turned),
+        ("left out", outcome.lacks),
+        ("no plan", outcome.no_plan),
+        ("differs", outcome.differs),
+        ("findings", str(outcome.findings or "")),
+        ("replay", outcome.replay),
+        ("turned round", outcome.turned),
     )
-    return [f"{it.program.title}: {what}: {why}" for what, why in found if why]
+    return [f"{outcome.program.title}: {what}: {why}" for what, why in found if why]
 
 
 class Tried:
@@ -95,9 +97,9 @@ class Tried:
         self.is_over = False
         if os.path.exists(self.path):
             with open(self.path, encoding="utf-8") as lines:
-                for it in map(json.loads, lines):
-                    program = SuiteProgram(**it.pop("program"))
-                    self.found[program.title] = Outcome(program, **it)
+                for load in map(json.loads, lines):
+                    program = SuiteProgram(**load.pop("program"))
+                    self.found[program.title] = Outcome(program, **load)
 
     def keep(self, outcome: Outcome) -> None:
         """Keeps what came of a program, and says it."""
@@ -111,23 +113,23 @@ class Tried:
 
     def try_part(self, bench: Bench, programs: Sequence[SuiteProgram]) -> None:
         """Builds and tries the programs of one part, one after another: they share its folder."""
-        for it in programs:
-            if self.is_over or it.title in self.found:
+        for program in programs:
+            if self.is_over or program.title in self.found:
                 continue
-            is_built = build(bench.built, it, self.log)
+            is_built = build(bench.built, program, self.log)
             how = bench.turn_program if self.does_turn else bench.try_program
-            self.keep(how(it) if is_built else Outcome(it, "isn't built"))
+            self.keep(how(program) if is_built else Outcome(program, "isn't built"))
 
 
 def try_all(bench: Bench, programs: Sequence[SuiteProgram], tried: Tried, jobs: int) -> None:
     """Tries all programs, so many parts side by side, the largest first. An interrupt ends it."""
     parts: dict[str, list[SuiteProgram]] = {}
-    for it in programs:
-        parts.setdefault(it.part, []).append(it)
+    for program in programs:
+        parts.setdefault(program.part, []).append(program)
     with ThreadPoolExecutor(jobs) as pool:
         ran = [
-            pool.submit(tried.try_part, bench, parts[it])
-            for it in sorted(parts, key=lambda it: -len(parts[it]))
+            pool.submit(tried.try_part, bench, parts[part])
+            for part in sorted(parts, key=lambda each_part: -len(parts[each_part]))
         ]
         try:
             for of in ran:
@@ -145,7 +147,7 @@ def prepare(words: argparse.Namespace) -> tuple[str, list[SuiteProgram]]:
     built = configure(words.room, source)
     programs = find_programs(built, source, words.parts)
     if words.turn:
-        programs = [it for it in programs if calls_pmix(it, built, source)]
+        programs = [program for program in programs if calls_pmix(program, built, source)]
     build_common(built, words.room)
     return built, programs
 
@@ -177,11 +179,13 @@ def main() -> int:
     bench = Bench(built, os.path.abspath(words.program), words.seconds)
     tried = Tried(words.room, words.turn)
     try_all(bench, programs, tried, words.jobs)
-    outcomes = [tried.found[it.title] for it in programs if it.title in tried.found]
+    outcomes = [tried.found[program.title] for program in programs if program.title in tried.found]
     print(f"\n{len(outcomes)} programs of {len(programs)}; what went another way:")
-    print(*(line for it in outcomes for line in tell(it)), "", sep="\n")
+    print(*(line for outcome in outcomes for line in tell(outcome)), "", sep="\n")
     print(*make_table(outcomes), sep="\n")
-    return 1 if any(it.differs or it.replay or it.turned for it in outcomes) else 0
+    return (
+        1 if any(outcome.differs or outcome.replay or outcome.turned for outcome in outcomes) else 0
+    )
 
 
 if __name__ == "__main__":

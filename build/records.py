@@ -86,8 +86,8 @@ def shown_now(crate: Crate) -> str:
 
 def shown_by(crate: Crate) -> str:
     """What was noted as that sum when it was built. Raises OSError where it isn't built."""
-    with open(beside(crate, "shown"), encoding="utf-8") as it:
-        return it.read()
+    with open(beside(crate, "shown"), encoding="utf-8") as file:
+        return file.read()
 
 
 def record_now(crate: Crate) -> str:
@@ -96,9 +96,14 @@ def record_now(crate: Crate) -> str:
     isn't built."""
     own = f"{crate.name} {crate.own_stamp()}\n"
     if crate.is_program:
-        times = {it.name: os.stat(stamp_of(it)).st_mtime_ns for it in [*crate.below(), crate]}
+        times = {
+            each_crate.name: os.stat(stamp_of(each_crate)).st_mtime_ns
+            for each_crate in [*crate.below(), crate]
+        }
         return own + "".join(f"{name} {time}\n" for name, time in times.items())
-    return own + "".join(f"{it.name} {shown_by(it)}" for it in crate.below())
+    return own + "".join(
+        f"{each_crate.name} {shown_by(each_crate)}" for each_crate in crate.below()
+    )
 
 
 def note_built(crate: Crate) -> None:
@@ -117,8 +122,8 @@ def note_stamp(crate: Crate) -> None:
 
 def write(path: str, text: str) -> None:
     """Writes a file anew: another repository may have the one that is there, too."""
-    with open(f"{path}.new", "w", encoding="utf-8") as it:
-        it.write(text)
+    with open(f"{path}.new", "w", encoding="utf-8") as file:
+        file.write(text)
     os.replace(f"{path}.new", path)
 
 

@@ -72,12 +72,12 @@ def show() -> None:
 def alone() -> Iterator[None]:
     """Waits until no other `make run` works here."""
     os.makedirs(LOGS, exist_ok=True)
-    with open(os.path.join(LOGS, "run.lock"), "w", encoding="utf-8") as it:
+    with open(os.path.join(LOGS, "run.lock"), "w", encoding="utf-8") as file:
         try:
-            fcntl.flock(it, fcntl.LOCK_EX | fcntl.LOCK_NB)
+            fcntl.flock(file, fcntl.LOCK_EX | fcntl.LOCK_NB)
         except BlockingIOError:
             print("Another `make run` works here. This one waits for it.", flush=True)
-            fcntl.flock(it, fcntl.LOCK_EX)
+            fcntl.flock(file, fcntl.LOCK_EX)
         yield
 
 

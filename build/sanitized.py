@@ -2,8 +2,9 @@
 and of undefined behaviour. What these find ends the process, and is printed at the end.
 
 Usage: python3 -m build.sanitized [TEST..]
-A test is a module, a class or a method, such as tests.test_recording_live.CasesTest, which is what
-runs without one. It works on a copy of the repository. The last line is 'N passed, M failed'.
+A test is a module, a class or a method, such as tests.record.test_recording_live.CasesTest, which
+is what runs without one. It works on a copy of the repository. The last line is 'N passed, M
+failed'.
 """
 import glob
 import os
@@ -20,7 +21,7 @@ FLAGS = (
     "-O1 -g -fno-omit-frame-pointer -fsanitize=address,undefined"
     " -fno-sanitize-recover=undefined"
 )
-TESTS = ("tests.test_recording_live.CasesTest",)
+TESTS = ("tests.record.test_recording_live.CasesTest",)
 # The library of the sanitizers, which comes before all others in each process.
 LIBRARY = "libasan.so"
 
@@ -46,10 +47,12 @@ def build(room: str) -> None:
 
 def run_tests(room: str, tests: Sequence[str]) -> bool:
     """Runs tests of a copy. Answers whether they passed."""
+    # (each sanitizer adds the number of the process)
+    found = os.path.join(room, "found")
     settings = {
         "WIRE_UP_FIRST_LIBRARY": find_library(),
-        "ASAN_OPTIONS": f"detect_leaks=0:log_path={os.path.join(room, 'found')}",
-        "UBSAN_OPTIONS": "print_stacktrace=1",
+        "ASAN_OPTIONS": f"detect_leaks=0:log_path={found}",
+        "UBSAN_OPTIONS": f"print_stacktrace=1:log_path={found}",
         "PYTHONPATH": "",
     }
     words, where = [sys.executable, "-m", "unittest", *tests], {**os.environ, **settings}
@@ -64,8 +67,8 @@ def main(tests: Sequence[str]) -> int:
         is_well = run_tests(room, tests or TESTS)
         found = sorted(glob.glob(os.path.join(room, "found.*")))
         for path in found:
-            with open(path, encoding="utf-8", errors="replace") as it:
-                print(it.read())
+            with open(path, encoding="utf-8", errors="replace") as file:
+                print(file.read())
     is_well = is_well and not found
     print(Counts(int(is_well), int(not is_well)))
     return 0 if is_well else 1

@@ -1,13 +1,13 @@
 """Runs the program on random plans and patterns, most of them damaged, and holds it to itself, to
-second readers, and to a model of plans and a reference for patterns: tests/soaking.py says what it
-holds for each plan, and tests/pattern_soaking.py for each pattern. With --waits it holds patterns,
-most of which wait, to plans of them: tests/answer_soaking.py. With --inferred it infers patterns
-from plans of random ones, and holds their verdicts to those of the first: tests/sized_patterns.py.
-With --portable it holds `check --portable` of small plans to all that libraries may do by their
-axioms: tests/portable_soaking.py.
+second readers, and to a model of plans and a reference for patterns: tests/soak/soaking.py says
+what it holds for each plan, and tests/soak/pattern_soaking.py for each pattern. With --waits it
+holds patterns, most of which wait, to plans of them: tests/soak/answer_soaking.py. With --inferred
+it infers patterns from plans of random ones, and holds their verdicts to those of the first:
+tests/soak/sized_patterns.py. With --portable it holds `check --portable` of small plans to all that
+libraries may do by their axioms: tests/soak/portable_soaking.py.
 
 Usage: make soak [MINUTES=N] [SEED=N], or make waits, inferred, portable for --waits and the others
-       PYTHONPATH=tests:python python3 -m build.soak [PROGRAM] [OPTION..], of these options:
+       python3 -m build.soak [PROGRAM] [OPTION..], of these options:
            [--minutes N | --seconds N] [--seed N] [--keep FOLDER]
            [--patterns | --waits | --inferred | --portable]
            [--again FILE]     looks at one file once more
@@ -29,17 +29,18 @@ from collections import Counter
 from collections.abc import Callable
 from typing import NamedTuple
 
-import answer_soaking
-import pattern_soaking
-import portable_soaking
-import random_patterns
-import random_plans
-import sized_patterns
-import soaking
-from soak_runner import Difference, Runner
-
 from build.places import LOGS, WIRE_UP
 from build.plain_program import build_plain
+from tests.soak import (
+    answer_soaking,
+    pattern_soaking,
+    portable_soaking,
+    random_patterns,
+    random_plans,
+    sized_patterns,
+    soaking,
+)
+from tests.soak.soak_runner import Difference, Runner
 
 MOST_DIFFERENCES = 20
 # How long a file that shows a difference is made smaller, in seconds, and how often each part of it
@@ -160,14 +161,14 @@ class Soak:
         os.makedirs(self.keep_in, exist_ok=True)
         path = os.path.join(self.keep_in, re.sub(r"\W+", "-", found.name))
         small = Reducer(self.runner, files, seed, found.name).reduced(text)
-        for ending, it in ((".whole", text), (files.ending, small)):
+        for ending, each_text in ((".whole", text), (files.ending, small)):
             with open(path + ending, "wb") as to:
-                to.write(it)
+                to.write(each_text)
         print(f"kept in {path}{files.ending}", flush=True)
 
     def told(self) -> str:
         """How far it is, in a line."""
-        kinds = ", ".join(f"{self.kinds[it]:,} {it}" for it in KINDS)
+        kinds = ", ".join(f"{self.kinds[kind]:,} {kind}" for kind in KINDS)
         seconds, runs = time.monotonic() - self.began, self.runner.runs.total()
         different = self.kinds["different"]
         whole = f"{seconds:.0f} s: {self.kinds.total():,} files ({kinds})"
@@ -211,8 +212,8 @@ def runner_of(args: argparse.Namespace, room: str) -> Runner:
 def look_again(args: argparse.Namespace, room: str) -> int:
     """Looks at one file, ten times with other questions. Answers whether the last one shows a
     difference."""
-    with open(args.again, "rb") as it:
-        text = it.read()
+    with open(args.again, "rb") as file:
+        text = file.read()
     files = PATTERNS if args.again.endswith(PATTERNS.ending) else PLANS
     files = only_files(args) or files
     runner, found = runner_of(args, room), None

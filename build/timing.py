@@ -58,26 +58,26 @@ def run(command: Command) -> Taken:
     too."""
     with open(command.given, "rb") as reader:
         began = time.perf_counter()
-        it = subprocess.Popen(
+        process = subprocess.Popen(
             command.words, stdin=reader, stdout=subprocess.DEVNULL, stderr=subprocess.DEVNULL
         )
-        _, status, used = os.wait4(it.pid, 0)
+        _, status, used = os.wait4(process.pid, 0)
         seconds = time.perf_counter() - began
-    it.returncode = os.waitstatus_to_exitcode(status)
-    if it.returncode not in (0, 1):
-        sys.exit(f"{' '.join(command.words)}: exit status {it.returncode}")
+    process.returncode = os.waitstatus_to_exitcode(status)
+    if process.returncode not in (0, 1):
+        sys.exit(f"{' '.join(command.words)}: exit status {process.returncode}")
     size = resident_size(command, used.ru_maxrss)
     return Taken(seconds, size, used.ru_utime + used.ru_stime)
 
 
 def best_of(runs: int, commands: Sequence[Command]) -> list[Taken]:
     """The least times and the greatest size of each command, run by turns."""
-    took = [[run(it) for it in commands] for _ in range(runs)]
+    took = [[run(command) for command in commands] for _ in range(runs)]
     return [
         Taken(
-            min(it.seconds for it in each),
-            max(it.size for it in each),
-            min(it.processor for it in each),
+            min(item.seconds for item in each),
+            max(each_item.size for each_item in each),
+            min(other_item.processor for other_item in each),
         )
         for each in zip(*took)
     ]
@@ -125,4 +125,4 @@ def has_options(program: str, words: Sequence[str]) -> bool:
         text=True,
         check=False,
     )
-    return not ran.returncode and all(it in ran.stdout for it in words if it.startswith("--"))
+    return not ran.returncode and all(word in ran.stdout for word in words if word.startswith("--"))

@@ -111,8 +111,8 @@ def write_cases(room: str) -> None:
     for number in range(CASES):
         case = os.path.join(room, f"case{number}")
         open(case, "wb").close()
-        with open(f"{case}.args", "w", encoding="utf-8") as it:
-            it.write("--version\n")
+        with open(f"{case}.args", "w", encoding="utf-8") as file:
+            file.write("--version\n")
 
 
 def stamp_at(top: str) -> str:
@@ -131,7 +131,7 @@ def build(top: str, log: str) -> bool:
     stamp = stamp_at(top)
     os.makedirs(os.path.dirname(KEPT), exist_ok=True)
     with tempfile.TemporaryDirectory(prefix="tried-", dir=LOGS) as room:
-        cases, made = (os.path.join(room, it) for it in ("cases", "made"))
+        cases, made = (os.path.join(room, word) for word in ("cases", "made"))
         write_cases(cases)
         with kept_from(room, made):
             ran = run_cases(cases, top, room)
@@ -142,8 +142,8 @@ def build(top: str, log: str) -> bool:
         with contextlib.suppress(FileNotFoundError):
             os.remove(STAMP)
         os.replace(made, KEPT)
-    with open(STAMP, "w", encoding="utf-8") as it:
-        it.write(stamp)
+    with open(STAMP, "w", encoding="utf-8") as file:
+        file.write(stamp)
     return True
 
 
@@ -159,7 +159,7 @@ def answer(command: str, file: str) -> Tried:
             check=False,
             timeout=PATIENCE,
         )
-    wrote, said = (it.decode(errors="replace") for it in (ran.stdout, ran.stderr))
+    wrote, said = (text.decode(errors="replace") for text in (ran.stdout, ran.stderr))
     return Tried(wrote, said, ran.returncode)
 
 

@@ -8,7 +8,7 @@ import sys
 
 def plan(nodes, ranks, has_fence):
     yield "rehearsal 1"
-    yield from (f"node n{it}" for it in range(nodes))
+    yield from (f"node n{node}" for node in range(nodes))
     yield "job app"
     for rank in range(ranks):
         yield f"rank n{rank % nodes}"
@@ -16,11 +16,11 @@ def plan(nodes, ranks, has_fence):
         yield "commit"
         if has_fence:
             yield "fence all collect"
-        yield from (f"get-now app:{it} card" for it in range(ranks) if it != rank)
+        yield from (f"get-now app:{other} card" for other in range(ranks) if other != rank)
 
 
 if __name__ == "__main__":
-    words = [it for it in sys.argv[1:] if it != "--no-fence"]
+    words = [word for word in sys.argv[1:] if word != "--no-fence"]
     if len(words) != 2:
         sys.exit(__doc__)
     print("\n".join(plan(int(words[0]), int(words[1]), "--no-fence" not in sys.argv)))

@@ -31,7 +31,7 @@ def quoted(text: str) -> str:
 
 
 def names_of(options: Sequence[Word]) -> str:
-    return " ".join(name for it in options for name in it.names)
+    return " ".join(name for option in options for name in option.names)
 
 
 def bash_case(pattern: str, words: str) -> str:
@@ -42,25 +42,25 @@ def bash_case(pattern: str, words: str) -> str:
 def bash(name: str, alone: Sequence[Word], commands: Sequence[Help]) -> str:
     """The completions of bash: the commands first, then the options of the command that is there,
     else files."""
-    cases = [bash_case(f"*,{it.name},-*", names_of(it.options)) for it in commands]
+    cases = [bash_case(f"*,{command.name},-*", names_of(command.options)) for command in commands]
     if commands:
-        names = " ".join(it.name for it in commands)
+        names = " ".join(command.name for command in commands)
         cases.insert(0, bash_case("1,*", f"{names} {names_of(alone)}"))
     else:
         cases = [bash_case("*,*,-*", names_of(alone))]
     return BASH.format(name=name, plain=name.replace("-", "_"), cases="\n".join(cases))
 
 
-def zsh_option(it: Word) -> list[str]:
+def zsh_option(word: Word) -> list[str]:
     """An option as `_arguments` takes it."""
-    value = f":{it.value}:{'_files' if it.value in FILES else ' '}" if it.value else ""
-    meaning = it.meaning.replace("[", "(").replace("]", ")").replace(":", "\\:")
-    return [quoted(f"{name}[{meaning}]{value}") for name in it.names]
+    value = f":{word.value}:{'_files' if word.value in FILES else ' '}" if word.value else ""
+    meaning = word.meaning.replace("[", "(").replace("]", ")").replace(":", "\\:")
+    return [quoted(f"{name}[{meaning}]{value}") for name in word.names]
 
 
 def zsh_arguments(indent: str, options: Sequence[Word], end: str) -> list[str]:
     """The lines by which zsh offers options and files."""
-    words = [word for it in options for word in zsh_option(it)]
+    words = [word for option in options for word in zsh_option(option)]
     offered = [f"{indent}    {word} \\" for word in words]
     return [f"{indent}_arguments \\", *offered, f"{indent}    '*:file:_files'{end}"]
 
@@ -71,34 +71,36 @@ def zsh(name: str, alone: Sequence[Word], commands: Sequence[Help]) -> str:
     if not commands:
         return "\n".join([*made, *zsh_arguments("", alone, ""), ""])
     made.append("local -a commands=(")
-    for it in commands:
-        about = it.about.replace(":", "\\:")
-        made.append(f"    {quoted(f'{it.name}:{about}')}")
+    for command in commands:
+        about = command.about.replace(":", "\\:")
+        made.append(f"    {quoted(f'{command.name}:{about}')}")
     made += [")", "if (( CURRENT == 2 )); then", "    _describe command commands", "    return"]
     made += ["fi", 'case "$words[2]" in']
-    for it in commands:
-        made += [f"{it.name})", "    shift words; (( CURRENT-- ))"]
-        made += zsh_arguments("    ", it.options, " ;;")
+    for each_command in commands:
+        made += [f"{each_command.name})", "    shift words; (( CURRENT-- ))"]
+        made += zsh_arguments("    ", each_command.options, " ;;")
     return "\n".join([*made, "esac", ""])
 
 
-def fish_option(name: str, condition: str, it: Word) -> str:
+def fish_option(name: str, condition: str, each_word: Word) -> str:
     """An option as fish takes it."""
-    words = [f"-l {word[2:]}" if word.startswith("--") else f"-s {word[1:]}" for word in it.names]
-    takes = (" -r" + ("" if it.value in FILES else " -f")) if it.value else ""
-    return f"complete -c {name}{condition} {' '.join(words)}{takes} -d {quoted(it.meaning)}"
+    words = [
+        f"-l {word[2:]}" if word.startswith("--") else f"-s {word[1:]}" for word in each_word.names
+    ]
+    takes = (" -r" + ("" if each_word.value in FILES else " -f")) if each_word.value else ""
+    return f"complete -c {name}{condition} {' '.join(words)}{takes} -d {quoted(each_word.meaning)}"
 
 
 def fish(name: str, alone: Sequence[Word], commands: Sequence[Help]) -> str:
     """The completions of fish."""
     made = [f"# Completions of {name} for fish."]
-    for it in commands:
-        about = quoted(it.about)
-        made.append(f"complete -c {name} -n __fish_use_subcommand -f -a {it.name} -d {about}")
-        condition = f" -n '__fish_seen_subcommand_from {it.name}'"
-        made += [fish_option(name, condition, option) for option in it.options]
+    for command in commands:
+        about = quoted(command.about)
+        made.append(f"complete -c {name} -n __fish_use_subcommand -f -a {command.name} -d {about}")
+        condition = f" -n '__fish_seen_subcommand_from {command.name}'"
+        made += [fish_option(name, condition, option) for option in command.options]
     first = " -n __fish_use_subcommand" if commands else ""
-    made += [fish_option(name, first, it) for it in alone]
+    made += [fish_option(name, first, word) for word in alone]
     return "\n".join([*made, ""])
 
 
@@ -122,8 +124,8 @@ def write_completions(program: str, folder: str, shell: str, has_recorder: bool 
         texts[name] = made(name, helps.of_script(script).options, [])
     os.makedirs(folder, exist_ok=True)
     for name, text in texts.items():
-        with open(os.path.join(folder, file.format(name)), "w", encoding="utf-8") as it:
-            it.write(text)
+        with open(os.path.join(folder, file.format(name)), "w", encoding="utf-8") as each_file:
+            each_file.write(text)
 
 
 if __name__ == "__main__":

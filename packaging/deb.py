@@ -61,16 +61,16 @@ class Release(NamedTuple):
 
 def releases() -> list[Release]:
     """The versions of CHANGELOG.md, the newest first."""
-    with open(os.path.join(TOP, "CHANGELOG.md"), encoding="utf-8") as it:
-        parts = RELEASE.split(it.read())[1:]
-    return [Release(*it) for it in zip(parts[::3], parts[1::3], parts[2::3])]
+    with open(os.path.join(TOP, "CHANGELOG.md"), encoding="utf-8") as file:
+        parts = RELEASE.split(file.read())[1:]
+    return [Release(*pair) for pair in zip(parts[::3], parts[1::3], parts[2::3])]
 
 
 def entry_of(release: Release) -> str:
     """The changes of a version in Debian's form."""
     lines = []
-    for it in CHANGE.finditer(release.text):
-        words = " ".join(it.group()[2:].split())
+    for hit in CHANGE.finditer(release.text):
+        words = " ".join(hit.group()[2:].split())
         lines.append(DEBIAN.fill(words))
     day = time.mktime(time.strptime(release.day, "%Y-%m-%d"))
     when, changes = email.utils.formatdate(day, True), "\n".join(lines)
@@ -80,20 +80,20 @@ def entry_of(release: Release) -> str:
 
 def changelog() -> str:
     """The changes in Debian's form."""
-    return "\n".join(entry_of(it) for it in releases())
+    return "\n".join(entry_of(release) for release in releases())
 
 
 def write_packed(path: str, text: bytes) -> None:
     """Writes a text, packed by gzip without a time of its own."""
-    with open(path, "wb") as to, gzip.GzipFile("", "wb", 9, to, 0) as it:
-        it.write(text)
+    with open(path, "wb") as to, gzip.GzipFile("", "wb", 9, to, 0) as gzip_file:
+        gzip_file.write(text)
 
 
 def pack_pages(root: str) -> None:
     """Packs the manual pages, as Debian wants them."""
     for path in glob.glob(os.path.join(root, "usr", "share", "man", "man*", "*.[0-9]")):
-        with open(path, "rb") as it:
-            write_packed(f"{path}.gz", it.read())
+        with open(path, "rb") as file:
+            write_packed(f"{path}.gz", file.read())
         os.chmod(f"{path}.gz", 0o644)
         os.remove(path)
 
@@ -102,13 +102,13 @@ def fill_documents(folder: str) -> None:
     """What Debian wants beside the documents. Those of over 4 KiB may stay as they are."""
     os.remove(os.path.join(folder, "CHANGELOG.md"))
     write_packed(os.path.join(folder, "changelog.gz"), changelog().encode())
-    with open(os.path.join(folder, "copyright"), "w", encoding="utf-8") as it:
-        it.write(COPYRIGHT)
+    with open(os.path.join(folder, "copyright"), "w", encoding="utf-8") as file:
+        file.write(COPYRIGHT)
 
 
 def compiled(root: str) -> list[str]:
     """The paths of the compiled programs and libraries."""
-    return [path for it in COMPILED for path in glob.glob(os.path.join(root, it))]
+    return [path for text in COMPILED for path in glob.glob(os.path.join(root, text))]
 
 
 def strip(root: str) -> None:
@@ -125,9 +125,9 @@ def needed(root: str) -> str:
         return "libc6"
     with tempfile.TemporaryDirectory() as room:
         os.mkdir(os.path.join(room, "debian"))
-        with open(os.path.join(room, "debian", "control"), "w", encoding="utf-8") as it:
-            it.write(f"Source: {NAME}\n\nPackage: {NAME}\nArchitecture: amd64\n")
-        alone = [it for it in compiled(root) if os.path.basename(it) != BY_LAUNCHER]
+        with open(os.path.join(room, "debian", "control"), "w", encoding="utf-8") as file:
+            file.write(f"Source: {NAME}\n\nPackage: {NAME}\nArchitecture: amd64\n")
+        alone = [text for text in compiled(root) if os.path.basename(text) != BY_LAUNCHER]
         words = ["dpkg-shlibdeps", "-O", *alone]
         ran = subprocess.run(words, cwd=room, capture_output=True, text=True, check=False)
     found = SHLIBS.search(ran.stdout)
@@ -136,13 +136,13 @@ def needed(root: str) -> str:
 
 def files_below(root: str) -> list[str]:
     """The paths of all files below a folder, from there."""
-    found = [os.path.join(at, it) for at, _, names in os.walk(root) for it in names]
-    return sorted(os.path.relpath(it, root) for it in found)
+    found = [os.path.join(at, name) for at, _, names in os.walk(root) for name in names]
+    return sorted(os.path.relpath(text, root) for text in found)
 
 
 def control(root: str, version: str) -> str:
     """The fields of the package."""
-    size = sum(os.path.getsize(os.path.join(root, it)) for it in files_below(root))
+    size = sum(os.path.getsize(os.path.join(root, file)) for file in files_below(root))
     fields = {
         "Package": NAME,
         "Version": version,
@@ -156,7 +156,7 @@ def control(root: str, version: str) -> str:
     if glob.glob(os.path.join(root, "usr", "lib", "wire_up", "*")):
         fields["Suggests"] = "openmpi-bin, binutils, iproute2"
     fields["Description"] = ABOUT
-    return "".join(f"{name}: {it}\n" for name, it in fields.items()) + LONG
+    return "".join(f"{name}: {field}\n" for name, field in fields.items()) + LONG
 
 
 def write_control(root: str, version: str) -> None:
@@ -165,8 +165,8 @@ def write_control(root: str, version: str) -> None:
     sums = subprocess.run(["md5sum", *files], cwd=root, capture_output=True, check=True).stdout
     os.mkdir(folder)
     for name, text in (("control", fields.encode()), ("md5sums", sums)):
-        with open(os.path.join(folder, name), "wb") as it:
-            it.write(text)
+        with open(os.path.join(folder, name), "wb") as file:
+            file.write(text)
 
 
 def build(program: str, folder: str) -> str:

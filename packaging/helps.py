@@ -72,7 +72,7 @@ def version_of(program: str) -> str:
 def rows(text: str) -> list[tuple[str, str]]:
     """The rows of two columns, of which the first is what is written and the second what it
     means."""
-    return [(it[1], it[2]) for it in ROW.finditer(text)]
+    return [(hit[1], hit[2]) for hit in ROW.finditer(text)]
 
 
 def word_of(written: str, meaning: str) -> Word:
@@ -90,7 +90,7 @@ def part(text: str, title: str) -> str:
 
 def words_below(text: str, title: str) -> list[Word]:
     """The words or options below a title."""
-    return [word_of(*it) for it in rows(part(text, title))]
+    return [word_of(*row) for row in rows(part(text, title))]
 
 
 def of_command(program: str, name: str) -> Help:
@@ -106,7 +106,10 @@ def of_command(program: str, name: str) -> Help:
 def of_program(program: str) -> list[Help]:
     """What the program and each of its commands say: first the program alone."""
     names = [name for name, _ in rows(part(asked([program, "--help"]), "Commands"))]
-    return [of_command(program, name) for name in ["", *(it for it in names if it != "help")]]
+    return [
+        of_command(program, name)
+        for name in ["", *(each_name for each_name in names if each_name != "help")]
+    ]
 
 
 def script_option(written: str, meaning: str) -> Word:
@@ -126,6 +129,6 @@ def of_script(script: str) -> ScriptHelp:
         elif written and line.strip():
             name, meaning = written.pop()
             written.append((name, f"{meaning} {line.strip()}"))
-    found = [script_option(*it) for it in written]
-    used = [(it[1], it[2]) for it in USE.finditer(uses)]
+    found = [script_option(*pair) for pair in written]
+    used = [(hit[1], hit[2]) for hit in USE.finditer(uses)]
     return ScriptHelp(about.strip(), used, found, "\n\n".join(below))

@@ -54,7 +54,7 @@ def inline_part(part: "re.Match[str]") -> str:
 
 def inline(text: str) -> str:
     """A paragraph of Markdown."""
-    return "".join(inline_part(it) for it in INLINE.finditer(text))
+    return "".join(inline_part(hit) for hit in INLINE.finditer(text))
 
 
 def head(name: str, section: int, version: str, about: str) -> Lines:
@@ -67,15 +67,15 @@ def head(name: str, section: int, version: str, about: str) -> Lines:
 
 
 def example(lines: Sequence[str]) -> Lines:
-    return [".PP", ".nf", ".RS 4", *(escaped(it) for it in lines), ".RE", ".fi"]
+    return [".PP", ".nf", ".RS 4", *(escaped(line) for line in lines), ".RE", ".fi"]
 
 
 def table(lines: Sequence[str]) -> Lines:
     """A table of Markdown: each row a paragraph, with its first column at the margin."""
     made = []
     for line in lines[2:]:
-        first, *others = (it.strip() for it in CELL.split(line.strip().strip("|")))
-        rest = "; ".join(inline(it) for it in others if it)
+        first, *others = (part.strip() for part in CELL.split(line.strip().strip("|")))
+        rest = "; ".join(inline(text) for text in others if text)
         made += [".TP", inline(first), rest or "\\&"]
     return made
 
@@ -90,7 +90,7 @@ def items(lines: Sequence[str]) -> Lines:
             made += [f'.IP "{begins[1] or BULLET}" 4', begins[2]]
         else:
             made[-1] += f" {line.strip()}"
-    return [it if it.startswith(".IP ") else inline(it) for it in made]
+    return [text if text.startswith(".IP ") else inline(text) for text in made]
 
 
 def title(line: str) -> str:
@@ -104,12 +104,12 @@ def block(lines: Lines) -> Lines:
     if lines[0].startswith("#"):
         return [title(lines[0])]
     if lines[0].startswith("    "):
-        return example([it[4:] for it in lines])
+        return example([line[4:] for line in lines])
     if lines[0].startswith("|"):
         return table(lines)
     if ITEM.match(lines[0]):
         return items(lines)
-    return [".PP", inline(" ".join(it.strip() for it in lines))]
+    return [".PP", inline(" ".join(line.strip() for line in lines))]
 
 
 def blocks(text: str) -> list[Lines]:
@@ -127,19 +127,19 @@ def blocks(text: str) -> list[Lines]:
 def word_lines(words: Sequence[Word]) -> Lines:
     """The options or words of a command, each as a paragraph."""
     made = []
-    for it in words:
+    for word in words:
         names = ", ".join(
-            bold(name) if name.startswith("-") else slanted(name) for name in it.names
+            bold(name) if name.startswith("-") else slanted(name) for name in word.names
         )
-        value = f" {slanted(it.value)}" if it.value else ""
-        made += [".TP", names + value, inline(it.meaning)]
+        value = f" {slanted(word.value)}" if word.value else ""
+        made += [".TP", names + value, inline(word.meaning)]
     return made
 
 
 def usage_line(usage: str) -> str:
     """A usage: words that the user chooses are slanted."""
     plain = usage.replace("<", "").replace(">", "").split(" ")
-    words = [slanted(it) if re.search(r"[A-Z]", it) else escaped(it) for it in plain]
+    words = [slanted(word) if re.search(r"[A-Z]", word) else escaped(word) for word in plain]
     return " ".join([bold(words[0].replace("\\-", "-")), *words[1:]])
 
 
@@ -170,17 +170,17 @@ def program_page(program: str) -> Lines:
     alone, *commands = helps.of_program(program)
     about = alone.about[0].lower() + alone.about.partition(":")[0][1:]
     made = [*head("wire_up", 1, helps.version_of(program), about), ".SH SYNOPSIS"]
-    for it in commands:
-        made += [usage_line(it.usage), ".br"]
+    for command in commands:
+        made += [usage_line(command.usage), ".br"]
     made += [
         ".SH DESCRIPTION",
         f"{escaped(alone.about)}. The plan that it reads is described in",
         ".BR wire_up (5).",
         ".SH COMMANDS",
     ]
-    for it in commands:
-        made += [f".SS {bold(it.name)}", f"{escaped(it.about)}."]
-        made += word_lines([*it.words, *it.options])
+    for each_command in commands:
+        made += [f".SS {bold(each_command.name)}", f"{escaped(each_command.about)}."]
+        made += word_lines([*each_command.words, *each_command.options])
     others = [".BR wire_up (5),", ".BR wire_up\\-record (1),", ".BR wire_up\\-report (1),"]
     others.append(".BR wire_up\\-run (1)")
     return [*made, *sections(alone.below), ".SH SEE ALSO", *others]
@@ -202,8 +202,8 @@ def script_page(script: str, program: str) -> Lines:
 
 def format_page(program: str) -> Lines:
     """wire_up(5)."""
-    with open(os.path.join(TOP, "docs", "plan-format.md"), encoding="utf-8") as it:
-        first, *others = blocks(it.read())
+    with open(os.path.join(TOP, "docs", "plan-format.md"), encoding="utf-8") as file:
+        first, *others = blocks(file.read())
     if not first[0].startswith("# "):
         raise ValueError("docs/plan-format.md begins without a title")
     about = "the files that wire_up reads, and what it writes"
@@ -225,8 +225,8 @@ PAGES: dict[str, Callable[[str], Lines]] = {
 def write_page(name: str, program: str, folder: str) -> None:
     """Writes a page to a folder, which is made where it isn't there."""
     os.makedirs(folder, exist_ok=True)
-    with open(os.path.join(folder, name), "w", encoding="utf-8") as it:
-        it.writelines(f"{line}\n" for line in PAGES[name](program))
+    with open(os.path.join(folder, name), "w", encoding="utf-8") as file:
+        file.writelines(f"{line}\n" for line in PAGES[name](program))
 
 
 if __name__ == "__main__":

@@ -67,8 +67,8 @@ def shown(room: str, *words: str) -> str:
 
 def height_of(room: str) -> str | None:
     """How high the report in a folder is that is shown, in pixels."""
-    with open(os.path.join(room, "measure.html"), "w", encoding="ascii") as it:
-        it.write(MEASURE.format(width=WIDTH))
+    with open(os.path.join(room, "measure.html"), "w", encoding="ascii") as file:
+        file.write(MEASURE.format(width=WIDTH))
     page = f"file://{room}/measure.html"
     found = SAID.search(shown(room, "--virtual-time-budget=10000", "--dump-dom", page))
     return found[1] if found else None

@@ -12,7 +12,7 @@ import completions
 import manual
 from manual import TOP
 
-RECORDERS = [os.path.join(TOP, "record", it) for it in ("record.so", "record-mpi.so")]
+RECORDERS = [os.path.join(TOP, "record", word) for word in ("record.so", "record-mpi.so")]
 # The process that makes the calls of a rank, which the runner starts.
 RANK = os.path.join(TOP, "run", "wire_up-rank")
 # The package of the Python programs, and where these look for it, below the prefix.
@@ -42,15 +42,15 @@ def lay_out_programs(program: str, prefix: str) -> bool:
     """The program, the reporter, the runner, and the recorder where it is built. Answers whether
     that is so."""
     put(program, os.path.join(prefix, "bin"), 0o755, "wire_up")
-    for it in (manual.REPORTER, manual.RUNNER):
-        put(it, os.path.join(prefix, "bin"), 0o755)
+    for text in (manual.REPORTER, manual.RUNNER):
+        put(text, os.path.join(prefix, "bin"), 0o755)
     if os.path.exists(RANK):
         put(RANK, os.path.join(prefix, "lib", "wire_up"), 0o755)
-    built = [it for it in RECORDERS if os.path.exists(it)]
+    built = [recorder for recorder in RECORDERS if os.path.exists(recorder)]
     if built:
         put(manual.RECORDER, os.path.join(prefix, "bin"), 0o755)
-    for it in built:
-        put(it, os.path.join(prefix, "lib", "wire_up"))
+    for each_text in built:
+        put(each_text, os.path.join(prefix, "lib", "wire_up"))
     return bool(built)
 
 
@@ -59,12 +59,12 @@ def lay_out_package(prefix: str) -> None:
     folder = os.path.join(prefix, PACKAGES)
     place = os.path.join(folder, os.path.basename(PACKAGE))
     sources = glob.glob(os.path.join(PACKAGE, "**"), recursive=True)
-    files = [os.path.relpath(it, PACKAGE) for it in sources if os.path.isfile(it)]
-    wanted = [it for it in files if "__pycache__" not in it.split(os.sep)]
-    for it in wanted:
-        put(os.path.join(PACKAGE, it), os.path.join(place, os.path.dirname(it)))
+    files = [os.path.relpath(source, PACKAGE) for source in sources if os.path.isfile(source)]
+    wanted = [file for file in files if "__pycache__" not in file.split(os.sep)]
+    for text in wanted:
+        put(os.path.join(PACKAGE, text), os.path.join(place, os.path.dirname(text)))
     for at, _, names in os.walk(place):
-        for path in (os.path.join(at, it) for it in names):
+        for path in (os.path.join(at, name) for name in names):
             if os.path.relpath(path, place) not in wanted:
                 os.remove(path)
 
@@ -82,8 +82,8 @@ def lay_out_pages(program: str, prefix: str, has_recorder: bool) -> None:
 def lay_out_documents(prefix: str, name: str) -> str:
     """The documents for users with their picture, and the examples. Answers their folder."""
     folder = os.path.join(prefix, "share", "doc", name)
-    for it in AT_TOP:
-        put(os.path.join(TOP, it), folder)
+    for text in AT_TOP:
+        put(os.path.join(TOP, text), folder)
     for ending in ("md", "png"):
         for path in sorted(glob.glob(os.path.join(TOP, "docs", f"*.{ending}"))):
             if os.path.basename(path) not in FOR_DEVELOPERS:

@@ -43,7 +43,7 @@ class Function:
         """The parameters. Raises HeaderError for one without a name."""
         if self.text in ("void", ""):
             return ()
-        return tuple(self._parameter(it.strip()) for it in self.text.split(","))
+        return tuple(self._parameter(part.strip()) for part in self.text.split(","))
 
     def _parameter(self, declaration: str) -> Parameter:
         found = re.fullmatch(r"(.*[\s*])(\w+)((?:\s*\[[^\]]*\])*)", declaration)

@@ -97,8 +97,8 @@ def write_wrapper(library: Library, function: Function, parameters: tuple[Parame
         return indent(Template(text).substitute(function=function.name, kind=kind), "    ")
 
     has_two = library.frame is TWO_NAMES
-    declared = [it.declaration for it in parameters]
-    names = [it.name for it in parameters]
+    declared = [parameter.declaration for parameter in parameters]
+    names = [parameter.name for parameter in parameters]
     return library.frame.substitute(
         answer=library.answer,
         function=function.name,
@@ -111,7 +111,7 @@ def write_wrapper(library: Library, function: Function, parameters: tuple[Parame
         after_known_caller=", ".join(["caller", *names]),
         wrapper=f"watch_{function.name}" if has_two else function.name,
         caller="" if has_two else CALLER,
-        handed=", ".join(shape.handed.get(it, it) for it in names),
+        handed=", ".join(shape.handed.get(name, name) for name in names),
         before=body(shape.before),
         after=body(shape.after),
     )

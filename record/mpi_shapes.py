@@ -365,8 +365,8 @@ keep_begun(&it, result, request, is_told(&it, result) ? {sources} : "none");
 
 
 COLLECTIVES = {
-    **{f"collective/{name}": shape_collective(it) for name, it in SOURCES.items()},
-    **{f"nonblocking/{name}": shape_nonblocking(it) for name, it in SOURCES.items()},
+    **{f"collective/{name}": shape_collective(source) for name, source in SOURCES.items()},
+    **{f"nonblocking/{name}": shape_nonblocking(source) for name, source in SOURCES.items()},
 }
 
 BEGIN_CHILD = """\

@@ -100,7 +100,7 @@ def find_names(text: str, prefix: str) -> set[str]:
 def is_local(name: str, prefix: str) -> bool:
     """Whether a function waits for nothing that another process does."""
     short = name.removeprefix(f"{prefix}_").removesuffix(LARGE)
-    return name not in NOT_LOCAL and any(re.fullmatch(it, short) for it in LOCAL[prefix])
+    return name not in NOT_LOCAL and any(re.fullmatch(text, short) for text in LOCAL[prefix])
 
 
 def write_forgetting(name: str, parameter: Parameter) -> str:
@@ -119,7 +119,9 @@ def write_counted(library: Library, function: Function) -> str:
     parameters = function.parameters()
     note = NOTES_OF_PROGRAM if function.name in OF_PROGRAM else NOTES[library.prefix]
     note = NOTES_OF_QUERY if function.name in QUERIES else note
-    shape = Shape(note, "".join(write_forgetting(function.name, it) for it in parameters))
+    shape = Shape(
+        note, "".join(write_forgetting(function.name, parameter) for parameter in parameters)
+    )
     return write_wrapper(library, function, parameters, shape)
 
 

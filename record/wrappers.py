@@ -65,7 +65,7 @@ def write_row(library: Library, row: Row, function: Function) -> str:
         raise TableError(f"line {row.line}: {function.name} answers {function.answer}")
     if len(parameters) != len(row.arguments):
         raise TableError(f"line {row.line}: {function.name} has {len(parameters)} arguments")
-    named = tuple(it.renamed(name) for it, name in zip(parameters, row.arguments))
+    named = tuple(parameter.renamed(name) for parameter, name in zip(parameters, row.arguments))
     return write_wrapper(library, function, named, shape)
 
 
@@ -75,8 +75,8 @@ def write_wrappers(library: Library, table: str, header: str) -> str:
     wrappers = []
     for row in read_rows(table):
         names = (row.function, row.function + LARGE)
-        found = [functions[it] for it in names if it in functions]
-        wrappers += [write_row(library, row, it) for it in found]
+        found = [functions[name] for name in names if name in functions]
+        wrappers += [write_row(library, row, function) for function in found]
         if not found and not row.is_new:
             print(f"wrappers.py: the header has no {row.function}", file=sys.stderr)
     return write_file(library, "wrappers.py", wrappers)

@@ -24,10 +24,10 @@ from build.proving import prove_all
 
 def prove_and_try(files: Sequence[EditFile], crates: Sequence[Crate]) -> Outcomes:
     """Proves the crates of the edits and all below them, and then tries the edits."""
-    needed = {it.name for crate, _ in files for it in [*crate.below(), crate]}
+    needed = {each_crate.name for crate, _ in files for each_crate in [*crate.below(), crate]}
     log = logs.log_at("edits.log")
     with locked(crates), open(log, "w", encoding="utf-8") as to:
-        failed = prove_all([it for it in crates if it.name in needed], to)
+        failed = prove_all([each_crate for each_crate in crates if each_crate.name in needed], to)
         if failed:
             names = " ".join(failed)
             sys.exit(
@@ -46,7 +46,7 @@ def main(words: Sequence[str]) -> int:
         print(f"rt: {outcome.text}")
     for line in slow_ones(found.values()):
         print(line)
-    refused = sum(it.is_refused for it in found.values())
+    refused = sum(each_outcome.is_refused for each_outcome in found.values())
     print(f"{refused} passed, {len(found) - refused} failed")
     return 0 if refused == len(found) else 1
 

@@ -40,7 +40,7 @@ def batches_of(edits: Sequence[Edit]) -> list[list[Edit]]:
     copied."""
     batches: list[list[Edit]] = []
     for edit in edits:
-        free = next((it for it in batches if has_room_for(it, edit)), None)
+        free = next((batch for batch in batches if has_room_for(batch, edit)), None)
         if free is None:
             free = []
             batches.append(free)
@@ -51,7 +51,9 @@ def batches_of(edits: Sequence[Edit]) -> list[list[Edit]]:
 def has_room_for(batch: Sequence[Edit], edit: Edit) -> bool:
     """Whether an edit can join a batch."""
     place = edit.file, edit.function
-    return can_be_copied(edit) or all((it.file, it.function) != place for it in batch)
+    return can_be_copied(edit) or all(
+        (each_edit.file, each_edit.function) != place for each_edit in batch
+    )
 
 
 def texts_of(batch: Sequence[Edit], empties: bool = True) -> Texts:
@@ -64,7 +66,7 @@ def texts_of(batch: Sequence[Edit], empties: bool = True) -> Texts:
     proofs: dict[str, str | None] = {}
     names: dict[str, Edit | None] = {}
     # From the end of each file to its start, so that the places of other functions stay.
-    for place, edits in sorted(by_function.items(), key=lambda it: -it[0][1].begin):
+    for place, edits in sorted(by_function.items(), key=lambda each_place: -each_place[0][1].begin):
         copies = copies_of(edits, place in as_they_are) if len(edits) > 1 else {}
         put_in_place(edits, copies, sources, names)
         for name in copies:
@@ -87,7 +89,7 @@ def put_in_place(
     text, around = sources.get(file, edits[0].was), function.path.rpartition("::")[0]
     own = "\n\n".join([edits[0].wrong_text(), *copies.values()])
     sources[file] = text[: function.begin] + own + text[function.end:]
-    paths = [function.path, *("::".join(filter(None, [around, it])) for it in copies)]
+    paths = [function.path, *("::".join(filter(None, [around, copy])) for copy in copies)]
     names.update(zip(paths, [*edits, *[None] * len(copies)]))
 
 
@@ -97,8 +99,8 @@ def placed_in(
     """The edits in their places, by the paths of the functions that have their wrong bodies."""
     found = []
     for file, text in sources.items():
-        for it in functions_of(crate, file, text):
-            edit = names.get(it.path)
+        for function in functions_of(crate, file, text):
+            edit = names.get(function.path)
             if edit:
-                found.append(Placed(edit, it.path, *lines_of(text, it)))
+                found.append(Placed(edit, function.path, *lines_of(text, function)))
     return found

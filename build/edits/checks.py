@@ -43,8 +43,8 @@ def copy_with(crate: Crate, texts: Mapping[str, str | None], room: str) -> None:
             with contextlib.suppress(FileNotFoundError):
                 os.remove(f"{room}/{path}")
             continue
-        with open(f"{room}/{path}", "w", encoding="utf-8") as it:
-            it.write(text)
+        with open(f"{room}/{path}", "w", encoding="utf-8") as file:
+            file.write(text)
 
 
 def checked(
@@ -64,9 +64,9 @@ def checked(
             stderr=subprocess.STDOUT,
             text=True,
             errors="replace",
-        ) as it:
-            said, seconds = heard(it.stdout or ())
-        return Checked(it.returncode, said, seconds)
+        ) as process:
+            said, seconds = heard(process.stdout or ())
+        return Checked(process.returncode, said, seconds)
 
 
 def heard(lines: Iterable[str]) -> tuple[str, dict[tuple[str, ...], float]]:
@@ -76,8 +76,8 @@ def heard(lines: Iterable[str]) -> tuple[str, dict[tuple[str, ...], float]]:
     seconds: dict[tuple[str, ...], float] = {}
     for line in lines:
         said.append(line)
-        if it := TRIED.match(line):
-            seconds[tuple(it[1].split("::")[1:])] = time.monotonic() - before
+        if hit := TRIED.match(line):
+            seconds[tuple(hit[1].split("::")[1:])] = time.monotonic() - before
             before = time.monotonic()
     return "".join(said), seconds
 
@@ -87,15 +87,15 @@ def check(batch: Sequence[Edit], kept: str | None = None, empties: bool = True) 
     shows it. What an earlier check of the same crate kept in a folder isn't checked again, and what
     this one checks is kept there for the next."""
     texts = texts_of(batch, empties)
-    only = [word for it in texts.only for word in ("--only", it)]
+    only = [word for text in texts.only for word in ("--only", text)]
     flags = ["--jobs", "1", "--progress", *["--allow-holes"] * empties, *only]
     ran = checked(batch[0].crate, {**texts.sources, **texts.proofs}, flags, kept)
     if not is_judged(ran.status, ran.said, texts):
         return {}
-    found = [(it, judged(it, ran.said)) for it in texts.placed]
+    found = [(placed, judged(placed, ran.said)) for placed in texts.placed]
     return {
-        it.edit.path: replace(outcome, seconds=seconds_of(it, ran))
-        for it, outcome in found
+        placed.edit.path: replace(outcome, seconds=seconds_of(placed, ran))
+        for placed, outcome in found
         if outcome
     }
 

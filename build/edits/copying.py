@@ -27,7 +27,7 @@ def copies_of(edits: Sequence[Edit], has_control: bool) -> dict[str, str]:
     without an edit if it is wanted."""
     function, was = edits[0].body, edits[0].was
     name, attributes = function.name, attributes_of(was, function) or ""
-    bodies = {f"{name}_wrong_{n}": it.wrong_text() for n, it in enumerate(edits[1:], 2)}
+    bodies = {f"{name}_wrong_{n}": edit.wrong_text() for n, edit in enumerate(edits[1:], 2)}
     if has_control:
         bodies[f"{name}_as_it_is"] = was[function.begin:function.end]
     header = re.compile(rf"\bfn {name}\b")
@@ -41,21 +41,21 @@ def is_cited(crate: Crate, path: str) -> bool:
     of a path, or of a closure in it, by the whole name of its module."""
     *around, own = path.split("::")
     inner = (around, [*around, "fn"])
-    folders = tuple(os.path.join(crate.folder, "proofs", *it, own, "") for it in inner)
-    modules = [".".join(["proofs", *it, own]) for it in inner]
+    folders = tuple(os.path.join(crate.folder, "proofs", *row, own, "") for row in inner)
+    modules = [".".join(["proofs", *row, own]) for row in inner]
     cites = re.compile(rf"\.(?:{'|'.join(map(re.escape, modules))})\.")
-    proofs = [it for it in kit.files_of(crate.folder) if it.endswith(".antt")]
-    others = (it for it in proofs if not it.startswith(folders))
-    return any(cites.search(kit.text_of(it)) for it in others)
+    proofs = [file for file in kit.files_of(crate.folder) if file.endswith(".antt")]
+    others = (proof for proof in proofs if not proof.startswith(folders))
+    return any(cites.search(kit.text_of(text)) for text in others)
 
 
 def copied_as_they_are(by_function: Mapping[Place, Sequence[Edit]]) -> list[Place]:
     """The functions, of those in a batch by their edits, of which a copy without an edit is made:
     those of several edits whose proofs other files name, or else the shortest with several
     edits."""
-    several = [it for it, edits in by_function.items() if len(edits) > 1]
-    cited = [it for it in several if is_cited(by_function[it][0].crate, it[1].path)]
-    return cited or sorted(several, key=lambda it: it[1].end - it[1].body)[:1]
+    several = [pair for pair, edits in by_function.items() if len(edits) > 1]
+    cited = [pair for pair in several if is_cited(by_function[pair][0].crate, pair[1].path)]
+    return cited or sorted(several, key=lambda pair: pair[1].end - pair[1].body)[:1]
 
 
 def proofs_of_copy(crate: Crate, path: str, name: str) -> dict[str, str]:
@@ -74,4 +74,4 @@ def proofs_of_copy(crate: Crate, path: str, name: str) -> dict[str, str]:
 
 def files_below(folder: str) -> list[str]:
     """The paths of the files below a folder."""
-    return [os.path.join(at, it) for at, _, files in os.walk(folder) for it in files]
+    return [os.path.join(at, file) for at, _, files in os.walk(folder) for file in files]

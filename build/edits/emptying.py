@@ -64,9 +64,11 @@ def proofs_when_emptied(crate: Crate, path: str) -> dict[str, str | None]:
     *around, own = path.split("::")
     folder = os.path.join("proofs", *around, own)
     closures = os.path.join(crate.folder, "proofs", *around, "fn", own)
-    found: dict[str, str | None] = {os.path.join(folder, it): None for it in OWN_PROOFS}
+    found: dict[str, str | None] = {os.path.join(folder, proof): None for proof in OWN_PROOFS}
     for at, _, files in os.walk(closures):
-        found.update((os.path.relpath(os.path.join(at, it), crate.folder), None) for it in files)
+        found.update(
+            (os.path.relpath(os.path.join(at, file), crate.folder), None) for file in files
+        )
     text = EMPTIED.format(crate=crate.name, path=path.replace("::", "."))
     return {**found, os.path.join(folder, "Answers.antt"): text}
 
@@ -78,14 +80,23 @@ def functions_to_empty(
     found = {}
     for file in source_files(crate):
         text = sources.get(file) or source_of(crate, file)
-        others = [it for it in functions_of(crate, file, text) if it.path not in only]
-        found[file] = ToEmpty(text, [it for it in others if can_be_emptied(file, text, it)])
+        others = [
+            function for function in functions_of(crate, file, text) if function.path not in only
+        ]
+        found[file] = ToEmpty(
+            text,
+            [
+                each_function
+                for each_function in others
+                if can_be_emptied(file, text, each_function)
+            ],
+        )
     return found
 
 
 def called_in(body: str, names: Collection[str]) -> set[str]:
     """Which of these names of functions a body calls, as far as its words show it."""
-    return {it for it in CALLED.findall(body) if it in names}
+    return {found for found in CALLED.findall(body) if found in names}
 
 
 def control_of(to_empty: dict[str, ToEmpty], only: Collection[str]) -> str | None:
@@ -93,9 +104,13 @@ def control_of(to_empty: dict[str, ToEmpty], only: Collection[str]) -> str | Non
     edit or a copy of one, and if possible one that calls one that is emptied, and the shortest of
     those."""
     files = to_empty.values()
-    bodies = {it.path: file.text[it.body:it.end] for file in files for it in file.functions}
-    edited = {it.rpartition("::")[2] for it in only}
-    emptied = {it.rpartition("::")[2] for it in bodies}
+    bodies = {
+        function.path: file.text[function.body:function.end]
+        for file in files
+        for function in file.functions
+    }
+    edited = {text.rpartition("::")[2] for text in only}
+    emptied = {each_body.rpartition("::")[2] for each_body in bodies}
     good = [path for path, body in bodies.items() if not called_in(body, edited)]
 
     def rank(path: str) -> tuple[bool, int]:
@@ -115,9 +130,9 @@ def empty_others(
     of its source and proof files. Answers the path of the one that keeps its body."""
     to_empty = functions_to_empty(crate, only, sources)
     control = control_of(to_empty, only)
-    for file, it in to_empty.items():
-        text = it.text
-        for function in reversed(it.functions):
+    for file, each_to_empty in to_empty.items():
+        text = each_to_empty.text
+        for function in reversed(each_to_empty.functions):
             if function.path != control:
                 text = without_body(text, function)
                 proofs.update(proofs_when_emptied(crate, function.path))

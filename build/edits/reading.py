@@ -61,7 +61,14 @@ def read(crate: Crate, path: str) -> tuple[Edit | None, str | None]:
     was = source_of(crate, file)
     begin, end = changed_part(was, texts[file])
     functions = functions_of(crate, file, was)
-    function = next((it for it in functions if it.body <= begin and end <= it.end), None)
+    function = next(
+        (
+            each_function
+            for each_function in functions
+            if each_function.body <= begin and end <= each_function.end
+        ),
+        None,
+    )
     return Edit(crate, path, texts, file, was, function), None
 
 
@@ -69,7 +76,7 @@ def paths_of(crate: Crate) -> list[str]:
     """The paths of the edits of a crate."""
     folder = os.path.join(crate.folder, "edits")
     names = sorted(os.listdir(folder)) if os.path.isdir(folder) else []
-    return [os.path.join(folder, it) for it in names]
+    return [os.path.join(folder, name) for name in names]
 
 
 def edits_of(crates: Sequence[Crate]) -> list[EditFile]:
@@ -89,7 +96,7 @@ def asked_for(words: Sequence[str], crates: Sequence[Crate]) -> list[EditFile]:
                 these.append((crate, path))
         if not these:
             sys.exit(f"{word}: no edit and no crate with edits")
-        found += [it for it in these if it not in found]
+        found += [pair for pair in these if pair not in found]
     return found if words else files
 
 

@@ -86,13 +86,13 @@ def body_of(text: str, begin: int, end: int, indent: str) -> int:
 def module_of(file: str) -> list[str]:
     """The path of the module that a source file holds."""
     parts = file[len("src/"):-len(".rt")].split("/")
-    return [it for it in parts if it not in ("lib", "main")]
+    return [part for part in parts if part not in ("lib", "main")]
 
 
 def source_files(crate: Crate) -> list[str]:
     """The source files of a crate, by their paths in it."""
-    files = [os.path.relpath(it, crate.folder) for it in kit.files_of(crate.folder)]
-    return [it for it in files if it.startswith("src/") and it.endswith(".rt")]
+    files = [os.path.relpath(file, crate.folder) for file in kit.files_of(crate.folder)]
+    return [file for file in files if file.startswith("src/") and file.endswith(".rt")]
 
 
 def source_of(crate: Crate, file: str) -> str:
@@ -106,32 +106,37 @@ def homes_of(crate: Crate) -> dict[str, list[str]]:
     wherever the `impl` stands."""
     found: dict[str, list[str]] = {}
     for file in source_files(crate):
-        found.update((it, module_of(file)) for it in TYPE.findall(source_of(crate, file)))
+        found.update(
+            (each_found, module_of(file)) for each_found in TYPE.findall(source_of(crate, file))
+        )
     return found
 
 
 def impls_of(crate: Crate, file: str, text: str) -> list[Impl]:
     """The `impl` blocks of a source file."""
-    homes = {**homes_of(crate), **{it: module_of(file) for it in TYPE.findall(text)}}
+    homes = {
+        **homes_of(crate),
+        **{each_found: module_of(file) for each_found in TYPE.findall(text)},
+    }
     found = []
-    for it in IMPL.finditer(text):
-        owner, end = owner_of(it[1]), end_of(text, it.start(), "")
+    for hit in IMPL.finditer(text):
+        owner, end = owner_of(hit[1]), end_of(text, hit.start(), "")
         path = [*homes.get(owner, module_of(file)), owner]
-        found.append(Impl(it.start(), end, path, " for " in head_of(it[1])))
+        found.append(Impl(hit.start(), end, path, " for " in head_of(hit[1])))
     return found
 
 
 def functions_of(crate: Crate, file: str, text: str) -> list[Function]:
     """The functions of a source file, but for those of a trait that have no body."""
     impls, headers = impls_of(crate, file, text), list(HEADER.finditer(text))
-    later = [it.start() for it in headers[1:]] + [len(text) + 1]
+    later = [header.start() for header in headers[1:]] + [len(text) + 1]
     found = []
-    for it, after in zip(headers, later):
-        begin, end = it.start(), end_of(text, it.start(), it[1])
+    for header, after in zip(headers, later):
+        begin, end = header.start(), end_of(text, header.start(), header[1])
         if after > end:
             around = next((each for each in impls if each.begin <= begin < each.end), None)
-            path = "::".join([*(around.path if around else module_of(file)), it[2]])
-            body = body_of(text, begin, end, it[1])
+            path = "::".join([*(around.path if around else module_of(file)), header[2]])
+            body = body_of(text, begin, end, header[1])
             found.append(Function(path, begin, body, end, bool(around and around.is_of_trait)))
     return found
 
@@ -145,9 +150,11 @@ def attributes_of(text: str, function: Function) -> str | None:
         return bool(line.strip()) and not line.endswith(("{", "}"))
 
     own = list(itertools.takewhile(is_own, reversed(above)))
-    if not all(it.lstrip().startswith(("#[", "//")) for it in own):
+    if not all(each_line.lstrip().startswith(("#[", "//")) for each_line in own):
         return None
-    return "".join(f"{it}\n" for it in reversed(own) if it.lstrip().startswith("#["))
+    return "".join(
+        f"{each_text}\n" for each_text in reversed(own) if each_text.lstrip().startswith("#[")
+    )
 
 
 def is_in_cycle(attributes: str) -> bool:

@@ -26,8 +26,11 @@ def say_nothing(state: str) -> None:
 
 def slow_ones(outcomes: Iterable[Outcome]) -> list[str]:
     """A line for each edit whose function took long, the longest first."""
-    slow = sorted((it for it in outcomes if it.seconds >= LONG), key=lambda it: -it.seconds)
-    return [f"{it.seconds:.0f} seconds: {it.text.partition(':')[0]}" for it in slow]
+    slow = sorted(
+        (outcome for outcome in outcomes if outcome.seconds >= LONG),
+        key=lambda outcome: -outcome.seconds,
+    )
+    return [f"{outcome.seconds:.0f} seconds: {outcome.text.partition(':')[0]}" for outcome in slow]
 
 
 def side_by_side(work: Mapping[str, tuple[Crate, Callable[[], Given]]]) -> dict[str, Given]:
@@ -37,7 +40,7 @@ def side_by_side(work: Mapping[str, tuple[Crate, Callable[[], Given]]]) -> dict[
     def proof_of(crate: Crate, call: Callable[[], Given]) -> lanes.Proof[Given]:
         return lanes.Proof([], crate.count(rb"\n"), kit.need(crate), lambda _given: call())
 
-    return lanes.run_all({name: proof_of(*it) for name, it in work.items()}, machine_here())
+    return lanes.run_all({name: proof_of(*pair) for name, pair in work.items()}, machine_here())
 
 
 def read_all(files: Sequence[EditFile]) -> tuple[list[Edit], Outcomes]:
@@ -58,7 +61,7 @@ def try_all(files: Sequence[EditFile], tell: Tell = say_nothing) -> Outcomes:
     built, and the crates proved."""
     edits, found = read_all(files)
     found.update(try_in_batches(edits, tell))
-    left = [it for it in edits if it.path not in found]
+    left = [edit for edit in edits if edit.path not in found]
     found.update(try_one_by_one(left, tell))
     return {path: found[path] for _, path in files}
 
@@ -69,7 +72,7 @@ def try_in_batches(edits: Sequence[Edit], tell: Tell) -> Outcomes:
     for edit in edits:
         if edit.function:
             by_crate[edit.crate].append(edit)
-    batches = {crate: batches_of(it) for crate, it in by_crate.items()}
+    batches = {crate: batches_of(row) for crate, row in by_crate.items()}
     count, total = itertools.count(1), sum(map(len, batches.values()))
 
     def ended() -> None:
@@ -93,4 +96,9 @@ def try_one_by_one(edits: Sequence[Edit], tell: Tell) -> Outcomes:
         tell(f"{next(count)} of {total} that are tried alone")
         return outcome
 
-    return side_by_side({it.path: (it.crate, functools.partial(try_next, it)) for it in edits})
+    return side_by_side(
+        {
+            each_edit.path: (each_edit.crate, functools.partial(try_next, each_edit))
+            for each_edit in edits
+        }
+    )

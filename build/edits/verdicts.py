@@ -61,13 +61,13 @@ class Outcome:
     @property
     def is_poor(self) -> bool:
         """Whether it is refused for a reason that says little of the contract."""
-        return any(it in self.text for it in POOR)
+        return any(text in self.text for text in POOR)
 
 
 def without_marks(path: Sequence[str]) -> list[str]:
     """The parts of a path of the prover's without the word that marks those of closures, and
     without the mark of a function that calls itself."""
-    return [it.removeprefix("+") for it in path if it != "fn"]
+    return [text.removeprefix("+") for text in path if text != "fn"]
 
 
 def begins_with(path: Sequence[str], own: Sequence[str]) -> bool:
@@ -96,10 +96,12 @@ def is_own(verdict: str, path: Sequence[str]) -> bool:
     of others."""
     if verdict.startswith("not proved"):
         stands, own = STANDS.search(verdict), without_marks(path)
-        names = [it.split(".") for it in PROOF.findall(stands[1])] if stands else []
-        return not names or any(begins_with(it, own) for it in names)
+        names = [found.split(".") for found in PROOF.findall(stands[1])] if stands else []
+        return not names or any(begins_with(name, own) for name in names)
     reasons = verdict.removeprefix("no proof: ").split("; ")
-    return verdict.startswith("no proof") and not all(OTHERS.fullmatch(it) for it in reasons)
+    return verdict.startswith("no proof") and not all(
+        OTHERS.fullmatch(reason) for reason in reasons
+    )
 
 
 def own_failures(said: str) -> list[tuple[list[str], str]]:
@@ -117,7 +119,7 @@ def judged(placed: Placed, said: str) -> Outcome | None:
     verdicts = [words for path, words in own_failures(said) if belongs_to(placed, path)]
     if not verdicts:
         return None
-    if any(UNCOVERED in it for it in verdicts):
+    if any(UNCOVERED in verdict for verdict in verdicts):
         return Outcome(False, f"{label}: BAD EDIT: no contract was tried: {verdicts[0]}")
     about = [line for line in said.splitlines() if is_about(placed, line)]
     told = [line for line in about if ": error" in line or line.startswith("note: ")]
@@ -129,11 +131,11 @@ def judged(placed: Placed, said: str) -> Outcome | None:
 
 def only_why(told: Sequence[str], reason: str, verdicts: Sequence[str]) -> str:
     """Why a refusal says little, if it does."""
-    if all(UNMEASURED.match(it) for it in verdicts):
+    if all(UNMEASURED.match(verdict) for verdict in verdicts):
         return ONLY_A_LOOP
     if told and not reason:
         return ONLY_A_NAME
-    return ONLY_A_LIMIT if any(kit.LIMITS.search(it) for it in told) else ""
+    return ONLY_A_LIMIT if any(kit.LIMITS.search(text) for text in told) else ""
 
 
 def blames_another(line: str, texts: Texts) -> bool:
@@ -144,7 +146,11 @@ def blames_another(line: str, texts: Texts) -> bool:
         return False
     is_refused = ": error" in line and "was not admitted" not in line
     # (the proofs of a cycle of calls have its name)
-    return is_refused and "/+" not in at[1] and not any(is_about(it, line) for it in texts.placed)
+    return (
+        is_refused
+        and "/+" not in at[1]
+        and not any(is_about(placed, line) for placed in texts.placed)
+    )
 
 
 def is_judged(status: int, said: str, texts: Texts) -> bool:
@@ -152,19 +158,19 @@ def is_judged(status: int, said: str, texts: Texts) -> bool:
     if status != 1 or not LAST.search(said) or kit.STALE.search(said):
         return False
     lines = said.splitlines()
-    if any(kit.is_unread(it, texts.sources) or blames_another(it, texts) for it in lines):
+    if any(kit.is_unread(line, texts.sources) or blames_another(line, texts) for line in lines):
         return False
     paths = [path for path, _ in own_failures(said)]
-    are_known = all(any(belongs_to(it, path) for it in texts.placed) for path in paths)
+    are_known = all(any(belongs_to(placed, path) for placed in texts.placed) for path in paths)
     return are_known and are_proved(texts, said)
 
 
 def are_proved(texts: Texts, said: str) -> bool:
     """Whether each function without an edit that has its body has a proof, or has none only because
     of others."""
-    edited = {it.path for it in texts.placed}
+    edited = {placed.path for placed in texts.placed}
     verdicts = {path.partition("::")[2]: words for path, words in VERDICT.findall(said)}
-    controls = [(it, verdicts.get(it, "")) for it in texts.only if it not in edited]
+    controls = [(text, verdicts.get(text, "")) for text in texts.only if text not in edited]
     return all(is_proved(path, words) for path, words in controls)
 
 

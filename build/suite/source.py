@@ -65,7 +65,7 @@ class SuiteProgram:
     @property
     def title(self) -> str:
         """How a report names it."""
-        words = "".join(f" {it}" for it in [*self.words, *self.variables.values()])
+        words = "".join(f" {word}" for word in [*self.words, *self.variables.values()])
         return f"{self.part}/{self.name}{words} on {self.processes}"
 
 
@@ -82,8 +82,8 @@ def call(words: Sequence[str], folder: str, log: str) -> None:
 
 def find_release() -> str:
     """The name of Debian's release on this machine. Raises NoSuite."""
-    with open("/etc/os-release", encoding="utf-8") as it:
-        found = re.search(r"^VERSION_CODENAME=(\w+)$", it.read(), re.M)
+    with open("/etc/os-release", encoding="utf-8") as file:
+        found = re.search(r"^VERSION_CODENAME=(\w+)$", file.read(), re.M)
     if not found:
         raise NoSuite("/etc/os-release names no release of Debian")
     return found[1]
@@ -119,8 +119,8 @@ def rename_in(suite: str) -> None:
     """Writes the names that Open MPI's binding of C++ has into the suite."""
     for name in IN_FILES:
         path = os.path.join(suite, name)
-        with open(path, encoding="utf-8") as it:
-            text = it.read()
+        with open(path, encoding="utf-8") as file:
+            text = file.read()
         for old, new in OTHER_NAMES.items():
             text = text.replace(old, new)
         with open(path, "w", encoding="utf-8") as to:
@@ -142,12 +142,12 @@ def configure(room: str, source: str) -> str:
     return folder
 
 
-def build(built: str, it: SuiteProgram, log: str) -> bool:
+def build(built: str, program: SuiteProgram, log: str) -> bool:
     """Compiles a program. Answers whether that went well."""
     with open(log, "ab") as to:
         ran = subprocess.run(
-            ["make", "-s", it.name],
-            cwd=os.path.join(built, it.part),
+            ["make", "-s", program.name],
+            cwd=os.path.join(built, program.part),
             stdout=to,
             stderr=to,
             check=False,
@@ -171,7 +171,7 @@ def read_list(part: str, text: str) -> Iterator[SuiteProgram]:
             continue
         if not more:
             more = ["2"]
-        settings = [it.partition("=") for it in more[1:]]
+        settings = [word.partition("=") for word in more[1:]]
         if any(key in ("xfail", "mem") or (key, value) == ("strict", "true")
                for key, _, value in settings):
             continue
@@ -180,12 +180,12 @@ def read_list(part: str, text: str) -> Iterator[SuiteProgram]:
         yield SuiteProgram(part, name, int(more[0]), words, variables)
 
 
-def calls_pmix(it: SuiteProgram, built: str, source: str) -> bool:
+def calls_pmix(program: SuiteProgram, built: str, source: str) -> bool:
     """Whether the source of a program shows that it calls PMIx, or has MPI call it for names or
     other jobs."""
     for top in (built, os.path.join(source, SUITE)):
         for end in SOURCES:
-            path = os.path.join(top, it.part, f"{it.name}{end}")
+            path = os.path.join(top, program.part, f"{program.name}{end}")
             if os.path.isfile(path):
                 with open(path, "rb") as text:
                     return CALLING.search(text.read()) is not None
@@ -212,16 +212,22 @@ def find_programs(built: str, source: str, parts: Sequence[str]) -> list[SuitePr
     """The programs of some parts, or of all if none is named. Raises NoSuite for a part that isn't
     there."""
     known = find_parts(built, source)
-    wanted = [it for it in known if not parts or any(is_within(it, part) for part in parts)]
-    lacking = [part for part in parts if not any(is_within(it, part) for it in known)]
+    wanted = [
+        each_part
+        for each_part in known
+        if not parts or any(is_within(each_part, part) for part in parts)
+    ]
+    lacking = [part for part in parts if not any(is_within(each_part, part) for each_part in known)]
     if lacking:
         raise NoSuite(f"there is no part {', '.join(lacking)}: the parts are {', '.join(known)}")
     found: list[SuiteProgram] = []
     for part in wanted:
         here = os.path.join(built, part)
-        with open(known[part], encoding="utf-8") as it:
-            listed = [*read_list(part, it.read())]
-        found += [it for it in listed if not os.path.isdir(os.path.join(here, it.name))]
+        with open(known[part], encoding="utf-8") as file:
+            listed = [*read_list(part, file.read())]
+        found += [
+            program for program in listed if not os.path.isdir(os.path.join(here, program.name))
+        ]
     return found
 
 

@@ -10,10 +10,9 @@ import time
 from collections.abc import Mapping, Sequence
 from dataclasses import dataclass
 
-from recorded import is_alike
-
 from build.places import TOP
 from build.suite.source import SuiteProgram
+from tests.support.recorded import is_alike
 
 # Open MPI as root must be told that this is meant; and its processes don't spin while they wait.
 SETTINGS = {
@@ -62,7 +61,7 @@ class Ran:
 
 def sort_lines(text: str) -> Sequence[str]:
     """The lines of a text in order, without numbers."""
-    return sorted(NUMBER.sub("N", it) for it in text.splitlines() if it.strip())
+    return sorted(NUMBER.sub("N", line) for line in text.splitlines() if line.strip())
 
 
 def run(words: Sequence[str], folder: str, more: Mapping[str, str], patience: float) -> Ran:
@@ -131,7 +130,7 @@ def why_different(plain: Ran, recorded: Ran) -> str:
         return f"status {status}, not {plain.status}"
     for one, other, what in zip(plain.lines, recorded.lines, ("output", "error output")):
         if one != other:
-            line = next((it for it in other if it not in one), "fewer lines")
+            line = next((text for text in other if text not in one), "fewer lines")
             return f"{what}: {line[:80]}"
     return ""
 
@@ -145,11 +144,11 @@ class Bench:
     checker: str
     patience: float
 
-    def start(self, it: SuiteProgram) -> list[str]:
+    def start(self, program: SuiteProgram) -> list[str]:
         """The words that start a program."""
-        path = os.path.join(self.built, it.part, it.name)
-        launcher = ["mpirun", "--oversubscribe", "-n", str(it.processes)]
-        return [*launcher, path, *it.words]
+        path = os.path.join(self.built, program.part, program.name)
+        launcher = ["mpirun", "--oversubscribe", "-n", str(program.processes)]
+        return [*launcher, path, *program.words]
 
     def ask(self, *words: str) -> "subprocess.CompletedProcess[str]":
         """Runs the checker."""
@@ -157,48 +156,48 @@ class Bench:
             [self.checker, *words], capture_output=True, text=True, timeout=600, check=False
         )
 
-    def try_program(self, it: SuiteProgram) -> Outcome:
+    def try_program(self, program: SuiteProgram) -> Outcome:
         """Runs a program both ways, and judges its plan."""
-        folder = os.path.join(self.built, it.part)
+        folder = os.path.join(self.built, program.part)
         with tempfile.TemporaryDirectory(prefix="wire-up-suite-") as room:
             plan, answers = os.path.join(room, "plan"), os.path.join(room, "answers")
             recorder = [sys.executable, RECORDER, "-o", plan, "--answers", answers]
             recorder += ["--checker", self.checker]
             differs = ""
             for _ in range(TRIES):
-                plain = run(self.start(it), folder, it.variables, self.patience)
+                plain = run(self.start(program), folder, program.variables, self.patience)
                 if plain.status is None:
-                    return Outcome(it, f"takes longer than {self.patience:.0f} s by itself")
+                    return Outcome(program, f"takes longer than {self.patience:.0f} s by itself")
                 patience = 3 * plain.seconds + self.patience
-                ran = run([*recorder, *self.start(it)], folder, it.variables, patience)
+                ran = run([*recorder, *self.start(program)], folder, program.variables, patience)
                 differs = why_different(plain, ran)
                 if not differs:
                     break
             if not os.path.exists(plan):
                 why = (OWN_LINE.findall(ran.said) or ["nothing was said"])[-1]
-                return Outcome(it, no_plan=why, differs=differs, seconds=ran.seconds)
-            return self.judge(it, ran, differs, room)
+                return Outcome(program, no_plan=why, differs=differs, seconds=ran.seconds)
+            return self.judge(program, ran, differs, room)
 
-    def turn_program(self, it: SuiteProgram) -> Outcome:
+    def turn_program(self, program: SuiteProgram) -> Outcome:
         """Runs a program, and turns each order of its plan round."""
-        folder = os.path.join(self.built, it.part)
+        folder = os.path.join(self.built, program.part)
         with tempfile.TemporaryDirectory(prefix="wire-up-suite-") as room:
             plan, shown = os.path.join(room, "plan"), os.path.join(room, "shown")
             words = [sys.executable, RECORDER, "-o", plan, "--checker", self.checker, "--turn"]
-            words += ["--most", MOST_TURNED, "--shown", shown, *self.start(it)]
+            words += ["--most", MOST_TURNED, "--shown", shown, *self.start(program)]
             patience = TURNED_TIMES * self.patience
-            ran = run(words, folder, it.variables, patience)
+            ran = run(words, folder, program.variables, patience)
             if ran.status is None:
-                return Outcome(it, f"takes longer than {patience:.0f} s")
+                return Outcome(program, f"takes longer than {patience:.0f} s")
             if not os.path.exists(shown):
                 why = (OWN_LINE.findall(ran.said) or ["nothing was said"])[-1]
-                return Outcome(it, no_plan=why, seconds=ran.seconds)
+                return Outcome(program, no_plan=why, seconds=ran.seconds)
             found = FINDINGS.search(self.ask("check", plan).stdout)
             with open(shown, encoding="utf-8") as text:
                 turns = json.load(text)["turned"]
         others = [f"{one['word']} {one['pair']}" for one in turns if one["word"] != KEPT]
         return Outcome(
-            it,
+            program,
             is_in_part=IN_PART in ran.said,
             findings=int(found[1]) if found else None,
             seconds=ran.seconds,
@@ -206,7 +205,7 @@ class Bench:
             turned="; ".join(others),
         )
 
-    def judge(self, it: SuiteProgram, ran: Ran, differs: str, room: str) -> Outcome:
+    def judge(self, program: SuiteProgram, ran: Ran, differs: str, room: str) -> Outcome:
         """Judges a plan: its findings, and its replay beside how the calls ended."""
         plan, answers = os.path.join(room, "plan"), os.path.join(room, "answers")
         with open(plan, encoding="utf-8") as text:
@@ -219,7 +218,7 @@ class Bench:
         if count == 0:
             replay = self.why_other_replay(words, answers)
         return Outcome(
-            it,
+            program,
             differs=differs,
             is_in_part=IN_PART in ran.said,
             findings=count,
@@ -231,8 +230,8 @@ class Bench:
     def why_other_replay(self, words: Sequence[str], answers: str) -> str:
         """Where the replay of a plan and the real ends of its calls differ; empty if nowhere."""
         ran = self.ask("replay", *words)
-        with open(answers, encoding="utf-8") as it:
-            real = it.read().splitlines()
+        with open(answers, encoding="utf-8") as file:
+            real = file.read().splitlines()
         replayed = ran.stdout.splitlines()
         if ran.returncode or len(real) != len(replayed):
             return f"replay ended with {ran.returncode}, {len(replayed)} lines of {len(real)}"

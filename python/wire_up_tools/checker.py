@@ -36,7 +36,7 @@ class Checker:
 
     def _run(self, *words: str, plan: bytes = b"") -> Answer:
         ran = subprocess.run([self.path, *words], input=plan, capture_output=True, check=False)
-        stdout, stderr = (it.decode("utf-8", "replace") for it in (ran.stdout, ran.stderr))
+        stdout, stderr = (text.decode("utf-8", "replace") for text in (ran.stdout, ran.stderr))
         return Answer(ran.returncode, stdout, stderr)
 
     def version(self) -> str:

@@ -68,12 +68,12 @@ class Parser(argparse.ArgumentParser):
         self.tasks = tasks
         for task in tasks:
             self.add_argument(task, nargs=argparse.REMAINDER)
-        self.words = {it.name: it.word for it in options if it.word}
-        for it in options:
-            if it.word:
-                self.add_argument(it.name, action=Once)
+        self.words = {option.name: option.word for option in options if option.word}
+        for option in options:
+            if option.word:
+                self.add_argument(option.name, action=Once)
             else:
-                self.add_argument(it.name, action="store_true")
+                self.add_argument(option.name, action="store_true")
         self.add_argument("rest", nargs=argparse.REMAINDER)
 
     def error(self, message: str) -> NoReturn:
@@ -115,8 +115,8 @@ class Parser(argparse.ArgumentParser):
         except argparse.ArgumentError as why:
             raise Unusable(self.explain(words, why.argument_name or "")) from None
         # What looks like a negative number, or has a space, is taken for a word.
-        first = [it for it in found.rest[:1] if it.startswith("-")]
-        unknown += [it for it in first if it not in (STANDARD_STREAM, END)]
+        first = [text for text in found.rest[:1] if text.startswith("-")]
+        unknown += [item for item in first if item not in (STANDARD_STREAM, END)]
         if unknown:
             is_alone = unknown[0] in ALONE
             raise Unusable(f"{unknown[0]} {'stands alone' if is_alone else 'is no option'}")
@@ -128,7 +128,7 @@ class Parser(argparse.ArgumentParser):
         none."""
         if option in self.words:
             return f"{option} needs a {KINDS[self.words[option]]}"
-        written = next((it for it in words if it.startswith(f"{option}=")), option)
+        written = next((word for word in words if word.startswith(f"{option}=")), option)
         return f"{written} is no option"
 
 
@@ -150,5 +150,5 @@ def say_unusable(name: str, why: Unusable) -> str:
 def describe(options: Sequence[Option]) -> str:
     """The rows of a help that say what options mean, and that the help and the version are two."""
     alone = (("-V, --version", "shows the version"), ("-h, --help", "shows this"))
-    rows = [*((it.written, it.meaning) for it in options), *alone]
+    rows = [*((each_option.written, each_option.meaning) for each_option in options), *alone]
     return "".join(f"  {option:<15}  {meaning}\n" for option, meaning in rows)

@@ -101,7 +101,7 @@ class Series:
         """Whom its calls ask, in their order."""
         skipped = len(self.verb) + 1
         cut = len(self.about) + 1
-        return [it[skipped:-cut].decode() for it in bytes(self.data).splitlines()]
+        return [line[skipped:-cut].decode() for line in bytes(self.data).splitlines()]
 
     def find_call(self, number: int) -> Call:
         """The call of a number of the rank, which must be one of these."""
@@ -114,7 +114,7 @@ class Series:
         for number, target in enumerate(self.targets, self.first):
             if number not in self.made:
                 self.make(number, target)
-        return [self.made[it] for it in range(self.first, self.last + 1)]
+        return [self.made[each_number] for each_number in range(self.first, self.last + 1)]
 
     def make(self, number: int, target: str) -> None:
         """Makes a call, which stands alone in its line."""
@@ -145,7 +145,7 @@ class Meeting:
     @functools.cached_property
     def numbers(self) -> Mapping[str, int]:
         """The number of the call of each rank, by its name."""
-        return {it.rank.name: it.number for it in self.calls}
+        return {call.rank.name: call.number for call in self.calls}
 
 
 @dataclass(frozen=True, eq=False)
@@ -169,8 +169,8 @@ class Scripts(Mapping[str, Sequence[Call]]):
     def __getitem__(self, name: str) -> Sequence[Call]:
         if name not in self.made:
             found: list[Call] = []
-            for it in self.outlines[name]:
-                found += it.list_calls() if isinstance(it, Series) else [it]
+            for outline in self.outlines[name]:
+                found += outline.list_calls() if isinstance(outline, Series) else [outline]
             self.made[name] = found
         return self.made[name]
 
@@ -219,13 +219,13 @@ class Plan:
     @property
     def calls(self) -> Sequence[Call]:
         """The calls of all ranks, in the order of the file. There may be millions."""
-        return [call for it in self.ranks for call in self.calls_of[it.name]]
+        return [call for rank in self.ranks for call in self.calls_of[rank.name]]
 
     @property
     def call_count(self) -> int:
         """How many calls there are."""
         outlines = self.calls_of.outlines.values()
-        return sum(last_of(it[-1]) for it in outlines if it)
+        return sum(last_of(outline[-1]) for outline in outlines if outline)
 
     def list_outline(self, rank: Rank) -> Sequence[Entry]:
         """The calls of a rank, of which many that are alike are one entry."""

@@ -37,7 +37,7 @@ BLOCK = 1 << 16
 
 def read_plan(data: bytes) -> Plan:
     """Reads the bytes of a plan that the checker takes."""
-    starts = [it.start() + 1 for it in RANK.finditer(data)]
+    starts = [hit.start() + 1 for hit in RANK.finditer(data)]
     draft = Draft()
     first = starts[0] if starts else len(data)
     number = draft.read(split_lines(data[:first]), 1)
@@ -54,8 +54,10 @@ def read_plan(data: bytes) -> Plan:
             outlines[draft.ranks[-1].name] = draft.calls
         number += text.count(b"\n")
     declared = Declared(draft.head, draft.keeps, draft.nodes, draft.jobs, draft.ranks)
-    fences = [it for them in outlines.values() for it in them if it.verb == "fence"]
-    meetings = find_meetings(declared, [it for it in fences if isinstance(it, Call)])
+    fences = [
+        each_call for them in outlines.values() for each_call in them if each_call.verb == "fence"
+    ]
+    meetings = find_meetings(declared, [fence for fence in fences if isinstance(fence, Call)])
     meeting_of = {call: meeting for meeting in meetings for call in meeting.calls}
     return Plan(Lines(data), declared, Scripts(outlines), meetings, meeting_of)
 
@@ -75,12 +77,15 @@ def read_outline(rank: Rank, data: memoryview, line: int) -> list[Entry]:
         end = find_end(rank, text, start)
         count = text.count(b"\n", start, end)
         lines = text[start:end].split(b"\n", min(count, FEWEST))[:-1]
-        calls = [it.decode().split(" ") for it in lines]
+        calls = [each_line.decode().split(" ") for each_line in lines]
         if count >= FEWEST:
             place = rank, at, line + at
             outline.append(Series(*place, count, calls[0][0], calls[0][-1], data[start:end]))
         else:
-            outline += (Call(rank, it, said, line + it, None) for it, said in enumerate(calls, at))
+            outline += (
+                Call(rank, number, said, line + number, None)
+                for number, said in enumerate(calls, at)
+            )
         at, start = at + count, end
     return outline
 
@@ -91,11 +96,13 @@ def find_end(rank: Rank, text: bytes, start: int) -> int:
     alike = ALIKE.match(text, start)
     if not alike:
         return text.index(b"\n", start) + 1
+    # (before 3.11.4, Python may end a match within the line behind it)
+    end = text.rfind(b"\n", start, alike.end()) + 1
     own = b"\n%s %s %s\n" % (alike[1], rank.name.encode(), alike[2])
-    at = text.find(own, start - 1, alike.end()) + 1
+    at = text.find(own, start - 1, end) + 1
     if at == start:
         return start + len(own) - 1
-    return at or alike.end()
+    return at or end
 
 
 class Lines(Sequence[str]):
@@ -104,7 +111,7 @@ class Lines(Sequence[str]):
     def __init__(self, data: bytes) -> None:
         self.data = data
         blocks = range(0, len(data), BLOCK)
-        counts = (data.count(b"\n", it, it + BLOCK) for it in blocks)
+        counts = (data.count(b"\n", block, block + BLOCK) for block in blocks)
         # How many lines end before each block.
         self.before = list(itertools.accumulate(counts, initial=0))
         self.total = self.before[-1] + (not data.endswith(b"\n") and bool(data))
@@ -120,7 +127,7 @@ class Lines(Sequence[str]):
 
     def __getitem__(self, index: int | slice) -> str | Sequence[str]:
         if isinstance(index, slice):
-            return [self[it] for it in range(*index.indices(self.total))]
+            return [self[each_number] for each_number in range(*index.indices(self.total))]
         number = index + self.total if index < 0 else index
         if not 0 <= number < self.total:
             raise IndexError(index)
@@ -141,7 +148,7 @@ class Lines(Sequence[str]):
 
 def split_lines(data: bytes) -> list[str]:
     """The lines of a file."""
-    lines = [decode_line(it) for it in data.split(b"\n")]
+    lines = [decode_line(line) for line in data.split(b"\n")]
     return lines if lines[-1] else lines[:-1]
 
 
@@ -247,7 +254,7 @@ def find_sets(
     ranks_of = collections.defaultdict(list)
     for rank in declared.ranks:
         ranks_of[rank.job].append(rank.name)
-    named = {(it.rank.job, it.target) for it in fences}
+    named = {(fence.rank.job, fence.target) for fence in fences}
     return {(job, text): read_set(job, text, ranks_of) for job, text in named}
 
 

@@ -9,6 +9,8 @@ from wire_up_tools.checker import Checker
 OPTION = "--portable"
 # How the names of libraries begin that are told by their versions alone.
 OF_OPENPMIX = "openpmix-"
+# What served them where they were measured.
+LAUNCHERS = "mpirun or prterun"
 ANSWERED = (0, 1)
 
 
@@ -39,14 +41,16 @@ class Portable:
         """Whether it is portable for a library, by its whole name, such as `openpmix-4.2`."""
         return name.removeprefix(OF_OPENPMIX) in self.libraries
 
-    def is_judged(self, name: str) -> bool:
-        """Whether a library is one of those that the checker judges: those of OpenPMIx."""
-        return name.startswith(OF_OPENPMIX)
+    def is_judged(self, name: str, version: str) -> bool:
+        """Whether a library, by its whole name, and a version, by what it says of itself, such as
+        `OpenPMIx 4.2.2`, are of one of the lines that the checker judges: none under Slurm is."""
+        line = name.removeprefix(OF_OPENPMIX)
+        return name != line and version.startswith(f"OpenPMIx {line}.")
 
     def blamed(self, name: str) -> list[Unportable]:
         """The calls by which it isn't portable for a library."""
         version = name.removeprefix(OF_OPENPMIX)
-        return [it for it in self.calls if version in it.libraries]
+        return [call for call in self.calls if version in call.libraries]
 
 
 def find_portable(checker: Checker, plan: bytes) -> Portable | None:
@@ -65,15 +69,15 @@ def read_portable(text: str) -> Portable | None:
     """What the checker wrote; None where it isn't that."""
     try:
         said = json.loads(text)
-        calls = [read_call(it) for it in said["unportable"]]
-        return Portable([str(it) for it in said["portable"]], calls)
+        calls = [read_call(line) for line in said["unportable"]]
+        return Portable([str(line) for line in said["portable"]], calls)
     except (ValueError, KeyError, TypeError):
         return None
 
 
 def read_call(said: dict[str, Any]) -> Unportable:
     """A call. Raises KeyError, TypeError, ValueError."""
-    libraries = [str(it) for it in said["libraries"]]
+    libraries = [str(line) for line in said["libraries"]]
     return Unportable(said["proc"], int(said["call"]), said["verb"], said["rule"], libraries)
 
 
@@ -85,7 +89,7 @@ def list_libraries(portable: Portable) -> str:
 
 def say_calls(portable: Portable) -> str:
     """By how many calls a plan isn't portable for each library, and what names them."""
-    count = len({str(it) for it in portable.calls})
+    count = len({str(call) for call in portable.calls})
     return f"by {count} call{'s' * (count != 1)} (wire_up check {OPTION})"
 
 
@@ -97,11 +101,18 @@ def say_portable(portable: Portable) -> str:
     return f"portable for {listed}" + (f", for no other {of_calls}" if portable.calls else "")
 
 
+def say_unjudged(version: str, host: str) -> str:
+    """What is added of a library that the checker doesn't judge, by what it says of its version,
+    and by its host, if that isn't empty."""
+    return f"; of {version.split(' (')[0]}{f' under {host}' * bool(host)} it isn't known"
+
+
 def say_promise(portable: Portable) -> str:
     """What that promises, as a sentence."""
-    listed, count = list_libraries(portable), len({str(it) for it in portable.calls})
+    listed, count = list_libraries(portable), len({str(call) for call in portable.calls})
     of_calls = f"(by {count} call{'s' * (count != 1)}: check {OPTION})"
     if not listed:
         return f"The plan is portable for no known library {of_calls}."
     others = f", on no other {of_calls}" if portable.calls else ""
-    return f"On {listed}, if it keeps axioms, each run does as the rules say{others}."
+    where = f"On {listed} under {LAUNCHERS}"
+    return f"{where}, if it keeps axioms, each run does as the rules say{others}."

@@ -90,13 +90,16 @@ def is_plain(text: bytes) -> bool:
 
 def is_word(text: bytes, most: int, without: bytes = b"") -> bool:
     """Whether a text can be a word of at most so many bytes, without some of them."""
-    return 0 < len(text) <= most and all(32 < it < 127 and it not in without for it in text)
+    return 0 < len(text) <= most and all(
+        32 < letter < 127 and letter not in without for letter in text
+    )
 
 
 def escape(text: bytes, without: bytes = b"") -> str:
     """A text with %XX for each byte that a word can't have, and for % and those of `without`."""
     return "".join(
-        chr(it) if 32 < it < 127 and it not in b"%" + without else f"%{it:02X}" for it in text
+        chr(letter) if 32 < letter < 127 and letter not in b"%" + without else f"%{letter:02X}"
+        for letter in text
     )
 
 
@@ -107,7 +110,7 @@ def show(text: bytes) -> str:
 
 def make_printable(text: str) -> str:
     """A text with `?` for each character that isn't printable ASCII."""
-    return "".join(it if " " <= it <= "~" else "?" for it in text)
+    return "".join(letter if " " <= letter <= "~" else "?" for letter in text)
 
 
 class Words:
@@ -124,9 +127,13 @@ class Words:
         is_fit: Callable[[bytes], bool] = lambda text: True,
     ) -> None:
         in_order = sorted(set(texts))
-        fit = (it for it in in_order if is_word(it, NAME_BYTES, without) and is_fit(it))
-        self.words = {it: it.decode() for it in fit}
-        self.renamed = [it for it in in_order if it not in self.words]
+        fit = (
+            each_text
+            for each_text in in_order
+            if is_word(each_text, NAME_BYTES, without) and is_fit(each_text)
+        )
+        self.words = {each_text: each_text.decode() for each_text in fit}
+        self.renamed = [each_text for each_text in in_order if each_text not in self.words]
         taken = set(self.words.values())
         for text in self.renamed:
             self.words[text] = find_free_word(text, taken, without, is_fit)

@@ -83,9 +83,11 @@ static struct ending *find_slot(const struct numbers *what, unsigned place)
         endings = calloc((size_t)1 << ENDING_BITS, sizeof *endings);
         pthread_setspecific(at_exit, endings);
     }
-    const long long *at = what->at;
-    unsigned long long bits = (unsigned long long)(at[0] + 3 * at[1] + 5 * at[2] + 7 * at[3]);
-    bits = (bits + 11ULL * place + 13ULL * what->count) * 0x9e3779b97f4a7c15u;
+    /* (numbers may be as large as any) */
+    unsigned long long bits = 11ULL * place + 13ULL * what->count;
+    for (size_t n = 0; n < sizeof what->at / sizeof *what->at; n++)
+        bits += (2 * n + 1) * (unsigned long long)what->at[n];
+    bits *= 0x9e3779b97f4a7c15u;
     return endings ? &endings[bits >> (64 - ENDING_BITS)] : NULL;
 }
 

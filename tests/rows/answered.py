@@ -24,6 +24,10 @@ class Told(NamedTuple):
 SIZES = 6
 # That none does in the instances that are judged, and no more is known.
 UP_TO_3 = b"every call is answered for up to 3 ranks of each group, not known for more\n"
+# The same of groups of which more than 3 ranks are judged, and of a pattern without groups.
+UP_TO_4 = UP_TO_3.replace(b"3", b"4")
+UP_TO_5_AND_3 = UP_TO_3.replace(b"3 ranks of each group", b"5 ranks of v, up to 3 ranks of w")
+JUDGED = b"every call is answered for the instances that are judged, not known for others\n"
 
 
 def asks(caller: str, other: str) -> str:
@@ -34,43 +38,54 @@ def asks(caller: str, other: str) -> str:
 # Each single role waits for the next of them, and the last for the workers, each of which publishes
 # its name once it has been served by the first.
 WORKERS = "for w / lookup-wait a[each] / end / publish z[self] 1"
-A_Z, A_B, B_Z, B_C, C_Z = (asks(*it) for it in ("az", "ab", "bz", "bc", "cz"))
-C_D, D_Z, D_E, E_Z = (asks(*it) for it in ("cd", "dz", "de", "ez"))
+A_Z, A_B, B_Z, B_C, C_Z = (asks(*word) for word in ("az", "ab", "bz", "bc", "cz"))
+C_D, D_Z, D_E, E_Z = (asks(*word) for word in ("cd", "dz", "de", "ez"))
 # By keys in place of names.
 BY_KEYS = " / ".join(
-    f"one {it} / for w / put global {it}[each] 1 / commit / get {of} {of}[each] / end"
-    for it, of in (("a", "b"), ("b", "c"))
+    f"one {text} / for w / put global {text}[each] 1 / commit / get {of} {of}[each] / end"
+    for text, of in (("a", "b"), ("b", "c"))
 )
 BY_KEYS += " / one c / for w / put global c[each] 1 / commit / get each z / end"
 # Each publishes for all workers before it waits.
 FIRST_ALL = " / ".join(
-    f"one {it} / for w / publish {it}[each] 1 / end / for w / lookup-wait {of}[each] / end"
-    for it, of in (("a", "b"), ("b", "c"), ("c", "z"))
+    f"one {text} / for w / publish {text}[each] 1 / end / for w / lookup-wait {of}[each] / end"
+    for text, of in (("a", "b"), ("b", "c"), ("c", "z"))
 )
 SERVERS = "many server / for client / lookup-wait ask[each,self] / publish reply[self,each] 1 / end"
 ASK, REPLY = "publish ask[self,each] 1", "lookup-wait reply[each,self]"
 CARD = "put global card v / commit"
 MEET = "fence self,each"
 HEAD = "pattern 1 / job app"
+# A root publishes a name, and takes it away once others have waited for it between two fences.
+LENT = "one root / publish port 1 / fence all / fence all / unpublish port"
+BORROWED = "fence all / lookup-wait port / fence all"
+# A root asks a single role by names in many loops, each of which has one turn; the other answers.
+LOOPS = 50
+ASK_OTHER = " / ".join(
+    f"for other / publish a{n}[each] 1 / lookup-wait b{n}[each] / end" for n in range(LOOPS)
+)
+ANSWER_ROOT = " / ".join(
+    f"lookup-wait a{n}[self] / publish b{n}[self] 1" for n in range(LOOPS)
+)
 EVERY = ANSWERED + b"\n"
 
 
 def waits(*lines: str) -> bytes:
     """A line for each call at which something waits."""
-    return b"".join(b"waits %s\n" % it.encode() for it in lines)
+    return b"".join(b"waits %s\n" % line.encode() for line in lines)
 
 
 def later(size: int, *lines: str) -> bytes:
     """A line for each call at which something waits first with so many ranks of each group."""
-    return b"".join(b"later %d %s\n" % (size, it.encode()) for it in lines)
+    return b"".join(b"later %d %s\n" % (size, line.encode()) for line in lines)
 
 
 def later_lookups(size: int, callers: str, line: int = 1) -> bytes:
     """Those of single roles, and of the workers at this line."""
-    return later(size, *(f"{it} 2 lookup-wait" for it in callers), f"w {line} lookup-wait")
+    return later(size, *(f"{caller} 2 lookup-wait" for caller in callers), f"w {line} lookup-wait")
 
 
-FOUR_WAIT = waits(*(f"{it} 2 lookup-wait" for it in "abc"), "w 1 lookup-wait")
+FOUR_WAIT = waits(*(f"{letter} 2 lookup-wait" for letter in "abc"), "w 1 lookup-wait")
 ROWS = [
     Told(
         "two loops: it waits with three ranks",
@@ -226,10 +241,41 @@ ROWS = [
     ),
     Told(
         "a name that is taken away at the end: it isn't known",
-        f"{HEAD} / one root / publish port 1 / fence all / fence all / unpublish port"
-        " / many w / fence all / lookup-wait port / fence all",
+        f"{HEAD} / {LENT} / many w / {BORROWED}",
         UP_TO_3,
         1,
+    ),
+    Told(
+        "so it is with two groups with a min of 4",
+        f"{HEAD} / {LENT} / many v min 4 / {BORROWED} / many w min 4 / {BORROWED}",
+        b"at least 4 v\nat least 4 w\n" + UP_TO_4,
+        1,
+    ),
+    Told(
+        "with a group with a min of 5 and one without",
+        f"{HEAD} / {LENT} / many v min 5 / {BORROWED} / many w / {BORROWED}",
+        b"at least 5 v\n" + UP_TO_5_AND_3,
+        1,
+    ),
+    Told(
+        "and with single roles alone, where there are no more ranks",
+        f"{HEAD} / {LENT} / one other / {BORROWED}",
+        JUDGED,
+        1,
+    ),
+    Told(
+        "so it is with many loops over a single role, which has one rank in every instance",
+        f"{HEAD} / {LENT} / {ASK_OTHER} / one other / {BORROWED} / {ANSWER_ROOT}",
+        JUDGED,
+        1,
+    ),
+    Told(
+        "turns that may be left out, before what nobody publishes",
+        f"{HEAD} / one a / {CARD} / for some b / get each card / end / lookup-wait port"
+        f" / one b / {CARD} / for some a / get each card / end",
+        waits("a 4 lookup-wait"),
+        1,
+        0,
     ),
     Told(
         "a single role has no min",

@@ -469,4 +469,30 @@ ROWS = [
         "unportable app:0 1 get-now reserved 4.2,5.0,7.0 / portable none",
         "unportable app:0 1 get-now reserved 4.2,5.0,7.0 / portable none",
     ),
+    Told(
+        "late commits of two phases",
+        "rehearsal 1 / node n0 / node n1 / job app / rank n0 / put global a 1 / commit / fence "
+        "all / put global b 2 / commit / fence all / put global c 3 / commit / rank n1 / fence "
+        "all / get app:0 b / fence all / get app:0 c / rank n1 / fence all / get app:0 b / fence "
+        "all / get app:0 c",
+        "unportable app:1 2 get far-get 4.2 / unportable app:1 2 get mates 4.2 / unportable app:1 "
+        "4 get far-get 4.2 / unportable app:1 4 get mates 4.2 / unportable app:2 2 get far-get "
+        "4.2 / unportable app:2 2 get mates 4.2 / unportable app:2 4 get far-get 4.2 / unportable "
+        "app:2 4 get mates 4.2 / portable 5.0,7.0",
+        "unportable app:1 2 get far-get 4.2 / unportable app:1 2 get mates 4.2 / unportable app:1 "
+        "2 get near-get 4.2 / unportable app:1 4 get far-get 4.2 / unportable app:1 4 get mates "
+        "4.2 / unportable app:1 4 get near-get 4.2 / unportable app:2 2 get far-get 4.2 / "
+        "unportable app:2 2 get mates 4.2 / unportable app:2 2 get near-get 4.2 / unportable "
+        "app:2 4 get far-get 4.2 / unportable app:2 4 get mates 4.2 / unportable app:2 4 get "
+        "near-get 4.2 / portable 5.0,7.0",
+    ),
+    Told(
+        "commits of two phases that are waited for",
+        "rehearsal 1 / node n0 / node n1 / job app / rank n0 / put global a 1 / commit / fence "
+        "all / put global b 2 / commit / fence all / put global c 3 / commit / fence all / rank "
+        "n1 / fence all / get app:0 a / fence all / get app:0 b / fence all / get app:0 c / rank "
+        "n1 / fence all / get app:0 a / fence all / get app:0 b / fence all / get app:0 c",
+        "portable 4.2,5.0,7.0",
+        "portable 4.2,5.0,7.0",
+    ),
 ]

@@ -44,7 +44,7 @@ use Rattle.wire_cutoff.proofs.Texts.{any_cast}
 use Rattle.wire_pattern_waits.specs.Waits.{alone}
 use Rattle.wire_pattern_waits.proofs.Replied.{alone_cast}
 use Rattle.wire_pattern_answers.proofs.Settled.{have_least, settled_on_all}
-use Rattle.wire_answer_laws.specs.AnySize.{IsAllTold}
+use Rattle.wire_answer_laws.specs.AnySize.{IsJudgedForOne}
 use Rattle.wire_answer_laws.proofs.Happens.{happens}
 
 -- what is live in the instance on these nodes is live in the plan that is read
@@ -80,7 +80,7 @@ pub record HasFuller (p : Pattern) (small : plan.Cast) : Type 0 where
   pub happens : (y : Event) → Live (instance_of (pattern_of p) have_coding (on_nodes small.nodes (cast_of (alone p selection)))) y
       → IsDone (plain_end (plan_of s)) y
 
-module _ (p : Pattern) (all : IsAllTold p) (small : plan.Cast) (any : IsAnyCast p small)
+module _ (p : Pattern) (all : IsJudgedForOne p) (small : plan.Cast) (any : IsAnyCast p small)
     (has_most : HasMost (length p.roles) (λ role. most_at (least_of p role)) small) where
   -- with few processes nothing is found
   few_settled : AreFewSettled p
@@ -145,5 +145,5 @@ module _ (p : Pattern) (all : IsAllTold p) (small : plan.Cast) (any : IsAnyCast 
     settled = all.settled have_coding fuller (any_cast p cast is_cast (have_least p.roles sizes fit) small.nodes);
     everywhere = everywhere;
     here = here;
-    happens = λ y l. happens (plan_of s) here (all.told at.0 selection s at.1 reads) (live_read p cast s of small.nodes y l);
+    happens = λ y l. happens (plan_of s) here (all.one at.0 selection s at.1 reads) (live_read p cast s of small.nodes y l);
   }

@@ -18,7 +18,7 @@ use Rattle.wire_runs.proofs.Due.{chain_to_next, closed_cut, place_path, reachabl
 use Rattle.wire_runs.proofs.Brought.{complete_if_arrived, get_ready}
 use Rattle.wire_runs.proofs.Fates.{served_is_seen, Kept, reachable_kept}
 use Rattle.wire_runs.proofs.PlainRun.{plain_runs}
-use Rattle.wire_answer_laws.specs.AnySize.{StandsTold}
+use Rattle.wire_answer_laws.specs.AnySize.{StandsForOne}
 
 held_is_seen : (o : Option ℕ) → is_some o ≡ true → is_seen (held o) ≡ true
 held_is_seen None h = h
@@ -47,7 +47,7 @@ plain_reached plan = (plain_run plan, (plain_runs plan).is_run, refl)
 pub done_live : (plan : Plan) (y : Event) → IsDone (plain_end plan) y → Live plan y
 done_live plan y d = (reachable_sound plan (plain_end plan) (plain_reached plan)).live_done y d
 
-module _ (plan : Plan) (settled : IsSettled plan) (told : StandsTold plan) where
+module _ (plan : Plan) (settled : IsSettled plan) (told : StandsForOne plan) where
   abbrev s : State
   s = plain_end plan
 

@@ -16,7 +16,7 @@ use Rattle.wire_runs.proofs.Lists.{slice_get-append_right}
 use Rattle.wire_runs.proofs.PlainRun.{plain_runs}
 use Rattle.wire_scripts.specs.Planned.{plan_of}
 use Rattle.wire_pattern_waits.proofs.Answered.{row_of}
-use Rattle.wire_answer_laws.specs.AnySize.{RepliedStandTold}
+use Rattle.wire_answer_laws.specs.AnySize.{RepliedStandForOne}
 
 -- where not all events are done, fewer replies are given than there are calls
 fewer_given : (calls : List Call) (n : ℕ) → n < length (kinds_of calls) → given_by (kinds_of calls) n < length calls
@@ -64,8 +64,8 @@ stands plan p lt =
     ∙ slice_get-append_right (map Replied replies) (unanswered false (length (calls_of plan p) - length replies)) 0
     ∙ waits_first (length replies) (length (calls_of plan p)) less
 
-pub replied_stand_told : RepliedStandTold
-replied_stand_told p all number selection s is reads q name has =
+pub replied_stand_for_one : RepliedStandForOne
+replied_stand_for_one p all number selection s is reads q name has =
     let plan = plan_of s in
     let within = event_within plan q ((plain_end plan).done q) (LookupWait name) has in
     let there = process_within plan q ((plain_end plan).done q) (LookupWait name) has in

@@ -57,7 +57,7 @@ use Rattle.wire_pattern_answers.specs.Answers.{IsAnsweredAtLine, Answers}
 use Rattle.wire_pattern_answers.proofs.Calls.{place_in}
 use Rattle.wire_pattern_answers.proofs.Events.{row_to, row_from, replied_done, done_replied}
 use Rattle.wire_pattern_answers.proofs.Placed.{own_nodes, itself}
-use Rattle.wire_answer_laws.specs.AnySize.{IsAllTold}
+use Rattle.wire_answer_laws.specs.AnySize.{IsJudgedForOne}
 use Rattle.wire_answer_laws.proofs.AskedLines.{IsGetNow, AsksFor, line_asks, asks_for}
 use Rattle.wire_answer_laws.proofs.Calls.{fences, kind_own, kind_read, event_line, event_call, call_stands}
 use Rattle.wire_answer_laws.proofs.Fuller.{HasFuller, fuller_of}
@@ -87,7 +87,7 @@ line_of_call cast v c line steps is =
           ∙ slice_get-map_kept turned_of (script_lines (cast_of cast) v 0 1 steps) c b.0 b.1;
     }
 
-module _ (p : Pattern) (all : IsAllTold p) (cast : Cast) (size : Size) (s : Scripts) (is_cast : IsCast p cast) (least : HaveLeast p.roles cast.sizes)
+module _ (p : Pattern) (all : IsJudgedForOne p) (cast : Cast) (size : Size) (s : Scripts) (is_cast : IsCast p cast) (least : HaveLeast p.roles cast.sizes)
     (reads : Reads size (instance_text p cast) (Ok s)) (role line : ℕ) (status : Status) (a : IsAnsweredAtLine p cast s role line status) where
   abbrev steps : List Step
   steps = steps_in (slice_get p.roles role)

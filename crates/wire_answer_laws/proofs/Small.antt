@@ -45,7 +45,7 @@ use Rattle.wire_pattern_answers.specs.FewPlacings.{asks_now, IsAnsweredWith}
 use Rattle.wire_pattern_answers.specs.Answers.{Answers}
 use Rattle.wire_pattern_answers.proofs.Calls.{place_in, same_call, same_place}
 use Rattle.wire_pattern_answers.proofs.Events.{row_from, said_status, end_reached, done_replied}
-use Rattle.wire_answer_laws.specs.AnySize.{IsAllTold}
+use Rattle.wire_answer_laws.specs.AnySize.{IsJudgedForOne}
 use Rattle.wire_answer_laws.proofs.SameNodes.{agree_all, finds_there}
 use Rattle.wire_answer_laws.proofs.Spread.{HasCall}
 use Rattle.wire_answer_laws.proofs.Fences.{is_fence}
@@ -57,7 +57,7 @@ use Rattle.wire_answer_laws.proofs.Large.{instance_there}
 pub line_from_one : (p : Pattern) (cast : Cast) (v role c line : ℕ) → slice_get (steps_places cast v 0 1 (steps_in (slice_get p.roles role))) c ≡ Some line → 1 ≤ line
 line_from_one p cast v role c line at = (places_between cast v 0 1 (steps_in (slice_get p.roles role)) c line at).0
 
-module _ (p : Pattern) (all : IsAllTold p) (role n : ℕ) (status : Status)
+module _ (p : Pattern) (all : IsJudgedForOne p) (role n : ℕ) (status : Status)
     (small : HasSmall (pattern_of p) have_coding (length p.roles) (least_of p) (λ role. most_at (least_of p role)) role n status) where
   -- the judged instance with the same turns, but all of loops that read
   j : HasFuller p small.cast

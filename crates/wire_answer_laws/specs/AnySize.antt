@@ -22,26 +22,26 @@ use Rattle.wire_pattern_answers.specs.Answers.{IsAnsweredAtLine, Answers}
 
 -- where the plain run can't go on, each lookup-wait at which a process stands is of a name that is published once and
 -- never taken away
-abbrev pub StandsTold : Plan → Type 0
-StandsTold plan = (p name : ℕ) → kind plan (next_event (plain_end plan) p) ≡ Some (LookupWait name) → (x : Event) × PublishesOnce plan x name
+abbrev pub StandsForOne : Plan → Type 0
+StandsForOne plan = (p name : ℕ) → kind plan (next_event (plain_end plan) p) ≡ Some (LookupWait name) → (x : Event) × PublishesOnce plan x name
 
 -- so it is in the instance of each selection that is judged, as its text reads
-abbrev pub AllStandTold : Pattern → Type 0
-AllStandTold p = (number : ℕ) (selection : Selection) (scripts : Scripts) → slice_get (selections p) number ≡ Some selection
-    → Reads OfVersion (instance_text p (alone p selection)) (Ok scripts) → StandsTold (plan_of scripts)
+abbrev pub AllStandForOne : Pattern → Type 0
+AllStandForOne p = (number : ℕ) (selection : Selection) (scripts : Scripts) → slice_get (selections p) number ≡ Some selection
+    → Reads OfVersion (instance_text p (alone p selection)) (Ok scripts) → StandsForOne (plan_of scripts)
 
 -- so it is where no call waits in them
-abbrev pub RepliedStandTold : Type 0
-RepliedStandTold = (p : Pattern) → AllReplied p → AllStandTold p
+abbrev pub RepliedStandForOne : Type 0
+RepliedStandForOne = (p : Pattern) → AllReplied p → AllStandForOne p
 
 -- nothing is found for any number of processes; and the texts of the instances that are judged read as plans, in which
 -- no process waits for a name that several publish, that is taken away, or that nobody publishes
-pub record IsAllTold (p : Pattern) : Type 0 where
+pub record IsJudgedForOne (p : Pattern) : Type 0 where
   pub sound : IsSoundPattern p
   pub settled : IsSettledForAll p
   pub few : total_of (most_sizes p.roles) < 2 ^ 31
   pub read : AllReadAsPlans p
-  pub told : AllStandTold p
+  pub one : AllStandForOne p
 
 -- if a get-now is answered with a status in an instance of any size, on any nodes, as its text reads, a get-now of its
 -- line is answered with it in an instance that is judged
@@ -51,4 +51,4 @@ AnswersSuffice p = (cast : Cast) (size : Size) (s : Scripts) → IsCast p cast �
     → (role line : ℕ) (status : Status) → IsAnsweredAtLine p cast s role line status → Answers p role line status
 
 abbrev pub AnswersOfSmall : Type 0
-AnswersOfSmall = (p : Pattern) → IsAllTold p → AnswersSuffice p
+AnswersOfSmall = (p : Pattern) → IsJudgedForOne p → AnswersSuffice p

@@ -1,8 +1,8 @@
 -- Libraries of PMIx, by what their calls may reply. Nothing is said of caches, requests or messages: only what an
 -- answer may be by what has happened since the call was made. So a library isn't one system here, but any that keeps
 -- these axioms. Each is a sentence of the standard, whose heading stands behind it in brackets, or what the libraries
--- do that were measured: then it says `measured`. tests/test_library_axioms.py holds them to what was recorded of each
--- library. They are meant for plans that put each key once: no more is known of libraries.
+-- do that were measured: then it says `measured`. tests/portable/test_library_axioms.py holds them to what was recorded
+-- of each library. They are meant for plans that put each key once: no more is known of libraries.
 use Rattle.std.specs.Prelude.{◌≡◌, ◌≢◌, ◌⊎◌, ℕ, suc, ◌≤◌, List, [], ◌∷◌, ◌++◌, Bool, true, false, Option, Some, None, is_some, slice_get}
 use Rattle.wire_runs.specs.Plan.{Plan, Event, Kind, Put, Commit, Arrive, Leave, Get, GetNow, Publish, Lookup, LookupWait, Unpublish, UnpublishAll, Fixed}
 use Rattle.wire_runs.specs.Plan.{kind, node_of, same_node, admits, update}

@@ -21,25 +21,25 @@ use Rattle.wire_pattern_waits.proofs.Noted.{or_either, or_left, or_right}
 use Rattle.wire_pattern_answers.specs.declared.notes.Note.{Note}
 use Rattle.wire_pattern_answers.specs.FewPlacings.{asks_now}
 use Rattle.wire_pattern_answers.specs.Answers.{IsAnsweredAtLine}
-use Rattle.wire_pattern_answers.specs.Notes.{place_of, is_at, is_noted, note_for, process_notes, notes_from, NotesAre}
+use Rattle.wire_pattern_answers.specs.Notes.{number_of, is_at, is_noted, note_for, process_notes, notes_from, NotesAre}
 
--- a place is that of one status
-abbrev at_place : ℕ → Status
-at_place zero = Success
-at_place (suc zero) = NotFound
-at_place (suc (suc zero)) = ExistsOutsideScope
-at_place (suc (suc (suc zero))) = DuplicateKey
-at_place (suc (suc (suc (suc n)))) = BadParam
+-- a number is that of one status
+abbrev at_number : ℕ → Status
+at_number zero = Success
+at_number (suc zero) = NotFound
+at_number (suc (suc zero)) = ExistsOutsideScope
+at_number (suc (suc (suc zero))) = DuplicateKey
+at_number (suc (suc (suc (suc n)))) = BadParam
 
-placed_at : (s : Status) → at_place (place_of s) ≡ s
-placed_at Success = refl
-placed_at NotFound = refl
-placed_at ExistsOutsideScope = refl
-placed_at DuplicateKey = refl
-placed_at BadParam = refl
+numbered_at : (s : Status) → at_number (number_of s) ≡ s
+numbered_at Success = refl
+numbered_at NotFound = refl
+numbered_at ExistsOutsideScope = refl
+numbered_at DuplicateKey = refl
+numbered_at BadParam = refl
 
-one_place : (s t : Status) → place_of s ≡ place_of t → s ≡ t
-one_place s t e = sym (placed_at s) ∙ ap at_place e ∙ placed_at t
+one_number : (s t : Status) → number_of s ≡ number_of t → s ≡ t
+one_number s t e = sym (numbered_at s) ∙ ap at_number e ∙ numbered_at t
 
 noted_append : (xs ys : List Note) (role line : ℕ) (status : Status) → is_noted (xs ++ ys) role line status ≡ (is_noted xs role line status || is_noted ys role line status)
 noted_append xs ys role line status = list_any-append (is_at role line status) xs ys
@@ -61,8 +61,8 @@ numbers_same own n place role line there h = grind (arith, h)
 first_noted : (own n role line : ℕ) (status : Status) (end : CallEnd) (call : Call) (ends : List CallEnd) (calls : List Call) (places : List ℕ)
     → is_noted (note_for own n end call) role line status ≡ true → AnsweredHere own (end ∷ ends) (call ∷ calls) (n ∷ places) role line status
 first_noted own n role line status (Replied reply) (GetNow owner key) ends calls places h =
-    let that = numbers_same own n (place_of reply.status) role line (place_of status) h in
-    record { call = 0; same = that.0; reply = reply; replied = refl; has = one_place reply.status status that.2; asks = refl; of_line = ap Some that.1 }
+    let that = numbers_same own n (number_of reply.status) role line (number_of status) h in
+    record { call = 0; same = that.0; reply = reply; replied = refl; has = one_number reply.status status that.2; asks = refl; of_line = ap Some that.1 }
 first_noted own n role line status (Replied reply) (Put scope key value) ends calls places h = absurd (true≢false (sym h))
 first_noted own n role line status (Replied reply) Commit ends calls places h = absurd (true≢false (sym h))
 first_noted own n role line status (Replied reply) (Fence set collect) ends calls places h = absurd (true≢false (sym h))
@@ -100,7 +100,7 @@ itself : (role line place : ℕ) → (((role == role) && ((line == line) && (pla
 itself role line place = rw (eq-eqb role role refl, eq-eqb line line refl, eq-eqb place place refl) refl
 
 noted_first : (role line : ℕ) (reply : Reply) (call : Call) → asks_now (Some call) ≡ true → is_noted (note_for role line (Replied reply) call) role line reply.status ≡ true
-noted_first role line reply (GetNow owner key) asks = itself role line (place_of reply.status)
+noted_first role line reply (GetNow owner key) asks = itself role line (number_of reply.status)
 noted_first role line reply (Put scope key value) asks = absurd (true≢false (sym asks))
 noted_first role line reply Commit asks = absurd (true≢false (sym asks))
 noted_first role line reply (Fence set collect) asks = absurd (true≢false (sym asks))

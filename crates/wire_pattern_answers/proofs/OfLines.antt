@@ -1,5 +1,5 @@
 -- What is told of the get-now lines of a pattern are their answers.
-use Rattle.std.proofs.Common.{◌≡◌, ◌∙◌, ap, sym, subst, refl, ℕ, List, [], ◌∷◌, map, length, true, ◌==◌, Some, inl, inr, eqb-true, arith}
+use Rattle.std.proofs.Common.{◌≡◌, ◌≢◌, ◌∙◌, ap, sym, subst, refl, ℕ, List, [], ◌∷◌, map, Some, inl, inr}
 use Rattle.std.specs.Prelude.{slice_get}
 use Rattle.wire_types.specs.declared.Status.{Status}
 use Rattle.wire_types.specs.declared.Status.TheVariants.{Success, NotFound, ExistsOutsideScope}
@@ -13,13 +13,8 @@ use Rattle.wire_pattern_answers.specs.Answers.{Answers, AreOfLine, AreAnswers}
 use Rattle.wire_pattern_answers.specs.Lines.{get_now_lines}
 use Rattle.wire_pattern_answers.specs.Notes.{AreTold, told_of}
 
--- an empty list
-pub no_lines : (lines : List CallLine) (count : ℕ) → count ≡ length lines → (count == 0) ≡ true → [] ≡ lines
-no_lines [] count is none = refl
-no_lines (line ∷ lines) count is none = absurd (let zero_ = eqb-true count 0 none in omega (arith, is, zero_))
-
 -- where no line is a get-now
-pub none_are : (p : Pattern) → [] ≡ get_now_lines p → AreAnswers p []
+none_are : (p : Pattern) → [] ≡ get_now_lines p → AreAnswers p []
 none_are p none = record { lines = none; each = λ n answers at. none_there n answers at }
   where
     none_there : (n : ℕ) (answers : LineAnswers) → slice_get [] n ≡ Some answers → AreOfLine p answers
@@ -29,7 +24,7 @@ lines_kept : (told : StatusesByLine) (lines : List CallLine) → map (λ (answer
 lines_kept told [] = refl
 lines_kept told (line ∷ lines) = ap (λ ls. line ∷ ls) (lines_kept told lines)
 
-pub answers_are : (p : Pattern) (told : StatusesByLine) (lines : List CallLine) (all : List LineAnswers) → all ≡ map (told_of told) lines → lines ≡ get_now_lines p
+answers_are : (p : Pattern) (told : StatusesByLine) (lines : List CallLine) (all : List LineAnswers) → all ≡ map (told_of told) lines → lines ≡ get_now_lines p
     → AreTold told (Answers p) → ((role line : ℕ) (status : Status) → Answers p role line status → IsOfThree status) → AreAnswers p all
 answers_are p told lines all by are those three = record {
   lines = ap (map (λ (answers : LineAnswers). answers.line)) by ∙ lines_kept told lines ∙ are;
@@ -45,3 +40,9 @@ answers_are p told lines all by are those three = record {
       outside = those line.role line.number ExistsOutsideScope (inr (inr refl));
       no_other = three line.role line.number;
     }
+
+-- of no line nothing has to be told
+pub told_are : (p : Pattern) (told : StatusesByLine) (lines : List CallLine) (all : List LineAnswers) → all ≡ map (told_of told) lines → lines ≡ get_now_lines p
+    → (lines ≢ [] → AreTold told (Answers p)) → ((role line : ℕ) (status : Status) → Answers p role line status → IsOfThree status) → AreAnswers p all
+told_are p told [] all by are those three = subst (AreAnswers p) (sym by) (none_are p are)
+told_are p told (line ∷ lines) all by are those three = answers_are p told (line ∷ lines) all by are (those (λ e. cc)) three

@@ -6,7 +6,7 @@ use Rattle.wire_pattern_waits.specs.LineSets.{has_line}
 use Rattle.wire_pattern_answers.specs.declared.notes.Note.{Note}
 use Rattle.wire_pattern_answers.specs.declared.told.StatusesByLine.{StatusesByLine}
 use Rattle.wire_pattern_answers.specs.FewPlacings.{IsOfThree}
-use Rattle.wire_pattern_answers.specs.Notes.{place_of, is_at, is_told}
+use Rattle.wire_pattern_answers.specs.Notes.{number_of, is_at, is_told}
 
 and_true : (a b : Bool) → (a && b) ≡ (a && (b && true))
 and_true true true = refl
@@ -34,13 +34,13 @@ module _ (note : Note) (role line : ℕ) where
   own : (x y : Bool) (status : Status) → note.status ≡ status → y ≡ (x || ((note.role == role) && (note.line == line))) → y ≡ (x || is_at role line status note)
   own x y status is more =
       more ∙ ap (λ b. x || b) (and_true (note.role == role) (note.line == line)
-      ∙ ap (λ b. (note.role == role) && ((note.line == line) && b)) (sym (eq-eqb _ _ (ap place_of is))))
+      ∙ ap (λ b. (note.role == role) && ((note.line == line) && b)) (sym (eq-eqb _ _ (ap number_of is))))
 
   -- of another nothing is told
-  other : (x : Bool) (status said : Status) → note.status ≡ said → (place_of said == place_of status) ≡ false → x ≡ (x || is_at role line status note)
+  other : (x : Bool) (status said : Status) → note.status ≡ said → (number_of said == number_of status) ≡ false → x ≡ (x || is_at role line status note)
   other x status said is ne =
       or_none x (note.role == role) (note.line == line)
-      ∙ ap (λ b. x || ((note.role == role) && ((note.line == line) && b))) (sym (ap (λ s. place_of s == place_of status) is ∙ ne))
+      ∙ ap (λ b. x || ((note.role == role) && ((note.line == line) && b))) (sym (ap (λ s. number_of s == number_of status) is ∙ ne))
 
 module _ (before : StatusesByLine) (rows : List (List Bool)) (note : Note) where
   pub success_more : note.status ≡ Success → ((r l : ℕ) → has_line rows r l ≡ (has_line before.success r l || ((note.role == r) && (note.line == l))))

@@ -11,7 +11,7 @@ use Rattle.wire_pattern_waits.proofs.Noted.{or_either}
 use Rattle.wire_pattern_answers.specs.declared.notes.Note.{Note}
 use Rattle.wire_pattern_answers.specs.declared.told.StatusesByLine.{StatusesByLine}
 use Rattle.wire_pattern_answers.specs.FewPlacings.{IsOfThree}
-use Rattle.wire_pattern_answers.specs.Notes.{place_of, is_at, is_noted, NotesAre, IsAnsweredApart, IsAnsweredByOne, is_told, AreToldToo, is_outside, is_open, AreToldTogether}
+use Rattle.wire_pattern_answers.specs.Notes.{number_of, is_at, is_noted, NotesAre, IsAnsweredApart, IsAnsweredByOne, is_told, AreToldToo, is_outside, is_open, AreToldTogether}
 
 -- notes of these are told too
 pub told_too : (before after : StatusesByLine) (notes : List Note) (those : ℕ → ℕ → Status → Type 0) → NotesAre notes those
@@ -21,12 +21,12 @@ told_too before after notes those noted more role line status three =
     told_more (is_told before role line status) (is_noted notes role line status) (is_told after role line status) (those role line status)
     (more role line status three) (noted role line status)
 
-place_outside : (status : Status) → (place_of status == 2) ≡ true → is_outside status ≡ true
-place_outside Success h = absurd (true≢false (sym h))
-place_outside NotFound h = absurd (true≢false (sym h))
-place_outside ExistsOutsideScope h = refl
-place_outside DuplicateKey h = absurd (true≢false (sym h))
-place_outside BadParam h = absurd (true≢false (sym h))
+number_outside : (status : Status) → (number_of status == 2) ≡ true → is_outside status ≡ true
+number_outside Success h = absurd (true≢false (sym h))
+number_outside NotFound h = absurd (true≢false (sym h))
+number_outside ExistsOutsideScope h = refl
+number_outside DuplicateKey h = absurd (true≢false (sym h))
+number_outside BadParam h = absurd (true≢false (sym h))
 
 note_parts : (own n role line : ℕ) (b : Bool) → ((own == role) && ((n == line) && b)) ≡ true → (own ≡ role) × (n ≡ line) × (b ≡ true)
 note_parts own n role line b h = grind (arith, h)
@@ -49,8 +49,8 @@ success_told told role line (note ∷ notes) closed at = go (success_told told r
         → (is_at role line ExistsOutsideScope note ≡ true) ⊎ (is_noted notes role line ExistsOutsideScope ≡ true) → has_line told.success role line ≡ true
     go more (inr later) = more later
     go more (inl here) =
-        let parts = note_parts note.role note.line role line (place_of note.status == 2) here in
-        let told_there = open_parts (is_outside note.status) (has_line told.success note.role note.line) (or_parts _ _ closed).0 (place_outside note.status parts.2) in
+        let parts = note_parts note.role note.line role line (number_of note.status == 2) here in
+        let told_there = open_parts (is_outside note.status) (has_line told.success note.role note.line) (or_parts _ _ closed).0 (number_outside note.status parts.2) in
         ap (λ l. has_line told.success role l) (sym parts.1) ∙ ap (λ r. has_line told.success r note.line) (sym parts.0) ∙ told_there
 
 module _ (p : Pattern) (cast : Cast) where

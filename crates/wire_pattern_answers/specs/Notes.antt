@@ -1,4 +1,4 @@
--- Which statuses are noted of call lines: for private contracts alone.
+-- Which statuses are noted of call lines, and told.
 use Rattle.std.specs.Prelude.{◌≡◌, ◌↔◌, ◌⊎◌, ◌<◌, ℕ, suc, ◌==◌, ◌&&◌, not, Bool, true, false, List, [], ◌∷◌, ◌++◌, length, Ok, slice_get}
 use Rattle.std.specs.List.{list_any}
 use Rattle.wire_types.specs.declared.Call.{Call}
@@ -23,16 +23,16 @@ use Rattle.wire_pattern_answers.specs.declared.told.StatusesByLine.{StatusesByLi
 use Rattle.wire_pattern_answers.specs.Answers.{IsAnsweredAtLine}
 use Rattle.wire_pattern_answers.specs.FewPlacings.{IsOfThree}
 
--- the place of a status among all
-abbrev pub place_of : Status → ℕ
-place_of Success = 0
-place_of NotFound = 1
-place_of ExistsOutsideScope = 2
-place_of DuplicateKey = 3
-place_of BadParam = 4
+-- the number of a status among all
+abbrev pub number_of : Status → ℕ
+number_of Success = 0
+number_of NotFound = 1
+number_of ExistsOutsideScope = 2
+number_of DuplicateKey = 3
+number_of BadParam = 4
 
 abbrev pub is_at : ℕ → ℕ → Status → Note → Bool
-is_at role line status note = (note.role == role) && ((note.line == line) && (place_of note.status == place_of status))
+is_at role line status note = (note.role == role) && ((note.line == line) && (number_of note.status == number_of status))
 
 abbrev pub is_noted : List Note → ℕ → ℕ → Status → Bool
 is_noted notes role line status = list_any (is_at role line status) notes
@@ -61,7 +61,7 @@ notes_from p cast s v (role ∷ roles) (row ∷ rows) =
 abbrev pub NotesAre : List Note → (ℕ → ℕ → Status → Type 0) → Type 0
 NotesAre notes those = (role line : ℕ) (status : Status) → (is_noted notes role line status ≡ true) ↔ those role line status
 
--- in the instance of the cast, its processes where they stand, a get-now of this line is answered with the status
+-- in the instance of the cast, on its nodes, a get-now of this line is answered with the status
 pub record IsAnsweredThere (p : Pattern) (cast : Cast) (role line : ℕ) (status : Status) : Type 0 where
   pub scripts : Scripts
   pub reads : Reads OfVersion (instance_text p cast) (Ok scripts)
@@ -115,7 +115,7 @@ pub record AreToldTogether (p : Pattern) (cast : Cast) (before after : StatusesB
   pub only : (role line : ℕ) (status : Status) → IsOfThree status → is_told after role line status ≡ true
       → (is_told before role line status ≡ true) ⊎ ((ranks : List ℕ) × IsAnsweredApart p cast ranks role line status)
 
--- and what is said with its processes where they stand
+-- and what is said with its processes on the nodes of the cast
 pub record AreToldByFew (p : Pattern) (cast : Cast) (before after : StatusesByLine) : Type 0 where
   pub between : StatusesByLine
   pub there : AreToldToo before between (IsAnsweredThere p cast)

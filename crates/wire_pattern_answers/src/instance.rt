@@ -10,16 +10,21 @@ ghost use Rattle.wire_pattern.specs.Planned.{steps_in};
 ghost use Rattle.wire_instances.specs.Views.{cast_by};
 ghost use Rattle.wire_cutoff.specs.Judged.{IsFewCast, IsJudgeFault};
 ghost use Rattle.wire_pattern_waits.specs.Places.{steps_places};
-ghost use Rattle.wire_pattern_answers.specs.Answers.{IsAnsweredAtLine};
+ghost use Rattle.wire_cutoff.specs.Selections.{Selection as SelectionSpec};
+ghost use Rattle.wire_cutoff_laws.specs.Promised.{IsSettledForAll};
+ghost use Rattle.wire_pattern_waits.specs.Waits.{alone};
+ghost use Rattle.wire_pattern_answers.specs.Answers.{AnswersIn, IsAnsweredAtLine};
 ghost use Rattle.wire_pattern_answers.specs.Notes as spec;
 ghost use Rattle.wire_pattern_answers.specs.Notes.{NotesAre, IsAnsweredThere, IsAnsweredApart, IsAnsweredByOne, AreToldToo};
 ghost use Rattle.wire_pattern_answers.specs.Notes.{AreToldTogether, AreToldByFew};
 
+use crate::laws::few_placings_tell;
 use crate::notes::{Note, add_notes};
 use crate::told::StatusesByLine;
 use std::alloc::{AllocError, Global};
 use wire_core::plain_outcome;
 use wire_cutoff::instance_scripts;
+use wire_instance_laws::laws::instances_read;
 use wire_instances::Cast;
 use wire_pattern::Pattern;
 use wire_pattern_waits::{Caller, places_of, process_roles};
@@ -78,6 +83,22 @@ fn notes_by(
     Ok(notes)
 }
 
+/// The notes of scripts by what becomes of their calls in their plain run: these, and no others.
+pub fn notes_after(
+    alloc: Global,
+    pattern: &Pattern,
+    cast: &Cast,
+    scripts: &Scripts,
+    rows: &[Vec<CallEnd>],
+) -> Result<Vec<Note>, AllocError>
+    requires { IsCast pattern.now (cast_by cast.now) }
+    ensures { IfOk result (λ v. lists_of rows.now ≡ (plain_ends scripts.now).rows
+        → NotesAre v.items (IsAnsweredAtLine pattern.now (cast_by cast.now) scripts.now)) }
+{
+    let notes = notes_by(alloc, pattern, cast, scripts, rows)?;
+    Ok(notes)
+}
+
 /// The notes of a plan: these, and no others.
 fn notes_on(alloc: Global, pattern: &Pattern, cast: &Cast, plan: &Plan) -> Result<Vec<Note>, Fault>
     requires { IsCast pattern.now (cast_by cast.now) }
@@ -85,7 +106,7 @@ fn notes_on(alloc: Global, pattern: &Pattern, cast: &Cast, plan: &Plan) -> Resul
     ensures err { IfErr result (λ e. e ≡ Memory) }
 {
     let outcome = plain_outcome(alloc, plan)?;
-    let notes = notes_by(
+    let notes = notes_after(
         alloc,
         pattern,
         cast,
@@ -110,19 +131,6 @@ fn notes_of(
     let notes = notes_on(alloc, pattern, cast, &plan);
     drop(plan);
     notes
-}
-
-/// The notes of an instance with its processes where they stand.
-fn notes_there(alloc: Global, pattern: &Pattern, cast: &Cast) -> Result<Vec<Note>, Fault>
-    requires { IsFewCast pattern.now (cast_by cast.now) }
-    ensures ok { IfOk result (λ v. NotesAre v.items (IsAnsweredThere pattern.now (cast_by cast.now))) }
-    ensures err { IfErr result (λ e. IsJudgeFault pattern.now e) }
-{
-    reads_once();
-    let (text, scripts) = instance_scripts(alloc, pattern, cast)?;
-    drop(text);
-    let notes = notes_of(alloc, pattern, cast, scripts)?;
-    Ok(notes)
 }
 
 /// The notes of an instance with these ranks on a node of their own, and all others on another.
@@ -238,19 +246,43 @@ fn tell_together(
     Ok(())
 }
 
-/// Tells the answers of an instance: with its processes where they stand, and with all of them on one node.
-pub(crate) fn tell_instance(
+/// Tells the answers of an instance by the notes of it with its processes on the nodes of the cast, and with all on one
+/// node.
+fn tell_instance(
     told: &mut StatusesByLine,
     alloc: Global,
     pattern: &Pattern,
     cast: &Cast,
+    notes: &[Note],
 ) -> Result<(), Fault>
     requires { IsFewCast pattern.now (cast_by cast.now) }
-    ensures ok { OnOk result (AreToldByFew pattern.now (cast_by cast.now) told.old told.new) }
+    ensures ok { OnOk result (NotesAre notes.now (IsAnsweredThere pattern.now (cast_by cast.now))
+        → AreToldByFew pattern.now (cast_by cast.now) told.old told.new) }
     ensures err { IfErr result (λ e. IsJudgeFault pattern.now e) }
 {
-    let notes = notes_there(alloc, pattern, cast)?;
-    told.add_all(alloc, notes.as_slice())?;
+    told.add_all(alloc, notes)?;
     tell_together(told, alloc, pattern, cast)?;
+    Ok(())
+}
+
+/// Tells the answers of an instance on all nodes, these and no others, by the notes of it with each process on a node of
+/// its own. Nothing is found in the pattern. After an error `told` may have some of them.
+pub fn tell_answers(
+    told: &mut StatusesByLine,
+    alloc: Global,
+    pattern: &Pattern,
+    cast: &Cast,
+    notes: &[Note],
+) -> Result<(), Fault>
+    requires { IsFewCast pattern.now (cast_by cast.now) }
+    ensures ok { OnOk result ((selection : SelectionSpec) → cast_by cast.now ≡ alone pattern.now selection → IsSettledForAll pattern.now
+        → NotesAre notes.now (IsAnsweredThere pattern.now (cast_by cast.now)) → AreToldToo told.old told.new (AnswersIn pattern.now selection)) }
+    ensures err { IfErr result (λ e. IsJudgeFault pattern.now e) }
+{
+    // The pattern is sound.
+    let _roles = pattern.roles();
+    instances_read();
+    few_placings_tell();
+    tell_instance(told, alloc, pattern, cast, notes)?;
     Ok(())
 }

@@ -2,14 +2,17 @@
 #![tactic(auto)]
 
 mod answers;
-mod cutoff;
 mod instance;
 pub mod laws;
 mod lines;
+mod listing;
 mod notes;
 mod text;
 mod told;
 
 pub use answers::LineAnswers;
-pub use cutoff::find_answers;
+pub use instance::{notes_after, tell_answers};
+pub use listing::{asked_lines, told_answers};
+pub use notes::Note;
 pub use text::write_answers;
+pub use told::StatusesByLine;

@@ -9,7 +9,7 @@ use wire_types::{Call, CallEnd, Status};
 /// A call line and a status of one of its get-nows: the number of the line's role, and its own in the role's script,
 /// from 1.
 #[derive(Clone, Copy)]
-pub(crate) struct Note {
+pub struct Note {
     pub(crate) role: u32,
     pub(crate) line: usize,
     pub(crate) status: Status,

@@ -14,7 +14,7 @@ use wire_types::Status;
 
 /// Of each of three statuses the call lines with a get-now that is answered with it.
 #[derive(Drop)]
-pub(crate) struct StatusesByLine {
+pub struct StatusesByLine {
     success: LineSet,
     not_found: LineSet,
     outside: LineSet,
@@ -22,7 +22,7 @@ pub(crate) struct StatusesByLine {
 
 impl StatusesByLine {
     /// Nothing is told. Takes no memory.
-    pub(crate) fn new(alloc: Global) -> StatusesByLine
+    pub fn new(alloc: Global) -> StatusesByLine
         ensures { (role line : ℕ) (status : StatusSpec) → is_told result role line status ≡ false }
     {
         StatusesByLine {

@@ -1,5 +1,5 @@
 -- The first instance in which a rank waits, and what is told of it.
-use Rattle.std.proofs.Common.{◌≡◌, ◌≢◌, ◌∙◌, ap, sym, subst, refl, ℕ, ◌≤◌, List, [], ◌∷◌, ◌++◌, length, drop, append-nil, Option, None, Some, Ok, Result, Err, IfOk, Bool, true, false, append_assoc, if◌then◌else◌, ◌==◌, inl, inr}
+use Rattle.std.proofs.Common.{◌≡◌, ◌≢◌, ◌∙◌, ap, sym, subst, refl, ℕ, ◌≤◌, List, [], ◌∷◌, ◌++◌, length, drop, append-nil, Option, None, Some, Ok, Result, Err, IfOk, Bool, true, false, append_assoc, arith, if◌then◌else◌, ◌==◌, inl, inr}
 use Rattle.std.specs.Prelude.{Vec, MatchOption, slice_get, codes, not, OnOk, is_ok}
 use Rattle.std.specs.declared.alloc.Global.{Global}
 use Rattle.std.proofs.lemmas.Bool.{true≢false, not-true, not-false, eqb-true, eqb-false}
@@ -7,45 +7,49 @@ use Rattle.std.proofs.lemmas.List.{drop_all}
 use Rattle.wire_types.specs.declared.Fault.{Fault}
 use Rattle.wire_scripts.specs.Scripts.{Scripts}
 use Rattle.wire_reader.specs.declared.Size.TheVariants.{OfVersion}
-use Rattle.wire_reader.specs.Reads.{Reads}
+use Rattle.wire_reader.specs.Reads.{Reads, ReadsOnce}
 use Rattle.wire_core.specs.EndsAfter.{plain_ends}
 use Rattle.wire_pattern.specs.Pattern.{Role, Pattern}
 use Rattle.wire_pattern.specs.Instances as spec
 use Rattle.wire_pattern.specs.Instances.{instance_text}
+use Rattle.wire_pattern_waits.specs.declared.lines.CallLine.{CallLine}
 use Rattle.wire_pattern_waits.specs.Waits.{alone}
 use Rattle.wire_pattern_waits.proofs.Judged.{EachBefore}
 use Rattle.wire_cutoff.specs.Selections.{Selection, selections}
-use Rattle.wire_pattern_later.specs.Later.{IsInstanceWith, IsPastLimits}
+use Rattle.wire_pattern_later.specs.Later.{grown, IsInstanceWith, IsReadWith, IsUnreadWith}
 use Rattle.wire_pattern_later.specs.declared.later.Later.{Later}
 use Rattle.wire_pattern_later.specs.declared.later.Instance.{Instance}
 use Rattle.wire_pattern_commands.specs.declared.first_wait.FirstWait.{FirstWait}
+use Rattle.wire_pattern_commands.specs.declared.left_out.LeftOut.{LeftOut}
+use Rattle.wire_pattern_commands.specs.LeftOut.{left_out}
 use Rattle.wire_pattern_commands.specs.declared.beyond.Beyond.{Beyond}
-use Rattle.wire_pattern_commands.specs.declared.beyond.Beyond.TheVariants.{First}
-use Rattle.wire_pattern_commands.specs.Beyond.{first_ranks}
+use Rattle.wire_pattern_commands.specs.declared.beyond.Beyond.TheVariants.{Unsaid, Never, First, Unknown}
+use Rattle.wire_pattern_commands.specs.Beyond.{IsBeyond, first_ranks}
 use Rattle.wire_pattern_commands.specs.FirstWait.{RunsThrough, IsWaitOf, IsFirstWaitOf, sizes_words}
-use Rattle.wire_pattern_commands.specs.FirstWait.{IsNoLaterWait, IsLaterWaitOf, IsExplainedWaitOf}
+use Rattle.wire_pattern_commands.specs.FirstWait.{IsLaterRead, IsLaterWaitOf, IsExplainedWaitOf}
 use Rattle.wire_pattern_commands.specs.FirstWait.{AddsLines, NoLines, WaitLines, AddsMember, NullMember, WaitMember, without_end}
 use Rattle.wire_pattern_commands.specs.FirstWait.{TellsFirst, ListsFirst, LinesOf, MemberOf, ExplainsFirstWait}
 
 -- the instance of a selection
-pub wait_of_selection : (p : Pattern) (s : Selection) (cast : spec.Cast) (sizes : Vec ℕ Global) (text : Vec ℕ Global) (scripts : Scripts) (found : Option FirstWait)
-    → cast ≡ alone p s → sizes.items ≡ s.sizes → text.items ≡ instance_text p cast → Reads OfVersion (instance_text p cast) (Ok scripts)
-    → MatchOption found ((plain_ends scripts).waiting ≡ 0) (λ it. (it.sizes ≡ sizes) × (it.text ≡ text) × (it.plan ≡ scripts) × ((plain_ends scripts).waiting ≢ 0))
+pub wait_of_selection : (p : Pattern) (s : Selection) (cast : spec.Cast) (sizes : Vec ℕ Global) (left : Vec LeftOut Global) (text : Vec ℕ Global) (scripts : Scripts)
+    (found : Option FirstWait) → cast ≡ alone p s → sizes.items ≡ s.sizes → left.items ≡ left_out p cast → text.items ≡ instance_text p cast → Reads OfVersion (instance_text p cast) (Ok scripts)
+    → MatchOption found ((plain_ends scripts).waiting ≡ 0) (λ it. (it.sizes ≡ sizes) × (it.left ≡ left) × (it.text ≡ text) × (it.plan ≡ scripts) × ((plain_ends scripts).waiting ≢ 0))
     → IsWaitOf p s found
-wait_of_selection p s cast sizes text scripts None is sizes_are text_is reads none = record {
+wait_of_selection p s cast sizes left text scripts None is sizes_are left_are text_is reads none = record {
   scripts = scripts;
   reads = subst (λ c. Reads OfVersion (instance_text p c) (Ok scripts)) is reads;
   none = none;
 }
-wait_of_selection p s cast sizes text scripts (Some it) is sizes_are text_is reads found = record {
+wait_of_selection p s cast sizes left text scripts (Some it) is sizes_are left_are text_is reads found = record {
   sizes_are = ap (λ (v : Vec ℕ Global). v.items) found.0 ∙ sizes_are;
+  left_are = ap (λ (v : Vec LeftOut Global). v.items) found.1 ∙ left_are ∙ ap (left_out p) is;
   text_is = own ∙ ap (instance_text p) is;
-  reads = subst (λ t. Reads OfVersion t (Ok it.plan)) (sym own) (subst (λ t. Reads OfVersion (instance_text p cast) (Ok t)) (sym found.2) reads);
-  some = subst (λ t. (plain_ends t).waiting ≢ 0) (sym found.2) found.3;
+  reads = subst (λ t. Reads OfVersion t (Ok it.plan)) (sym own) (subst (λ t. Reads OfVersion (instance_text p cast) (Ok t)) (sym found.3) reads);
+  some = subst (λ t. (plain_ends t).waiting ≢ 0) (sym found.3) found.4;
 }
   where
     own : it.text.items ≡ instance_text p cast
-    own = ap (λ (v : Vec ℕ Global). v.items) found.1 ∙ text_is
+    own = ap (λ (v : Vec ℕ Global). v.items) found.2 ∙ text_is
 
 -- the first of all
 pub first_of : (p : Pattern) (n : ℕ) (s : Selection) (found : Option FirstWait) (it : FirstWait) → slice_get (selections p) n ≡ Some s → EachBefore p (RunsThrough p) n
@@ -87,6 +91,13 @@ two_parts (Err e) old a b word first second one is wrote = tt
 two_parts (Ok x) old a b word first second one is wrote =
     wrote ∙ ap (λ t. t ++ word) one ∙ append_assoc old a word ∙ ap (λ w. old ++ (a ++ w)) is
 
+-- a heading and what stands below it, where there is something
+pub headed : {A E : Type 0} (r : Result A E) (old first third heading lines : List ℕ) (none : Bool) → none ≡ false → first ≡ old ++ heading
+    → OnOk r (third ≡ first ++ lines) → OnOk r (third ≡ old ++ (if none then [] else heading ++ lines))
+headed (Err e) old first third heading lines none isnt one two = tt
+headed (Ok x) old first third heading lines true isnt one two = absurd (true≢false isnt)
+headed (Ok x) old first third heading lines false isnt one two = two ∙ ap (λ t. t ++ lines) one ∙ append_assoc old heading lines
+
 -- and five
 pub five_parts : (a b c d e other one two three four : List ℕ) → one ≡ a ++ b → two ≡ one ++ c → other ≡ d → three ≡ two ++ other → four ≡ three ++ e
     → four ≡ a ++ (b ++ (c ++ (d ++ e)))
@@ -114,13 +125,13 @@ pub lines_added : (p : Pattern) (verdict lines text : List ℕ) (found : Option 
     → (beyond : Beyond) → IsExplainedWaitOf p beyond found → AddsLines p beyond verdict text
 lines_added p verdict lines text None none is beyond through = NoLines through (is ∙ ap (λ xs. verdict ++ xs) none ∙ append-nil verdict)
 lines_added p verdict lines text (Some it) tells is beyond shown =
-    WaitLines it.sizes.items it.text.items tells.told it.plan shown tells.tells (is ∙ ap (λ xs. verdict ++ xs) tells.is)
+    WaitLines it.sizes.items it.text.items tells.told it.left.items it.plan shown tells.tells (is ∙ ap (λ xs. verdict ++ xs) tells.is)
 
 pub member_added : (p : Pattern) (verdict member text : List ℕ) (found : Option FirstWait) → MemberOf p found member → text ≡ without_end verdict ++ member
     → (beyond : Beyond) → IsExplainedWaitOf p beyond found → AddsMember p beyond verdict text
 member_added p verdict member text None none is beyond through = NullMember through (is ∙ ap (λ xs. without_end verdict ++ xs) none)
 member_added p verdict member text (Some it) lists is beyond shown =
-    WaitMember it.sizes.items it.text.items lists.members it.plan shown lists.lists (is ∙ ap (λ xs. without_end verdict ++ xs) lists.is)
+    WaitMember it.sizes.items it.text.items lists.members it.left.items it.plan shown lists.lists (is ∙ ap (λ xs. without_end verdict ++ xs) lists.is)
 
 -- in the form that is asked for
 pub member_explains : (json : Bool) (p : Pattern) (verdict : List ℕ) (found : Option FirstWait) (r : Result (Vec ℕ Global) Fault) → json ≡ true
@@ -147,34 +158,48 @@ unexplained true json p beyond text is = absurd (true≢false is)
 
 -- the instance with so many ranks of each group, with its plan
 pub later_planned : (p : Pattern) (ranks : ℕ) (instance : Instance) (it : FirstWait) → IsInstanceWith p ranks instance.sizes.items instance.text.items instance.scripts
-    → (it.sizes ≡ instance.sizes) × (it.text ≡ instance.text) × (it.plan ≡ instance.scripts) → IsInstanceWith p ranks it.sizes.items it.text.items it.plan
-later_planned p ranks instance it stands same = record {
-  sizes_are = ap (λ (v : Vec ℕ Global). v.items) same.0 ∙ stands.sizes_are;
-  text_is = own ∙ stands.text_is;
-  reads = subst (λ t. Reads OfVersion t (Ok it.plan)) (sym own) (subst (λ s. Reads OfVersion instance.text.items (Ok s)) (sym same.2) stands.reads);
-}
+    → (it.sizes ≡ instance.sizes) × (it.left.items ≡ []) × (it.text ≡ instance.text) × (it.plan ≡ instance.scripts)
+    → IsInstanceWith p ranks it.sizes.items it.text.items it.plan × (it.left.items ≡ [])
+later_planned p ranks instance it stands same = (
+  record {
+    sizes_are = ap (λ (v : Vec ℕ Global). v.items) same.0 ∙ stands.sizes_are;
+    text_is = own ∙ stands.text_is;
+    reads = subst (λ t. Reads OfVersion t (Ok it.plan)) (sym own) (subst (λ s. Reads OfVersion instance.text.items (Ok s)) (sym same.3) stands.reads);
+  },
+  same.1,
+)
   where
     own : it.text.items ≡ instance.text.items
-    own = ap (λ (v : Vec ℕ Global). v.items) same.1
+    own = ap (λ (v : Vec ℕ Global). v.items) same.2
+
+-- an instance that reads as a plan isn't past the limits of one
+read_within : (p : Pattern) (n : ℕ) → ReadsOnce → IsReadWith p n → IsUnreadWith p n → ⊥
+read_within p n once read (inl many) = (let few = read.0 in omega (arith, few, many))
+read_within p n once read (inr unread) =
+    let same : Ok read.1.0 ≡ Err unread.0 = once OfVersion (instance_text p (grown p n)) (Ok read.1.0) (Err unread.0) read.1.1 unread.1 in
+    absurd cc
 
 -- where something waits first with so many, that is the later one
-later_known : (p : Pattern) (beyond : Beyond) (later : Later) (found : Option FirstWait) → beyond ≡ First later
-    → MatchOption found (IsPastLimits p later.ranks) (λ it. IsInstanceWith p later.ranks it.sizes.items it.text.items it.plan) → IsLaterWaitOf p beyond found
-later_known p beyond later None is past = λ ranks first.
-    let same : Some later.ranks ≡ Some ranks = sym (ap first_ranks is) ∙ first in
-    let ranks_are : later.ranks ≡ ranks = cc in
-    subst (IsPastLimits p) ranks_are past
-later_known p beyond later (Some it) is stands = record { ranks = later.ranks; first = ap first_ranks is; stands = stands }
+later_known : (p : Pattern) (beyond : Beyond) (later : Later) (found : Option FirstWait) → ReadsOnce → IsLaterRead p beyond → beyond ≡ First later
+    → MatchOption found (IsUnreadWith p later.ranks) (λ it. IsInstanceWith p later.ranks it.sizes.items it.text.items it.plan × (it.left.items ≡ [])) → IsLaterWaitOf p beyond found
+later_known p beyond later None once read is unread = absurd (read_within p later.ranks once (read later.ranks (ap first_ranks is)) unread)
+later_known p beyond later (Some it) once read is stands = record { ranks = later.ranks; first = ap first_ranks is; stands = stands.0; whole = stands.1 }
 
-pub later_waits : (p : Pattern) (beyond : Beyond) (later : Later) (r : Result (Option FirstWait) Fault) → beyond ≡ First later
-    → IfOk r (λ found. MatchOption found (IsPastLimits p later.ranks) (λ it. IsInstanceWith p later.ranks it.sizes.items it.text.items it.plan))
+pub later_waits : (p : Pattern) (beyond : Beyond) (later : Later) (r : Result (Option FirstWait) Fault) → ReadsOnce → IsLaterRead p beyond → beyond ≡ First later
+    → IfOk r (λ found. MatchOption found (IsUnreadWith p later.ranks) (λ it. IsInstanceWith p later.ranks it.sizes.items it.text.items it.plan × (it.left.items ≡ [])))
     → IfOk r (IsLaterWaitOf p beyond)
-later_waits p beyond later (Ok found) is waits = later_known p beyond later found is waits
-later_waits p beyond later (Err fault) is waits = tt
+later_waits p beyond later (Ok found) once read is waits = later_known p beyond later found once read is waits
+later_waits p beyond later (Err fault) once read is waits = tt
 
--- where no such number is known, there is none
-pub none_known : (p : Pattern) (beyond : Beyond) → first_ranks beyond ≡ None → IsNoLaterWait p beyond
-none_known p beyond is = λ ranks first. let no : None ≡ Some ranks = sym is ∙ first in cc
+-- beside a number of ranks with which something waits first stands that the instance reads as a plan
+pub later_read : (p : Pattern) (lines : List CallLine) (beyond : Beyond) → IsBeyond p lines beyond → IsLaterRead p beyond
+later_read p lines Unsaid is = λ ranks first. let no : None ≡ Some ranks = first in cc
+later_read p lines Never is = λ ranks first. let no : None ≡ Some ranks = first in cc
+later_read p lines Unknown is = λ ranks first. let no : None ≡ Some ranks = first in cc
+later_read p lines (First later) is = λ ranks first.
+    let known : Some later.ranks ≡ Some ranks = first in
+    let ranks_are : later.ranks ≡ ranks = cc in
+    subst (IsReadWith p) ranks_are is.1.waiting.read
 
 -- the first that is judged comes first
 pub judged_shown : (p : Pattern) (beyond : Beyond) (found : Option FirstWait) (it : FirstWait) → found ≡ Some it → IsFirstWaitOf p found → IsExplainedWaitOf p beyond (Some it)

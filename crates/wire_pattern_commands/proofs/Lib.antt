@@ -14,4 +14,5 @@ mod SettledJson
 mod Succeeded
 mod Together
 mod Emptied
+mod Exactly
 mod FirstWaits

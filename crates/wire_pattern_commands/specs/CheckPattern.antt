@@ -26,8 +26,10 @@ use Rattle.wire_pattern_answers.specs.Answers.{AreAnswers}
 use Rattle.wire_pattern_commands.specs.declared.asked.PatternAsked.{PatternAsked}
 use Rattle.wire_command.specs.Ending.{ended_of}
 use Rattle.wire_cutoff.specs.Judged.{IsCounterexample, IsSweepFault, IsWithinPatternLimits}
+use Rattle.wire_answer_laws.specs.AnySize.{AnswersSuffice}
+use Rattle.wire_pattern_stages.specs.Lookups.{AllWaitForOne}
 use Rattle.wire_pattern_commands.specs.AtLeast.{least_text}
-use Rattle.wire_pattern_commands.specs.Beyond.{IsBeyond, is_never, beyond_text}
+use Rattle.wire_pattern_commands.specs.Beyond.{IsBeyond, is_known_answered, beyond_text}
 use Rattle.wire_pattern_commands.specs.declared.beyond.Beyond.{Beyond}
 use Rattle.wire_pattern_commands.specs.Succeeding.{IsSuccessTold}
 use Rattle.wire_pattern_commands.specs.FirstWait.{ExplainsFirstWait}
@@ -63,13 +65,13 @@ settled_text asked beyond p lines answers =
     settled_line ++ (least_text p ++ (waits_text p lines ++ (beyond_text p beyond ++ (if asked then answers_text p answers else []))))
 
 -- the same in the form that is asked for
-abbrev pub settled_form : PatternAsked → Beyond → Pattern → List CallLine → List LineAnswers → List ℕ
-settled_form asked beyond p lines answers =
-    if asked.json then json_settled asked.answers beyond p lines answers else settled_text asked.answers beyond p lines answers
+abbrev pub settled_form : PatternAsked → Beyond → Bool → Pattern → List CallLine → List LineAnswers → List ℕ
+settled_form asked beyond exact p lines answers =
+    if asked.json then json_settled asked.answers beyond exact p lines answers else settled_text asked.answers beyond p lines answers
 
--- whether a get-now line is answered with success, and with nothing else
+-- whether no get-now of the line is answered with anything but success
 abbrev pub succeeds : LineAnswers → Bool
-succeeds answers = answers.success && (not answers.not_found && not answers.outside)
+succeeds answers = not answers.not_found && not answers.outside
 
 -- how the command ends where nothing is found. If `complete` is asked for, with the count of the call lines at which
 -- something waits; where there are none, with 1 unless it is known that none waits with any number of ranks; then with 1
@@ -84,8 +86,10 @@ settled_end asked everywhere succeeding lines answers =
 
 -- it is said that nothing is found, where something waits in the instances that are judged, which all read as plans, and
 -- if that is asked for how each get-now is answered. If nothing waits, each call of these instances has its reply; what is
--- said of larger instances is so; and with `complete` the end tells whether each call of the instances that are judged
--- succeeds
+-- said of larger instances is so; and with `complete`, where every call is known to be answered for every number of
+-- ranks, the end tells whether each call of the instances that are judged succeeds. Where the answers are said to be those
+-- of every number of ranks, in an instance of any size each get-now is answered with one of these statuses, or never; and so
+-- they are said to be where nothing waits, or each lookup-wait is of a name that is published once and never taken away
 pub record IsSettledSaid (p : Pattern) (asked : PatternAsked) (beyond : Beyond) (text : List ℕ) (ended : Ended) : Type 0 where
   pub lines : List CallLine
   pub waiting : AreWaiting p lines
@@ -93,11 +97,14 @@ pub record IsSettledSaid (p : Pattern) (asked : PatternAsked) (beyond : Beyond) 
   pub replied : lines ≡ [] → AllReplied p
   pub beyond_is : IsBeyond p lines beyond
   pub succeeding : Bool
-  pub told : asked.complete && is_never beyond ≡ true → IsSuccessTold p succeeding
+  pub told : asked.complete && is_known_answered beyond ≡ true → IsSuccessTold p succeeding
   pub answers : List LineAnswers
   pub answered : asked.answers || asked.complete ≡ true → AreAnswers p answers
-  pub is : text ≡ settled_form asked beyond p lines answers
-  pub ends : ended ≡ settled_end asked (is_never beyond) succeeding lines answers
+  pub exact : Bool
+  pub suffices : exact ≡ true → AnswersSuffice p
+  pub known : (lines ≡ []) ⊎ AllWaitForOne p → exact ≡ true
+  pub is : text ≡ settled_form asked beyond exact p lines answers
+  pub ends : ended ≡ settled_end asked (is_known_answered beyond) succeeding lines answers
 
 -- the same, and if that is asked for who waits for ever
 pub record IsExplainedSaid (p : Pattern) (asked : PatternAsked) (text : List ℕ) (ended : Ended) : Type 0 where

@@ -8,8 +8,8 @@ use Rattle.wire_pattern_later.specs.Later.{AreLater, IsNoneLater}
 use Rattle.wire_pattern_commands.specs.declared.beyond.Beyond.{Beyond}
 use Rattle.wire_pattern_commands.specs.declared.beyond.Beyond.TheVariants.{Unsaid, Never, First, Unknown}
 
--- something waits; none does in the instances that are judged, and these keep stages; something waits first with so many;
--- or nothing waits as far as is looked
+-- some call waits in the instances that are judged; or none does, and one of three: these keep stages; with so many processes
+-- of each group some call waits first; or none waits as far as it looks
 abbrev pub IsFoundBeyond : Pattern → List CallLine → Beyond → Type 0
 IsFoundBeyond p lines Unsaid = lines ≢ []
 IsFoundBeyond p lines Never = (lines ≡ []) × ((stages : Stages) × AllStaged p stages)

@@ -9,5 +9,6 @@ pub mod Found
 pub mod PatternJson
 pub mod Views
 pub mod Succeeding
+pub mod LeftOut
 pub mod FirstWait
 pub mod CheckPattern

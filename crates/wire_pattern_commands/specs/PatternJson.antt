@@ -15,15 +15,21 @@ use Rattle.wire_pattern_commands.specs.declared.beyond.Beyond.TheVariants.{Never
 use Rattle.wire_pattern_commands.specs.Beyond.{answered_words, first_text}
 use Rattle.wire_pattern_commands.specs.Strings.{lines_list, text_string}
 
--- the member of how each get-now is answered, where that is asked for
-abbrev pub answers_member : Bool → Pattern → List LineAnswers → List ℕ
-answers_member asked p answers = if asked then codes "\"answers\":" ++ (lines_list (answers_text p answers) ++ codes ",") else []
+-- the member of which instances the statuses are of
+abbrev pub scope_member : Bool → List ℕ
+scope_member exact =
+    if exact then codes ",\"answers_for\":\"every number of ranks\"," else codes ",\"answers_for\":\"the instances that are judged\","
 
--- the member of for which numbers of ranks every call is answered
+-- the members of how each get-now is answered, where that is asked for
+abbrev pub answers_member : (asked exact : Bool) → Pattern → List LineAnswers → List ℕ
+answers_member asked exact p answers =
+    if asked then codes "\"answers\":" ++ (lines_list (answers_text p answers) ++ scope_member exact) else []
+
+-- the member that says of which instances every call is known to be answered
 abbrev pub answered_by : Pattern → Beyond → List ℕ
 answered_by p beyond = codes "\"answered\":\"" ++ (answered_words p beyond ++ codes "\",")
 
--- the same where some number is known
+-- the same where it is known of some
 abbrev pub answered_member : Pattern → Beyond → List ℕ
 answered_member p Never = answered_by p Never
 answered_member p Unknown = answered_by p Unknown
@@ -33,11 +39,11 @@ answered_member p _ = []
 abbrev pub sizes_members : Pattern → Beyond → List ℕ
 sizes_members p beyond = lines_list (first_text p beyond) ++ (codes ",\"least\":" ++ lines_list (least_text p))
 
--- that nothing is found, for which instances that is said, the lines about numbers of ranks, and each that tells where
--- something waits
-abbrev pub json_settled : Bool → Beyond → Pattern → List CallLine → List LineAnswers → List ℕ
-json_settled asked beyond p lines answers =
-    (codes "{" ++ answered_member p beyond) ++ (answers_member asked p answers
+-- that nothing is found, of which instances every call is answered, if that is asked for how each get-now is, the lines
+-- about numbers of ranks, and each that tells where something waits
+abbrev pub json_settled : Bool → Beyond → Bool → Pattern → List CallLine → List LineAnswers → List ℕ
+json_settled asked beyond exact p lines answers =
+    (codes "{" ++ answered_member p beyond) ++ (answers_member asked exact p answers
     ++ (codes "\"findings\":[],\"for\":\"every number of ranks on every placement\",\"later\":" ++ (sizes_members p beyond
     ++ (codes ",\"waits\":" ++ (lines_list (waits_text p lines) ++ codes "}\n")))))
 

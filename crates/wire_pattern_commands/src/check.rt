@@ -11,7 +11,6 @@ ghost use Rattle.wire_cutoff.specs.Selections.{most_sizes};
 ghost use Rattle.wire_cutoff.specs.Views.{IsFoundFor};
 ghost use Rattle.wire_cutoff_laws.specs.Sizes.{total_of};
 ghost use Rattle.wire_cutoff_laws.specs.Promised.{IsSettledForAll};
-ghost use Rattle.wire_pattern_answers.specs.Answers.{AreAnswers};
 ghost use Rattle.wire_command.specs.Ending.{ended_of};
 ghost use Rattle.wire_pattern_commands.specs.CheckPattern as spec;
 ghost use Rattle.wire_pattern_waits.specs.Waits.{AllReadAsPlans};
@@ -22,6 +21,7 @@ ghost use Rattle.wire_pattern_commands.specs.CheckPattern.{IsExplainedSaid, IsPa
 
 use crate::asked::PatternAsked;
 use crate::beyond::{Beyond, find_beyond, push_beyond};
+use crate::exact::{Statuses, are_exact};
 use crate::explained::explain_answer;
 use crate::least::write_least;
 use crate::reading::{note_sound, read_coming};
@@ -34,7 +34,7 @@ use wire_cutoff::laws::texts_settled;
 use wire_cutoff::{Counterexample, judge_pattern};
 use wire_findings::Finding;
 use wire_pattern::Pattern;
-use wire_pattern_answers::{LineAnswers, find_answers, write_answers};
+use wire_pattern_answers::{LineAnswers, write_answers};
 use wire_pattern_stages::{Waiting, find_waiting};
 use wire_pattern_waits::{CallLine, write_waits};
 use wire_reply_laws::laws::{all_answered, texts_answered};
@@ -136,11 +136,11 @@ fn answer_found(
     })
 }
 
-/// Whether a get-now line is answered with success, and with nothing else.
+/// Whether no get-now of a line is answered with anything but success.
 fn succeeds(answers: &LineAnswers) -> bool
     ensures { result ≡ spec.succeeds answers.now }
 {
-    answers.success && !answers.not_found && !answers.outside
+    !answers.not_found && !answers.outside
 }
 
 /// How many get-now lines don't succeed.
@@ -177,22 +177,11 @@ fn settled_end(
     }
 }
 
-/// With which statuses each get-now line is answered, if that is asked for.
-fn answers_asked(
-    alloc: Global,
-    pattern: &Pattern,
-    asked: PatternAsked,
-) -> Result<Vec<LineAnswers>, Fault>
-    requires settled { IsSettledForAll pattern.now }
-    requires few { total_of (most_sizes pattern.now.roles) < 2 ^ 31 }
-    ensures ok { IfOk result (λ v. asked.answers || asked.complete ≡ true → AreAnswers pattern.now v.items) }
-    ensures err { IfErr result (λ e. IsJudgeFault pattern.now e) }
+/// Whether the statuses of get-nows are asked for, or what is asked for rests on them.
+fn needs_answers(asked: PatternAsked) -> bool
+    ensures { result ≡ asked.answers || asked.complete }
 {
-    if asked.answers || asked.complete {
-        let answers = find_answers(alloc, pattern)?;
-        return Ok(answers);
-    }
-    Ok(Vec::new(alloc))
+    asked.answers || asked.complete
 }
 
 /// Whether every call of the instances that are judged succeeds, if that is asked for and no call waits with any number
@@ -252,14 +241,15 @@ fn settled_form(
     asked: PatternAsked,
     beyond: &Beyond,
     lines: &[CallLine],
-    answers: &[LineAnswers],
+    statuses: &Statuses,
 ) -> Result<Vec<u8>, AllocError>
-    ensures { IfOk result (λ text. text.items ≡ spec.settled_form asked beyond.now pattern.now lines.now answers.now) }
+    ensures { IfOk result (λ text. text.items
+        ≡ spec.settled_form asked beyond.now statuses.now.exact pattern.now lines.now statuses.now.lines.now) }
 {
     if asked.json {
-        settled_json(alloc, pattern, asked, beyond, lines, answers)
+        settled_json(alloc, pattern, asked, beyond, lines, statuses)
     } else {
-        settled_text(alloc, pattern, asked, beyond, lines, answers)
+        settled_text(alloc, pattern, asked, beyond, lines, statuses.lines)
     }
 }
 
@@ -280,25 +270,29 @@ fn answer_settled(alloc: Global, pattern: &Pattern, asked: PatternAsked) -> Resu
     all_answered();
     texts_answered();
     note_sound(pattern);
-    let waiting = find_waiting(alloc, pattern)?;
+    let waiting = find_waiting(alloc, pattern, needs_answers(asked))?;
     let beyond = find_beyond(alloc, pattern, &waiting)?;
-    let never = beyond.is_never();
-    let succeeding = success_asked(alloc, pattern, asked, never, &waiting)?;
-    let answers = answers_asked(alloc, pattern, asked)?;
+    let known = beyond.is_known_answered();
+    let succeeding = success_asked(alloc, pattern, asked, known, &waiting)?;
+    let exact = are_exact(pattern, &waiting);
+    let statuses = Statuses {
+        lines: waiting.answers.as_slice(),
+        exact,
+    };
     let text = settled_form(
         alloc,
         pattern,
         asked,
         &beyond,
         waiting.lines.as_slice(),
-        answers.as_slice(),
+        &statuses,
     )?;
     let ended = settled_end(
         asked,
-        never,
+        known,
         succeeding,
         waiting.lines.as_slice(),
-        answers.as_slice(),
+        statuses.lines,
     );
     Ok(Settled {
         answer: Answer { text, ended },

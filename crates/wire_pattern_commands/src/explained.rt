@@ -8,13 +8,16 @@ ghost use Rattle.wire_cutoff.specs.Judged.{IsJudgeFault};
 ghost use Rattle.wire_cutoff.specs.Selections.{most_sizes};
 ghost use Rattle.wire_cutoff_laws.specs.Sizes.{total_of};
 ghost use Rattle.wire_pattern_commands.specs.FirstWait as spec;
-ghost use Rattle.wire_pattern_commands.specs.FirstWait.{AddsLines, AddsMember, ExplainsFirstWait, IsExplainedWaitOf, LinesOf, MemberOf, TellsFirst, ListsFirst};
+ghost use Rattle.wire_pattern_commands.specs.LeftOut.{left_part, turns_text};
+ghost use Rattle.wire_pattern_commands.specs.FirstWait.{AddsLines, AddsMember, ExplainsFirstWait, IsExplainedWaitOf, IsLaterRead};
+ghost use Rattle.wire_pattern_commands.specs.FirstWait.{LinesOf, MemberOf, TellsFirst, ListsFirst};
 ghost use Rattle.wire_pattern_commands.specs.declared.beyond.Beyond.{Beyond as BeyondSpec};
 
 use crate::asked::PatternAsked;
 use crate::beyond::Beyond;
 use crate::first_wait::{FirstWait, find_shown};
-use crate::strings::push_text;
+use crate::left_out::{push_left, push_turns};
+use crate::strings::{push_lines, push_text};
 use std::alloc::{AllocError, Global};
 use wire_command::Answer;
 use wire_json::push_quoted;
@@ -96,6 +99,13 @@ fn first_line(alloc: Global, pattern: &Pattern, first: &FirstWait) -> Result<Vec
     Ok(line)
 }
 
+/// Appends which turns an instance leaves out, below a heading.
+fn push_left_out(out: &mut Vec<u8>, first: &FirstWait) -> Result<(), AllocError>
+    ensures { OnOk result (out.new.items ≡ out.old.items ++ left_part first.now.plan first.now.left.items) }
+{
+    push_left(out, first.plan.scripts(), first.left.as_slice())
+}
+
 /// The lines about an instance in which a rank waits.
 fn first_text(alloc: Global, pattern: &Pattern, first: &FirstWait) -> Result<Vec<u8>, Fault>
     ensures ok { IfOk result (λ text. TellsFirst pattern.now first.now text.items) }
@@ -103,6 +113,7 @@ fn first_text(alloc: Global, pattern: &Pattern, first: &FirstWait) -> Result<Vec
 {
     let told = tell_standstill(alloc, &first.plan)?;
     let mut text = first_line(alloc, pattern, first)?;
+    push_left_out(&mut text, first)?;
     text.extend_from_slice(told.as_slice())?;
     Ok(text)
 }
@@ -117,6 +128,25 @@ fn lines_of(alloc: Global, pattern: &Pattern, found: &Option<FirstWait>) -> Resu
         Some(first) => first_text(alloc, pattern, first),
         None => Ok(Vec::new(alloc)),
     }
+}
+
+/// A line for each turn that an instance leaves out.
+fn left_lines(alloc: Global, first: &FirstWait) -> Result<Vec<u8>, AllocError>
+    ensures { IfOk result (λ lines. lines.items ≡ turns_text first.now.plan first.now.left.items) }
+{
+    let mut lines = Vec::new(alloc);
+    push_turns(&mut lines, first.plan.scripts(), first.left.as_slice())?;
+    Ok(lines)
+}
+
+/// Appends the member of the turns that an instance leaves out.
+fn push_not_taken(alloc: Global, out: &mut Vec<u8>, first: &FirstWait) -> Result<(), AllocError>
+    ensures { OnOk result (out.new.items ≡ out.old.items ++ spec.not_taken_member first.now.plan first.now.left.items) }
+{
+    let lines = left_lines(alloc, first)?;
+    out.extend_from_slice(b"\"not_taken\":")?;
+    push_lines(alloc, out, lines.as_slice())?;
+    out.extend_from_slice(b",")
 }
 
 /// The text of a plan, how many ranks it has, and the end of both objects.
@@ -141,6 +171,7 @@ fn first_json(alloc: Global, pattern: &Pattern, first: &FirstWait) -> Result<Vec
     let rest = plan_members(alloc, pattern, first)?;
     let mut text = Vec::from_slice(alloc, b",\"where\":")?;
     text.extend_from_slice(members.as_slice())?;
+    push_not_taken(alloc, &mut text, first)?;
     text.extend_from_slice(rest.as_slice())?;
     Ok(text)
 }
@@ -225,7 +256,8 @@ fn explained_text(
     beyond: &Beyond,
     verdict: &[u8],
 ) -> Result<Vec<u8>, Fault>
-    requires { total_of (most_sizes pattern.now.roles) < 2 ^ 31 }
+    requires few { total_of (most_sizes pattern.now.roles) < 2 ^ 31 }
+    requires later { IsLaterRead pattern.now beyond.now }
     ensures ok { IfOk result (λ text. ExplainsFirstWait true json pattern.now beyond.now verdict.now text.items) }
     ensures err { IfErr result (λ e. IsJudgeFault pattern.now e) }
 {
@@ -246,7 +278,8 @@ pub(crate) fn explain_answer(
     beyond: &Beyond,
     answer: Answer,
 ) -> Result<Answer, Fault>
-    requires { total_of (most_sizes pattern.now.roles) < 2 ^ 31 }
+    requires few { total_of (most_sizes pattern.now.roles) < 2 ^ 31 }
+    requires later { IsLaterRead pattern.now beyond.now }
     ensures ended { IfOk result (λ it. it.ended ≡ answer.ended) }
     ensures ok { IfOk result (λ it. ExplainsFirstWait asked.explain asked.json pattern.now beyond.now answer.text.items it.text.items) }
     ensures err { IfErr result (λ e. IsJudgeFault pattern.now e) }

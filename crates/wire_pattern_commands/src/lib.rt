@@ -4,11 +4,13 @@
 mod asked;
 mod beyond;
 mod check;
+mod exact;
 mod expand;
 mod explained;
 mod first_wait;
 pub mod laws;
 mod least;
+mod left_out;
 mod ranks;
 mod reading;
 mod spread;

@@ -11,6 +11,7 @@ ghost use Rattle.wire_pattern_commands.specs.Strings.{lines_list};
 
 use crate::asked::PatternAsked;
 use crate::beyond::{Beyond, push_first, push_words};
+use crate::exact::Statuses;
 use crate::least::write_least;
 use crate::strings::{push_lines, push_text, string_of};
 use std::alloc::{AllocError, Global};
@@ -18,30 +19,42 @@ use wire_cutoff::Counterexample;
 use wire_findings::Finding;
 use wire_json::push_list;
 use wire_pattern::Pattern;
-use wire_pattern_answers::{LineAnswers, write_answers};
+use wire_pattern_answers::write_answers;
 use wire_pattern_waits::{CallLine, write_waits};
 use wire_report::push_finding;
 use wire_scripts::Scripts;
 use wire_words::push_number;
 
-/// Appends the member of how each get-now is answered, if that is asked for.
+/// The member of which instances these are the statuses of.
+fn scope_member(exact: bool) -> &'static [u8]
+    ensures { result.now ≡ spec.scope_member exact }
+{
+    if exact {
+        b",\"answers_for\":\"every number of ranks\",".as_slice()
+    } else {
+        b",\"answers_for\":\"the instances that are judged\",".as_slice()
+    }
+}
+
+/// Appends the members of how each get-now is answered, if that is asked for.
 fn push_answers(
     alloc: Global,
     out: &mut Vec<u8>,
     pattern: &Pattern,
     asked: PatternAsked,
-    answers: &[LineAnswers],
+    statuses: &Statuses,
 ) -> Result<(), AllocError>
-    ensures { OnOk result (out.new.items ≡ out.old.items ++ spec.answers_member asked.answers pattern.now answers.now) }
+    ensures { OnOk result (out.new.items ≡ out.old.items
+        ++ spec.answers_member asked.answers statuses.now.exact pattern.now statuses.now.lines.now) }
 {
     if !asked.answers {
         return Ok(());
     }
     let mut lines = Vec::new(alloc);
-    write_answers(&mut lines, pattern, answers)?;
+    write_answers(&mut lines, pattern, statuses.lines)?;
     out.extend_from_slice(b"\"answers\":")?;
     push_lines(alloc, out, lines.as_slice())?;
-    out.extend_from_slice(b",")
+    out.extend_from_slice(scope_member(statuses.exact))
 }
 
 /// Appends a list of the lines that tell the least numbers of ranks.
@@ -95,7 +108,7 @@ fn push_waits(
     push_lines(alloc, out, text.as_slice())
 }
 
-/// Appends the member of for which numbers of ranks every call is answered.
+/// Appends the member that says of which instances every call is known to be answered.
 fn push_member(out: &mut Vec<u8>, pattern: &Pattern, beyond: &Beyond) -> Result<(), AllocError>
     ensures { OnOk result (out.new.items ≡ out.old.items ++ spec.answered_by pattern.now beyond.now) }
 {
@@ -104,7 +117,7 @@ fn push_member(out: &mut Vec<u8>, pattern: &Pattern, beyond: &Beyond) -> Result<
     out.extend_from_slice(b"\",")
 }
 
-/// The same where some number is known.
+/// The same where it is known of some.
 fn push_answered(out: &mut Vec<u8>, pattern: &Pattern, beyond: &Beyond) -> Result<(), AllocError>
     ensures { OnOk result (out.new.items ≡ out.old.items ++ spec.answered_member pattern.now beyond.now) }
 {
@@ -130,12 +143,13 @@ pub(crate) fn settled_json(
     asked: PatternAsked,
     beyond: &Beyond,
     lines: &[CallLine],
-    answers: &[LineAnswers],
+    statuses: &Statuses,
 ) -> Result<Vec<u8>, AllocError>
-    ensures { IfOk result (λ text. text.items ≡ spec.json_settled asked.answers beyond.now pattern.now lines.now answers.now) }
+    ensures { IfOk result (λ text. text.items
+        ≡ spec.json_settled asked.answers beyond.now statuses.now.exact pattern.now lines.now statuses.now.lines.now) }
 {
     let mut out = settled_start(alloc, pattern, beyond)?;
-    push_answers(alloc, &mut out, pattern, asked, answers)?;
+    push_answers(alloc, &mut out, pattern, asked, statuses)?;
     out.extend_from_slice(
         b"\"findings\":[],\"for\":\"every number of ranks on every placement\",\"later\":",
     )?;

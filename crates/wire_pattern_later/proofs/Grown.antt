@@ -13,7 +13,7 @@ use Rattle.wire_reader.specs.Reads.{Reads, ReadsOnce}
 use Rattle.wire_pattern.specs.Pattern.{Pattern, Role}
 use Rattle.wire_pattern.specs.Planned.{single_in}
 use Rattle.wire_pattern.specs.Instances as spec
-use Rattle.wire_pattern.specs.Instances.{IsCast, instance_text}
+use Rattle.wire_pattern.specs.Instances.{IsCast, instance_text, process_count}
 use Rattle.wire_instances.specs.declared.cast.Cast.{Cast}
 use Rattle.wire_instances.specs.Nodes.{AreNodes, HaveOwnNodes}
 use Rattle.wire_instances.specs.Views.{cast_by, choice_by}
@@ -23,7 +23,7 @@ use Rattle.wire_pattern_waits.specs.LineSets.{has_line}
 use Rattle.wire_pattern_waits.specs.Stops.{StuckAt}
 use Rattle.wire_reader.specs.Limits.{file_bytes}
 use Rattle.wire_reader.proofs.Limited.{reads_limited, whole_read}
-use Rattle.wire_pattern_later.specs.Later.{sizes_with, grown, StopsWith, IsReadWith, AreWaitingWith, AreLater, NoneBelow, IsNoneLater, IsPastLimits, IsInstanceWith}
+use Rattle.wire_pattern_later.specs.Later.{sizes_with, grown, StopsWith, IsReadWith, AreWaitingWith, AreLater, NoneBelow, IsNoneLater, IsUnreadWith, IsPastLimits, IsInstanceWith}
 use Rattle.wire_pattern_later.specs.declared.later.Instance.{Instance}
 use Rattle.wire_pattern_later.specs.Through.{first_size, last_size}
 
@@ -88,8 +88,10 @@ waits_grown p n cast scripts noted once is reads told role line = (to, from)
         (told role line).1 (subst (λ c. StuckAt p c scripts role line) (sym is) (subst (λ t. StuckAt p (grown p n) t role line) same x.stops))
 
 -- which reads as a plan
-pub read_grown : (p : Pattern) (n : ℕ) (cast : spec.Cast) (scripts : Scripts) → cast ≡ grown p n → Reads OfVersion (instance_text p cast) (Ok scripts) → IsReadWith p n
-read_grown p n cast scripts is reads = (scripts, subst (λ c. Reads OfVersion (instance_text p c) (Ok scripts)) is reads)
+pub read_grown : (p : Pattern) (n : ℕ) (cast : spec.Cast) (scripts : Scripts) → process_count cast < 2 ^ 31 → cast ≡ grown p n
+    → Reads OfVersion (instance_text p cast) (Ok scripts) → IsReadWith p n
+read_grown p n cast scripts few is reads =
+    (subst (λ c. process_count c < 2 ^ 31) is few, (scripts, subst (λ c. Reads OfVersion (instance_text p c) (Ok scripts)) is reads))
 
 -- what is noted from nothing on
 pub noted_first : (old new : Bool) (those : Type 0) → old ≡ false → (new ≡ true) ↔ ((old ≡ true) ⊎ those) → (new ≡ true) ↔ those
@@ -100,8 +102,8 @@ noted_first old new those none both = ((λ h. to (both.0 h)), λ x. both.1 (inr 
     to (inr x) = x
 
 -- a text that doesn't read as a plan is past the limits
-pub unread_grown : (p : Pattern) (n : ℕ) (cast : spec.Cast) (fault : Fault) → cast ≡ grown p n → Reads OfVersion (instance_text p cast) (Err fault) → IsPastLimits p n
-unread_grown p n cast fault is reads = inr (inr (fault, subst (λ c. Reads OfVersion (instance_text p c) (Err fault)) is reads))
+pub unread_grown : (p : Pattern) (n : ℕ) (cast : spec.Cast) (fault : Fault) → cast ≡ grown p n → Reads OfVersion (instance_text p cast) (Err fault) → IsUnreadWith p n
+unread_grown p n cast fault is reads = inr (fault, subst (λ c. Reads OfVersion (instance_text p c) (Err fault)) is reads)
 
 -- one number more with which nothing waits
 pub none_more : (p : Pattern) (n : ℕ) (lines : List CallLine) → AreWaitingWith p n lines → lines ≡ [] → NoneBelow p n → NoneBelow p (n + 1)
@@ -176,7 +178,7 @@ none_there (x ∷ xs) h = absurd (omega (arith, eqb-true (length (x ∷ xs)) 0 h
 pub instance_told : (p : Pattern) (n : ℕ) (cast : spec.Cast) (found : Option Instance) → cast ≡ grown p n → IfSome found (λ it. it.sizes.items ≡ cast.sizes)
     → IfSome found (λ it. it.text.items ≡ instance_text p cast) → IfSome found (λ it. Reads OfVersion (instance_text p cast) (Ok it.scripts))
     → (found ≡ None → (fault : Fault) × Reads OfVersion (instance_text p cast) (Err fault))
-    → MatchOption found (IsPastLimits p n) (λ it. IsInstanceWith p n it.sizes.items it.text.items it.scripts)
+    → MatchOption found (IsUnreadWith p n) (λ it. IsInstanceWith p n it.sizes.items it.text.items it.scripts)
 instance_told p n cast None is sizes text reads none = let unread = none refl in unread_grown p n cast unread.0 is unread.1
 instance_told p n cast (Some it) is sizes text reads none = record {
   sizes_are = sizes ∙ ap (λ (c : spec.Cast). c.sizes) is;

@@ -34,9 +34,9 @@ pub record StopsWith (p : Pattern) (n role line : ℕ) : Type 0 where
   pub reads : Reads OfVersion (instance_text p (grown p n)) (Ok scripts)
   pub stops : StuckAt p (grown p n) scripts role line
 
--- the text of the instance with n processes of each group reads as a plan
+-- so many processes aren't too many, and the text of the instance with n processes of each group reads as a plan
 abbrev pub IsReadWith : Pattern → ℕ → Type 0
-IsReadWith p n = (scripts : Scripts) × Reads OfVersion (instance_text p (grown p n)) (Ok scripts)
+IsReadWith p n = (total_of (sizes_with n p.roles) < 2 ^ 31) × ((scripts : Scripts) × Reads OfVersion (instance_text p (grown p n)) (Ok scripts))
 
 -- it does, and of all call lines of the pattern these are exactly those at which something waits there, in their order
 pub record AreWaitingWith (p : Pattern) (n : ℕ) (lines : List CallLine) : Type 0 where
@@ -52,9 +52,12 @@ pub record IsInstanceWith (p : Pattern) (n : ℕ) (sizes text : List ℕ) (scrip
   pub reads : Reads OfVersion text (Ok scripts)
 
 -- so many processes are too many, or the text of the instance doesn't read as a plan
+abbrev pub IsUnreadWith : Pattern → ℕ → Type 0
+IsUnreadWith p n = (2 ^ 31 ≤ total_of (sizes_with n p.roles)) ⊎ ((fault : Fault) × Reads OfVersion (instance_text p (grown p n)) (Err fault))
+
+-- that is so, or the number itself is too large
 abbrev pub IsPastLimits : Pattern → ℕ → Type 0
-IsPastLimits p n =
-    (2 ^ 31 ≤ n) ⊎ ((2 ^ 31 ≤ total_of (sizes_with n p.roles)) ⊎ ((fault : Fault) × Reads OfVersion (instance_text p (grown p n)) (Err fault)))
+IsPastLimits p n = (2 ^ 31 ≤ n) ⊎ IsUnreadWith p n
 
 -- with each number from the first that all groups may have, but less than n, nothing waits
 abbrev pub NoneBelow : Pattern → ℕ → Type 0
@@ -69,7 +72,7 @@ pub record AreLater (p : Pattern) (n : ℕ) (lines : List CallLine) : Type 0 whe
   pub some : lines ≢ []
   pub least : NoneBelow p n
 
--- nothing waits with any number up to some n, which is behind the last that is looked at or past the limits
+-- nothing waits with any number below some n, which is behind the last that is looked at or past the limits
 abbrev pub IsNoneLater : Pattern → Type 0
 IsNoneLater p = (n : ℕ) × (first_size p.roles ≤ n) × NoneBelow p n × ((last_size p.roles < n) ⊎ IsPastLimits p n)
 

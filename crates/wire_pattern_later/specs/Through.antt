@@ -31,12 +31,17 @@ is_through role (Loop number group turns lines) = (group == role) && waits_behin
 abbrev pub through_count : List Role → ℕ → ℕ
 through_count roles role = count_by (is_through role) (flat_map (λ r. r.steps) roles)
 
--- the most that they have over one of these roles, of which the first has the number n
+-- how many they have over this role, of number n, if it is a group: of a single role there is one process in every
+-- instance
+abbrev pub group_count : List Role → ℕ → Role → ℕ
+group_count all n role = if role.single then 0 else through_count all n
+
+-- the most that they have over one of the groups among these roles, of which the first has the number n
 abbrev pub most_through : List Role → ℕ → List Role → ℕ
 most_through all n [] = 0
-most_through all n (role ∷ roles) = max (through_count all n) (most_through all (suc n) roles)
+most_through all n (role ∷ roles) = max (group_count all n role) (most_through all (suc n) roles)
 
--- the least number that each group may have, 3 at least
+-- the least number that all groups may have, 3 at least
 abbrev pub first_size : List Role → ℕ
 first_size [] = 3
 first_size (role ∷ roles) = max role.least (first_size roles)

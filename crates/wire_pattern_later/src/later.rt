@@ -12,7 +12,7 @@ ghost use Rattle.wire_cutoff_laws.specs.Sizes.{total_of};
 ghost use Rattle.wire_pattern_waits.specs.LineSets.{has_line};
 ghost use Rattle.wire_pattern_waits.specs.Stops.{StuckAt};
 ghost use Rattle.wire_pattern_later.specs.Later as spec;
-ghost use Rattle.wire_pattern_later.specs.Later.{AreLater, AreWaitingWith, IsInstanceWith, IsNoneLater, IsPastLimits, IsReadWith, StopsWith};
+ghost use Rattle.wire_pattern_later.specs.Later.{AreLater, AreWaitingWith, IsInstanceWith, IsNoneLater, IsPastLimits, IsReadWith, IsUnreadWith, StopsWith};
 
 use crate::through::{end_size, first_size};
 use std::alloc::{AllocError, Global};
@@ -109,7 +109,7 @@ pub fn instance_with(
     pattern: &Pattern,
     ranks: u32,
 ) -> Result<Option<Instance>, Fault>
-    ensures ok { IfOk result (λ r. MatchOption r (IsPastLimits pattern.now ranks)
+    ensures ok { IfOk result (λ r. MatchOption r (IsUnreadWith pattern.now ranks)
         (λ it. IsInstanceWith pattern.now ranks it.sizes.items it.text.items it.scripts)) }
     ensures err { IfErr result (λ e. e ≡ Memory) }
 {

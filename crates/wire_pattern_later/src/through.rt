@@ -95,19 +95,30 @@ fn through_count(roles: &[Role], role: u32) -> Result<usize, AllocError>
     Ok(count)
 }
 
-/// The most that those of a pattern have over one role.
+/// How many they have over this role, of this number, if it is a group; none over a single role.
+fn group_count(roles: &[Role], number: u32, role: &Role) -> Result<usize, AllocError>
+    ensures { IfOk result (λ n. n ≡ spec.group_count (map role_by roles.now) number (role_by role.now)) }
+{
+    if role.single {
+        return Ok(0);
+    }
+    let count = through_count(roles, number)?;
+    Ok(count)
+}
+
+/// The most that those of a pattern have over one group.
 fn most_through(pattern: &Pattern) -> Result<usize, AllocError>
     ensures { IfOk result (λ n. n ≡ spec.most_through pattern.now.roles 0 pattern.now.roles) }
 {
     let roles = pattern.roles();
     let mut most: usize = 0;
-    for (number, _role) in roles.iter().enumerate() {
-        most = most.max(through_count(roles, number as u32)?);
+    for (number, role) in roles.iter().enumerate() {
+        most = most.max(group_count(roles, number as u32, role)?);
     }
     Ok(most)
 }
 
-/// The least number that each group may have, 3 at least.
+/// The least number that all groups may have, 3 at least.
 pub(crate) fn first_size(roles: &[Role]) -> u32
     ensures { result ≡ spec.first_size (map role_by roles.now) }
 {

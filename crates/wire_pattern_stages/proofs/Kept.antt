@@ -113,7 +113,7 @@ module _ (p : Pattern) (cast : Cast) (stages : laws.Stages) (roles : List ℕ) (
 
   pub keeps : KeepsStages stages (pattern_of p) (cast_of cast) the_plan
   keeps = record {
-    one = λ y name is. (all_right y (LookupWait name) is).told name is;
+    one = λ y name is. (all_right y (LookupWait name) is).one name is;
     along = λ x k is. (all_right (next_of x) k is).along x refl;
     across = λ x y edge. across x y edge;
   }

@@ -1,5 +1,5 @@
 -- Of one selection, and of all.
-use Rattle.std.proofs.Common.{◌≡◌, ◌∙◌, ◌↔◌, ap, sym, subst, refl, Bool, true, false, not, Ok, Result, Err}
+use Rattle.std.proofs.Common.{◌≡◌, ◌∙◌, ◌↔◌, ◌&&◌, ap, sym, subst, refl, Bool, true, false, true≢false, not, Ok, Result, Err}
 use Rattle.wire_types.specs.declared.Fault.{Fault}
 use Rattle.wire_scripts.specs.Scripts.{Scripts}
 use Rattle.wire_scripts.specs.Planned.{plan_of}
@@ -12,7 +12,9 @@ use Rattle.wire_size_laws.specs.Stages.{Stages}
 use Rattle.wire_cutoff.specs.Selections.{Selection}
 use Rattle.wire_pattern_waits.specs.Waits.{alone}
 use Rattle.wire_reply_laws.specs.Kept.{KeepsStages}
+use Rattle.wire_size_laws.specs.Answered.{WaitsForOne}
 use Rattle.wire_pattern_stages.specs.Staged.{SelectionKeeps}
+use Rattle.wire_pattern_stages.specs.Lookups.{SelectionWaitsForOne}
 use Rattle.wire_pattern_stages.specs.Succeeding.{all_succeed, some_puts_remote, FailsIn, PutsRemoteIn}
 
 abbrev read_or : Scripts → Result Scripts Fault → Scripts
@@ -26,6 +28,18 @@ selection_kept p stages s cast scripts once is reads keeps other other_reads =
     let same : scripts ≡ other = ap (read_or scripts) (once OfVersion (instance_text p (alone p s)) (Ok scripts) (Ok other) read_alone other_reads) in
     subst (λ t. KeepsStages stages (pattern_of p) (cast_of (alone p s)) (plan_of t)) same (subst (λ c. KeepsStages stages (pattern_of p) (cast_of c) (plan_of scripts)) is keeps)
 
+pub left_of : (a b : Bool) → a && b ≡ true → a ≡ true
+left_of true b e = refl
+left_of false b e = cc
+
+pub right_of : (a b : Bool) → a && b ≡ true → b ≡ true
+right_of true b e = e
+right_of false b e = cc
+
+pub both_of : (a b : Bool) → a ≡ true → b ≡ true → a && b ≡ true
+both_of true b one other = other
+both_of false b one other = absurd (true≢false (sym one))
+
 not_true : (b : Bool) → not b ≡ true → b ≡ false
 not_true true e = cc
 not_true false e = refl
@@ -37,6 +51,13 @@ module _ (p : Pattern) (s : Selection) (cast : Cast) (scripts : Scripts) (once :
 
   same_scripts : (other : Scripts) → Reads OfVersion (instance_text p (alone p s)) (Ok other) → other ≡ scripts
   same_scripts other other_reads = ap (read_or scripts) (once OfVersion (instance_text p (alone p s)) (Ok other) (Ok scripts) other_reads read_alone)
+
+  -- whether each lookup-wait there is of a name that is published once
+  pub selection_waits : (told : Bool) → (told ≡ true) ↔ WaitsForOne (plan_of scripts) → (told ≡ true) ↔ SelectionWaitsForOne p s
+  selection_waits told is_told = (
+    (λ h other other_reads. subst (λ t. WaitsForOne (plan_of t)) (sym (same_scripts other other_reads)) (is_told.0 h)),
+    (λ all. is_told.1 (all scripts read_alone)),
+  )
 
   -- whether a call fails there
   pub selection_fails : (told : Bool) → told ≡ not (all_succeed scripts) → (told ≡ true) ↔ FailsIn p s

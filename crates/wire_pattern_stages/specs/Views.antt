@@ -18,7 +18,7 @@ by_by Lower = laws.ByLower
 by_by Higher = laws.ByHigher
 
 abbrev pub stage_by : Stage → laws.Stage
-stage_by s = record { stage = s.stage; first = by_by s.first; second = by_by s.second; place = s.place }
+stage_by s = record { stage = s.stage; first = by_by s.first; second = by_by s.second; position = s.position }
 
 abbrev pub key_by : Key → laws.StageKey
 key_by k = record { one = k.one; two = k.two; three = k.three; four = k.four }
@@ -27,7 +27,7 @@ abbrev pub label_by : Label → laws.Label
 label_by l = record { step = l.step; line = l.line; each = l.each }
 
 abbrev pub no_stage : Stage
-no_stage = record { stage = 0; first = Nothing; second = Nothing; place = 0 }
+no_stage = record { stage = 0; first = Nothing; second = Nothing; position = 0 }
 
 -- the stages of a line, those of one that isn't there too
 abbrev pub of_line : Option LineStages → LineStages

@@ -6,7 +6,7 @@ ghost use Rattle.wire_runs.specs.Plan.{event_of, event_count, process_count, kin
 ghost use Rattle.wire_scripts.specs.Planned.{plan_of};
 ghost use Rattle.wire_size_laws.specs.Stages as laws;
 ghost use Rattle.wire_pattern_stages.specs.Views.{stages_by, key_by, label_by};
-ghost use Rattle.wire_pattern_stages.specs.Rising.{Goes, AllGo, IsTold, IsAlong, IsRight, AreRight};
+ghost use Rattle.wire_pattern_stages.specs.Rising.{Goes, AllGo, IsAlong, IsRight, AreRight};
 ghost use Rattle.wire_pattern_stages.specs.Tables as spec;
 ghost use Rattle.wire_pattern_stages.specs.Tables.{view_key};
 ghost use Rattle.wire_pattern_stages.specs.Views as shown;
@@ -15,6 +15,7 @@ ghost use Rattle.wire_plan.specs.Index.{previous_of};
 
 use crate::key::{Key, is_less, is_same, key_at};
 use crate::labels::Label;
+use crate::lookups::is_for_one;
 use crate::stage::{LineStages, Stage, Stages, at_role};
 use wire_plan::{Kind, Plan};
 use wire_types::{Event, Proc};
@@ -157,17 +158,6 @@ fn all_go(view: &View, events: &[Event], y: Event) -> bool
     true
 }
 
-/// Whether a name that a lookup-wait waits for is published once and never taken away.
-fn is_told(plan: &Plan, event: Event) -> bool
-    requires { event.at < event_count (plan_of plan.now) event.proc.number }
-    ensures { result ≡ true → IsTold (plan_of plan.now) (event_of event) }
-{
-    match plan.kind(event) {
-        Kind::LookupWait { name } => plan.once_published(name).is_some(),
-        _ => true,
-    }
-}
-
 /// Whether an event has no lesser key than the one before it.
 fn is_along(view: &View, previous: Option<Event>, y: Event) -> bool
     requires { option_map event_of previous ≡ previous_of (event_of y) }
@@ -187,7 +177,7 @@ fn is_right(view: &View, y: Event) -> bool
     ensures { result ≡ true → IsRight (view_key view.now) (plan_of view.now.plan.now) (event_of y) }
 {
     let sources = view.plan.sources(y);
-    if !is_told(view.plan, y) {
+    if !is_for_one(view.plan, y) {
         return false;
     }
     if !is_along(view, sources.previous, y) {

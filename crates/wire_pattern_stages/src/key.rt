@@ -7,7 +7,7 @@ ghost use Rattle.wire_pattern_stages.specs.Views as spec;
 
 use crate::stage::{By, Stage};
 
-/// The key of an event: its stage, two turns and a place.
+/// The key of an event: its stage, two turns and a position.
 #[derive(Clone, Copy)]
 pub(crate) struct Key {
     pub(crate) one: u32,
@@ -49,7 +49,7 @@ pub(crate) fn key_at(stage: Stage, caller: u32, each: u32) -> Key
         one: stage.stage,
         two: counted(stage.first, caller, each),
         three: counted(stage.second, caller, each),
-        four: stage.place,
+        four: stage.position,
     }
 }
 

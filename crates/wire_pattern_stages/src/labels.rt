@@ -14,8 +14,8 @@ use wire_instances::{Cast, LoopTurns, turns_of};
 use wire_pattern::{Call, Line, Pattern, Step};
 use wire_pattern_waits::Caller;
 
-/// Where an event comes from: the step of its role's script, the line of that step, and the process whose turn it is,
-/// the caller itself outside loops.
+/// Where an event comes from: the step of its role's script, the line of that step, and the process that the turn is
+/// for, the caller itself outside loops.
 #[derive(Clone, Copy)]
 pub(crate) struct Label {
     pub(crate) step: usize,

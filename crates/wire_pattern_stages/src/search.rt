@@ -87,7 +87,7 @@ fn numbered(number: usize) -> Stage {
         stage,
         first: By::Nothing,
         second: By::Nothing,
-        place: 0,
+        position: 0,
     }
 }
 
@@ -353,19 +353,19 @@ fn way_of(steps: &[usize], step: usize, choice: usize) -> usize {
     0
 }
 
-/// The turns of a spot, as a key without stage and place.
+/// The turns of a spot, as a key without stage and position.
 fn turns_at(nodes: &Nodes, steps: &[usize], choice: usize, spot: Spot) -> Key {
     let (first, second) = way(way_of(steps, at(nodes.steps.as_slice(), spot.node), choice));
     let stage = Stage {
         stage: 0,
         first,
         second,
-        place: 0,
+        position: 0,
     };
     key_at(stage, spot.caller, spot.each)
 }
 
-/// The needs that the turns of a choice leave to places; none where a need's turns fall.
+/// The needs that the turns of a choice leave to positions; none where a need's turns fall.
 fn left_over(
     alloc: Global,
     nodes: &Nodes,
@@ -424,23 +424,23 @@ fn choices(count: usize) -> usize {
 #[derive(Drop)]
 struct Found {
     stages: Vec<usize>,
-    places: Vec<usize>,
+    positions: Vec<usize>,
     ways: Vec<usize>,
 }
 
-/// Notes the places and the ways of the nodes of a part.
+/// Notes the positions and the ways of the nodes of a part.
 fn note_part(
     found: &mut Found,
     nodes: &Nodes,
     parts: &[usize],
     part: usize,
     order: (&[usize], usize),
-    places: &[usize],
+    positions: &[usize],
 ) {
     let (steps, choice) = order;
     for node in 0..parts.len() {
         if at(parts, node) == part {
-            raise(&mut found.places, node, at(places, node));
+            raise(&mut found.positions, node, at(positions, node));
             raise(
                 &mut found.ways,
                 node,
@@ -462,15 +462,15 @@ fn order_part(
     let steps = steps_of(alloc, nodes, inside)?;
     for choice in 0..choices(steps.len()) {
         if let Some(left) = left_over(alloc, nodes, inside, steps.as_slice(), choice)? {
-            let mut places = zeros(alloc, parts.len())?;
-            if raise_ranks(&mut places, left.as_slice(), parts.len()) {
+            let mut positions = zeros(alloc, parts.len())?;
+            if raise_ranks(&mut positions, left.as_slice(), parts.len()) {
                 note_part(
                     found,
                     nodes,
                     parts,
                     part,
                     (steps.as_slice(), choice),
-                    places.as_slice(),
+                    positions.as_slice(),
                 );
                 return Ok(true);
             }
@@ -535,11 +535,11 @@ fn find(alloc: Global, nodes: &Nodes, needs: &[Need]) -> Result<Option<Found>, A
     let count = nodes.steps.len();
     let mut ranks = zeros(alloc, count)?;
     if raise_ranks(&mut ranks, needs, count) {
-        let places = zeros(alloc, count)?;
+        let positions = zeros(alloc, count)?;
         let ways = zeros(alloc, count)?;
         return Ok(Some(Found {
             stages: ranks,
-            places,
+            positions,
             ways,
         }));
     }
@@ -549,11 +549,11 @@ fn find(alloc: Global, nodes: &Nodes, needs: &[Need]) -> Result<Option<Found>, A
     let reach = reach_of(alloc, needs, count)?;
     let parts = parts_of(alloc, reach.as_slice(), count)?;
     let stages = stages_by_parts(alloc, needs, parts.as_slice())?;
-    let places = zeros(alloc, count)?;
+    let positions = zeros(alloc, count)?;
     let ways = zeros(alloc, count)?;
     let mut found = Found {
         stages,
-        places,
+        positions,
         ways,
     };
     if order_parts(alloc, nodes, needs, parts.as_slice(), &mut found)? {
@@ -570,7 +570,7 @@ fn stage_of(found: &Found, node: u32) -> Stage {
         stage: numbered(at(found.stages.as_slice(), index)).stage,
         first,
         second,
-        place: numbered(at(found.places.as_slice(), index)).stage,
+        position: numbered(at(found.positions.as_slice(), index)).stage,
     }
 }
 

@@ -6,8 +6,8 @@ ghost use Rattle.std.specs.Prelude.{slice_get};
 
 use std::alloc::Global;
 
-/// By which process the turns of a stage come in order: by none, the caller, the one whose turn it is, or the lower or
-/// the higher of these two.
+/// By which process the turns of a stage come in order: by none, the caller, the one that the turn is for, or the lower
+/// or the higher of these two.
 #[derive(Clone, Copy)]
 pub(crate) enum By {
     Nothing,
@@ -17,13 +17,14 @@ pub(crate) enum By {
     Higher,
 }
 
-/// The stage of a line; by which processes the turns of this stage come in order; and the place of the line in a turn.
+/// The stage of a line; by which processes the turns of this stage come in order; and the position of the line in a
+/// turn.
 #[derive(Clone, Copy)]
 pub(crate) struct Stage {
     pub(crate) stage: u32,
     pub(crate) first: By,
     pub(crate) second: By,
-    pub(crate) place: u32,
+    pub(crate) position: u32,
 }
 
 /// The stage of a line, and that of leaving its fence.
@@ -56,7 +57,7 @@ const NONE: Stage = Stage {
     stage: 0,
     first: By::Nothing,
     second: By::Nothing,
-    place: 0,
+    position: 0,
 };
 
 /// The stages of a line of a step.

@@ -1,3 +1,4 @@
+pub mod Parts
 pub mod Planning
 pub mod Behind
 pub mod Gathering

@@ -1,19 +1,21 @@
 -- The events of calls, one call after another, and those of the processes of a plan.
 use Rattle.std.proofs.Common.{◌≡◌, ◌∙◌, ap, sym, refl, subst, ℕ, zero, suc, ◌+◌, ◌*◌, ◌-◌, ◌^◌, ◌<◌, ◌≤◌, List, [], ◌∷◌, ◌++◌, length, map, take, drop, get_or, add-one, Option, Some, None, inl, inr}
-use Rattle.std.proofs.Common.{length-append, arith, append_assoc}
-use Rattle.std.specs.Prelude.{slice_get, option_map, sum_by, replicate}
-use Rattle.std.proofs.lemmas.Option.{slice_get-map, slice_get_cases}
-use Rattle.std.proofs.lemmas.List.{length-map, drop_more, at_drop_all, append-nil, map-append}
+use Rattle.std.proofs.Common.{length-append, arith, append_assoc, true, false, nat_lt, flat_map}
+use Rattle.std.specs.Prelude.{slice_get, slice_range, option_map, sum_by, replicate}
+use Rattle.std.specs.List.Sorted.{IsPartitionPoint, IsPartitionedBy}
+use Rattle.std.proofs.lemmas.Option.{same_Some, slice_get-map, slice_get-get_or}
+use Rattle.std.proofs.lemmas.List.{length-map, length-replicate, drop_more, at_drop_all, append-nil}
 use Rattle.std.proofs.lemmas.List.Sums.{sum_by-cons}
-use Rattle.std.proofs.lemmas.Bool.{cases_lt, cond_below, cond_above}
+use Rattle.std.proofs.lemmas.Bool.{cases_lt, cond_below, cond_above, true≢false, ltb-true, lt-ltb}
 use Rattle.wire_runs.specs.Plan.{Plan, Call, CallPut, CallCommit, CallFence, CallGet, CallGetNow, CallPublish, CallLookup, CallLookupWait, CallUnpublish, CallUnpublishAll, CallFixed}
 use Rattle.wire_runs.specs.Plan.{Kind, kinds_of, process_kinds, process_node, kinds, kind_at, event_count, node_of}
 use Rattle.wire_runs.specs.Plan as plan
 use Rattle.wire_scripts.specs.Scripts.{Process, Scripts, call_count}
 use Rattle.wire_scripts.specs.Planned.{planned_call, planned_process, plan_of}
-use Rattle.wire_plan.specs.Kinds.{kinds_planned, calls_from, calls_planned, starts_from, starts_planned}
+use Rattle.wire_plan.specs.Kinds.{kinds_planned, calls_from, calls_planned, firsts_planned}
 use Rattle.wire_runs.specs.Plan.{event_total}
 use Rattle.wire_runs.specs.Ends.{call_number, call_size, calls_of, process_calls}
+use Rattle.wire_plan.proofs.Parts.{IsPart, is_part, no_part, part_is, part_ordered, part_within, slice_range-map}
 
 -- a first call's events, and then those of the others
 pub events_first : (call : Call) (calls : List Call) → kinds_of (call ∷ calls) ≡ kinds_of (call ∷ []) ++ kinds_of calls
@@ -43,46 +45,6 @@ events_few (CallLookupWait name ∷ calls) = omega (arith, events_few calls)
 events_few (CallUnpublish name ∷ calls) = omega (arith, events_few calls)
 events_few (CallUnpublishAll ∷ calls) = omega (arith, events_few calls)
 events_few (CallFixed reply ∷ calls) = omega (arith, events_few calls)
-
-abbrev pub row_in : Option (List Kind) → List Kind
-row_in None = []
-row_in (Some row) = row
-
-events_row : (s : Scripts) (p : ℕ) → kinds (plan_of s) p ≡ row_in (slice_get (kinds_planned s) p)
-unfolding kinds
-events_row s p = ap process_kinds (slice_get-map (planned_process s) s.processes p) ∙ go (slice_get s.processes p)
-    ∙ ap row_in (sym (slice_get-map (λ q. kinds_of (map (planned_call s) q.calls)) s.processes p))
-  where
-    go : (o : Option Process) → process_kinds (option_map (planned_process s) o) ≡ row_in (option_map (λ q. kinds_of (map (planned_call s) q.calls)) o)
-    go None = refl
-    go (Some q) = refl
-
-module _ {V : Type 0} (view : V → List Kind) (s : Scripts) (rows : List V) (shown : map view rows ≡ kinds_planned s) where
-  -- a row shows the events of its process
-  pub events_shown : (p : ℕ) (row : V) → slice_get rows p ≡ Some row → kinds (plan_of s) p ≡ view row
-  events_shown p row is = events_row s p ∙ ap (λ r. row_in (slice_get r p)) (sym shown) ∙ ap row_in (slice_get-map view rows p ∙ ap (option_map view) is)
-
-  pub events_past : (p : ℕ) → slice_get rows p ≡ None → kinds (plan_of s) p ≡ []
-  events_past p is = events_row s p ∙ ap (λ r. row_in (slice_get r p)) (sym shown) ∙ ap row_in (slice_get-map view rows p ∙ ap (option_map view) is)
-
-  pub count_shown : (p : ℕ) (row : V) → slice_get rows p ≡ Some row → event_count (plan_of s) p ≡ length (view row)
-  unfolding event_count
-  count_shown p row is = ap length (events_shown p row is)
-
-  pub count_past : (p : ℕ) → slice_get rows p ≡ None → event_count (plan_of s) p ≡ 0
-  unfolding event_count
-  count_past p is = ap length (events_past p is)
-
-  pub event_shown : (p i : ℕ) (row : V) (e : Kind) → slice_get rows p ≡ Some row → slice_get (view row) i ≡ Some e → kind_at (plan_of s) p i ≡ Some e
-  unfolding kind_at
-  event_shown p i row e is here = ap (λ es. slice_get es i) (events_shown p row is) ∙ here
-
-  -- who has an event has a row
-  pub row_within : (p i : ℕ) → i < event_count (plan_of s) p → p < length rows
-  row_within p i lt = elim (slice_get_cases rows p).1 [
-    | inl h ↦ h.1
-    | inr h ↦ let none = count_past p h.1 in absurd (omega (arith, none, lt))
-  ]
 
 -- no process has more events than numbers of 32 bits count
 pub count_fits : (s : Scripts) (p : ℕ) → call_count s.processes < 2 ^ 31 → event_count (plan_of s) p < 2 ^ 32
@@ -128,19 +90,15 @@ call_from n (c ∷ calls) i lt =
           ∙ ap (λ k. Some (n + k)) (cond_above i size 0 (suc (call_number calls (i - size))) (suc (call_number calls (i - size))) high refl)
     ]
 
-abbrev pub numbers_in : Option (List ℕ) → List ℕ
-numbers_in None = []
-numbers_in (Some row) = row
-
-calls_row : (s : Scripts) (p : ℕ) → numbers_in (slice_get (calls_planned s) p) ≡ calls_from 0 (calls_of (plan_of s) p)
-calls_row s p =
-    ap numbers_in (slice_get-map (λ q. calls_from 0 (map (planned_call s) q.calls)) s.processes p)
-    ∙ go (slice_get s.processes p)
-    ∙ ap (λ o. calls_from 0 (process_calls o)) (sym (slice_get-map (planned_process s) s.processes p))
-  where
-    go : (o : Option Process) → numbers_in (option_map (λ q. calls_from 0 (map (planned_call s) q.calls)) o) ≡ calls_from 0 (process_calls (option_map (planned_process s) o))
-    go None = refl
-    go (Some q) = refl
+-- as many numbers as events
+pub numbers_count : (n : ℕ) (calls : List Call) → length (calls_from n calls) ≡ length (kinds_of calls)
+numbers_count n [] = refl
+numbers_count n (c ∷ calls) =
+    let front = length-append (replicate (call_size c) n) (calls_from (suc n) calls) in
+    let size = length-replicate (call_size c) n in
+    let rest = numbers_count (suc n) calls in
+    let all : length (kinds_of (c ∷ calls)) ≡ call_size c + length (kinds_of calls) = ap length (events_first c calls) ∙ length-append (kinds_of (c ∷ [])) (kinds_of calls) in
+    omega (arith, front, size, rest, all)
 
 -- one more call, behind the events and the numbers of those before it
 pub add_events : (call : Call) (rest : List Call) (old new : List Kind) → new ≡ old ++ kinds_of (call ∷ []) → old ++ kinds_of (call ∷ rest) ≡ new ++ kinds_of rest
@@ -156,121 +114,208 @@ add_numbers n call rest old new is =
     no_more [] = refl
     no_more (x ∷ xs) = ap (λ ys. x ∷ ys) (no_more xs)
 
--- so for the rows of a plan
-pub call_shown : {V : Type 0} (view : V → List ℕ) (s : Scripts) (rows : List V) → map view rows ≡ calls_planned s → (p i : ℕ) (row : V) → slice_get rows p ≡ Some row → i < event_count (plan_of s) p →
-    slice_get (view row) i ≡ Some (call_number (calls_of (plan_of s) p) i)
-unfolding event_count kinds
-call_shown view s rows shown p i row is lt =
-    let row_is : view row ≡ calls_from 0 (calls_of (plan_of s) p) =
-    ap numbers_in (ap (option_map view) (sym is) ∙ sym (slice_get-map view rows p)) ∙ ap (λ r. numbers_in (slice_get r p)) shown ∙ calls_row s p in
-    let same : 0 + call_number (calls_of (plan_of s) p) i ≡ call_number (calls_of (plan_of s) p) i = omega arith in
-    ap (λ r. slice_get r i) row_is ∙ call_from 0 (calls_of (plan_of s) p) i (go (slice_get (plan_of s).processes p) lt) ∙ ap Some same
-  where
-    go : (o : Option plan.Process) → i < length (process_kinds o) → i < length (kinds_of (process_calls o))
-    go None lt = lt
-    go (Some q) lt = lt
-
--- each call starts where the events of those before it end
-start_from : (n : ℕ) (calls : List Call) (c : ℕ) → c < length calls → slice_get (starts_from n calls) c ≡ Some (n + length (kinds_of (take c calls)))
-start_from n [] c lt = absurd (omega (arith, lt))
-start_from n (x ∷ calls) zero lt = let same : n ≡ n + length (kinds_of []) = omega arith in ap Some same
-start_from n (x ∷ calls) (suc c) lt =
+-- the events before a call are those of the calls before it
+pub number_low : (calls : List Call) (c i : ℕ) → i < length (kinds_of (take c calls)) → call_number calls i < c
+number_low calls zero i lt = absurd (omega (arith, lt))
+number_low [] (suc c) i lt = absurd (omega (arith, lt))
+number_low (x ∷ calls) (suc c) i lt =
     let size : length (kinds_of (x ∷ take c calls)) ≡ call_size x + length (kinds_of (take c calls)) =
     ap length (events_first x (take c calls)) ∙ length-append (kinds_of (x ∷ [])) (kinds_of (take c calls)) in
-    let same : (n + call_size x) + length (kinds_of (take c calls)) ≡ n + length (kinds_of (x ∷ take c calls)) = omega (arith, size) in
-    start_from (n + call_size x) calls c (omega (arith, lt)) ∙ ap Some same
+    elim (cases_lt i (call_size x)) [
+      | inl low ↦ subst (λ n. n < suc c) (cond_below i (call_size x) 0 (suc (call_number calls (i - call_size x))) low) (omega arith)
+      | inr high ↦
+          let rest = number_low calls c (i - call_size x) (omega (arith, high, size, lt)) in
+          subst (λ n. n < suc c)
+          (cond_above i (call_size x) 0 (suc (call_number calls (i - call_size x))) (suc (call_number calls (i - call_size x))) high refl)
+          (omega (arith, rest))
+    ]
 
-starts_row : (s : Scripts) (p : ℕ) → numbers_in (slice_get (starts_planned s) p) ≡ starts_from 0 (calls_of (plan_of s) p)
-starts_row s p =
-    ap numbers_in (slice_get-map (λ q. starts_from 0 (map (planned_call s) q.calls)) s.processes p)
-    ∙ go (slice_get s.processes p)
-    ∙ ap (λ o. starts_from 0 (process_calls o)) (sym (slice_get-map (planned_process s) s.processes p))
-  where
-    go : (o : Option Process) → numbers_in (option_map (λ q. starts_from 0 (map (planned_call s) q.calls)) o) ≡ starts_from 0 (process_calls (option_map (planned_process s) o))
-    go None = refl
-    go (Some q) = refl
+pub number_high : (calls : List Call) (c i : ℕ) → length (kinds_of (take c calls)) ≤ i → i < length (kinds_of calls) → c ≤ call_number calls i
+number_high calls zero i le lt = omega arith
+number_high [] (suc c) i le lt = absurd (omega (arith, lt))
+number_high (x ∷ calls) (suc c) i le lt =
+    let size : length (kinds_of (x ∷ take c calls)) ≡ call_size x + length (kinds_of (take c calls)) =
+    ap length (events_first x (take c calls)) ∙ length-append (kinds_of (x ∷ [])) (kinds_of (take c calls)) in
+    let all : length (kinds_of (x ∷ calls)) ≡ call_size x + length (kinds_of calls) = ap length (events_first x calls) ∙ length-append (kinds_of (x ∷ [])) (kinds_of calls) in
+    let high : call_size x ≤ i = omega (arith, size, le) in
+    let rest = number_high calls c (i - call_size x) (omega (arith, size, le)) (omega (arith, high, all, lt)) in
+    subst (λ n. suc c ≤ n)
+    (cond_above i (call_size x) 0 (suc (call_number calls (i - call_size x))) (suc (call_number calls (i - call_size x))) high refl)
+    (omega (arith, rest))
 
-module _ {V : Type 0} (view : V → List ℕ) (s : Scripts) (rows : List V) (shown : map view rows ≡ starts_planned s) where
-  -- a row tells where the calls of its process start
-  pub start_shown : (p c : ℕ) (row : V) → slice_get rows p ≡ Some row → c < length (calls_of (plan_of s) p) → slice_get (view row) c ≡ Some (length (kinds_of (take c (calls_of (plan_of s) p))))
-  start_shown p c row is lt =
-      let row_is : view row ≡ starts_from 0 (calls_of (plan_of s) p) =
-      ap numbers_in (ap (option_map view) (sym is) ∙ sym (slice_get-map view rows p)) ∙ ap (λ r. numbers_in (slice_get r p)) shown ∙ starts_row s p in
-      let same : 0 + length (kinds_of (take c (calls_of (plan_of s) p))) ≡ length (kinds_of (take c (calls_of (plan_of s) p))) = omega arith in
-      ap (λ r. slice_get r c) row_is ∙ start_from 0 (calls_of (plan_of s) p) c lt ∙ ap Some same
+pub front_count : (calls : List Call) (c : ℕ) → length (kinds_of (take c calls)) ≤ length (kinds_of calls)
+front_count calls zero = omega arith
+front_count [] (suc c) = omega arith
+front_count (x ∷ calls) (suc c) =
+    let front = ap length (events_first x (take c calls)) ∙ length-append (kinds_of (x ∷ [])) (kinds_of (take c calls)) in
+    let all = ap length (events_first x calls) ∙ length-append (kinds_of (x ∷ [])) (kinds_of calls) in
+    let rest = front_count calls c in
+    omega (arith, front, all, rest)
 
-  -- who makes a call has a row
-  pub caller_within : (p c : ℕ) → c < length (calls_of (plan_of s) p) → p < length rows
-  caller_within p c lt = elim (slice_get_cases s.processes p).1 [
-    | inl h ↦
-        let rows_count : length rows ≡ length s.processes =
-        sym (length-map rows view) ∙ ap length shown ∙ length-map s.processes (λ q. starts_from 0 (map (planned_call s) q.calls)) in
-        let there = h.1 in
-        omega (arith, rows_count, there)
-    | inr h ↦
-        let no_calls : length (calls_of (plan_of s) p) ≡ 0 = ap (λ o. length (process_calls o)) (slice_get-map (planned_process s) s.processes p ∙ ap (option_map (planned_process s)) h.1) in
-        absurd (omega (arith, no_calls, lt))
-  ]
+-- the number of an event's call, read in the list of numbers
+pub number_read : (calls : List Call) (i d : ℕ) → i < length (kinds_of calls) → get_or (calls_from 0 calls) i d ≡ call_number calls i
+number_read calls i d lt =
+    let count = numbers_count 0 calls in
+    let same : 0 + call_number calls i ≡ call_number calls i = omega arith in
+    same_Some _ _ (sym (slice_get-get_or (calls_from 0 calls) i d (omega (arith, count, lt))) ∙ call_from 0 calls i lt ∙ ap Some same)
 
-module _ {K : Type 0} (ev : K → Kind) where
-  -- one more call, behind the starts of those before it
-  pub add_starts : (call : Call) (rest : List Call) (old new : List ℕ) (kinds more : List K) → map ev more ≡ map ev kinds ++ kinds_of (call ∷ []) → new ≡ old ++ length kinds ∷ [] → old
-      ++ starts_from (length kinds) (call ∷ rest) ≡ new ++ starts_from (length more) rest
-  add_starts call rest old new kinds more grown is =
-      let size : length more ≡ length kinds + call_size call =
-      sym (length-map more ev) ∙ ap length grown ∙ length-append (map ev kinds) (kinds_of (call ∷ [])) ∙ ap (λ n. n + call_size call) (length-map kinds ev) in
-      sym (append_assoc old (length kinds ∷ []) (starts_from (length kinds + call_size call) rest))
-      ∙ (λ t. sym is t ++ starts_from (sym size t) rest)
+-- numbers below one stand in front
+pub numbers_parted : (calls : List Call) (c : ℕ) → IsPartitionedBy (λ n. nat_lt n c) (calls_from 0 calls)
+numbers_parted calls c i j d le lt low =
+    let count = numbers_count 0 calls in
+    let there : j < length (kinds_of calls) = omega (arith, count, lt) in
+    let under : call_number calls j < c = subst (λ n. n < c) (number_read calls j d there) (ltb-true (get_or (calls_from 0 calls) j d) c low) in
+    elim (cases_lt j (length (kinds_of (take c calls)))) [
+      | inl front ↦
+          let before : i < length (kinds_of calls) = omega (arith, le, there) in
+          let own = number_low calls c i (omega (arith, le, front)) in
+          lt-ltb (get_or (calls_from 0 calls) i d) c (subst (λ n. n < c) (sym (number_read calls i d before)) own)
+      | inr back ↦ let over = number_high calls c j back there in absurd (omega (arith, over, under))
+    ]
 
-  -- no more kinds than events of the calls
-  pub few_kinds : {C : Type 0} (f : C → Call) (calls : List C) (kinds : List K) (rest : List Kind) → kinds_of (map f calls) ≡ map ev kinds ++ rest → length calls < 2 ^ 31 → length kinds < 2 ^ 32
-  few_kinds f calls kinds rest is few =
-      let all = ap length is ∙ length-append (map ev kinds) rest in
-      omega (arith, all, length-map kinds ev, length-map calls f, events_few (map f calls), few)
+-- so where they end is where the call begins
+pub parted_at : (calls : List Call) (c n : ℕ) → n ≤ length (calls_from 0 calls) → IsPartitionPoint (λ m. nat_lt m c ≡ true) (λ m. nat_lt m c ≡ false) (calls_from 0 calls) n
+    → n ≡ length (kinds_of (take c calls))
+parted_at calls c n bound point =
+    let count = numbers_count 0 calls in
+    let first = length (kinds_of (take c calls)) in
+    let some = front_count calls c in
+    elim (cases_lt n first) [
+      | inl low ↦
+          let there : n < length (kinds_of calls) = omega (arith, low, some) in
+          let under = number_low calls c n low in
+          absurd (true≢false (sym (lt-ltb (get_or (calls_from 0 calls) n 0) c (subst (λ m. m < c) (sym (number_read calls n 0 there)) under))
+          ∙ point.1 n 0 (omega arith) (omega (arith, count, there))))
+      | inr high ↦ elim (cases_lt first n) [
+        | inl over ↦
+            let there : first < length (kinds_of calls) = omega (arith, over, bound, count) in
+            let above = number_high calls c first (omega arith) there in
+            let under : call_number calls first < c =
+            subst (λ m. m < c) (number_read calls first 0 there) (ltb-true (get_or (calls_from 0 calls) first 0) c (point.0 first 0 (omega arith) over)) in
+            absurd (omega (arith, above, under))
+        | inr same ↦ omega (arith, high, same)
+      ]
+    ]
+
+-- the events of a process, and the numbers of their calls
+abbrev pub kinds_by : Scripts → Process → List Kind
+kinds_by s q = kinds_of (map (planned_call s) q.calls)
+
+abbrev pub calls_by : Scripts → Process → List ℕ
+calls_by s q = calls_from 0 (map (planned_call s) q.calls)
+
+module _ (s : Scripts) where
+  -- the events and the calls of a process, as they are planned
+  pub kinds_here : (p : ℕ) (q : Process) → slice_get s.processes p ≡ Some q → kinds (plan_of s) p ≡ kinds_of (map (planned_call s) q.calls)
+  unfolding kinds
+  kinds_here p q is = ap process_kinds (slice_get-map (planned_process s) s.processes p ∙ ap (option_map (planned_process s)) is)
+
+  pub kinds_past : (p : ℕ) → slice_get s.processes p ≡ None → kinds (plan_of s) p ≡ []
+  unfolding kinds
+  kinds_past p is = ap process_kinds (slice_get-map (planned_process s) s.processes p ∙ ap (option_map (planned_process s)) is)
+
+  pub calls_here : (p : ℕ) (q : Process) → slice_get s.processes p ≡ Some q → calls_of (plan_of s) p ≡ map (planned_call s) q.calls
+  calls_here p q is = ap process_calls (slice_get-map (planned_process s) s.processes p ∙ ap (option_map (planned_process s)) is)
+
+  pub calls_past : (p : ℕ) → slice_get s.processes p ≡ None → calls_of (plan_of s) p ≡ []
+  calls_past p is = ap process_calls (slice_get-map (planned_process s) s.processes p ∙ ap (option_map (planned_process s)) is)
+
+  -- a process has the events of its calls
+  pub kinds_called : (p : ℕ) → kinds (plan_of s) p ≡ kinds_of (calls_of (plan_of s) p)
+  unfolding kinds
+  kinds_called p = go (slice_get (plan_of s).processes p)
+    where
+      go : (o : Option plan.Process) → process_kinds o ≡ kinds_of (process_calls o)
+      go None = refl
+      go (Some q) = refl
+
+  pub count_called : (p : ℕ) → event_count (plan_of s) p ≡ length (kinds_of (calls_of (plan_of s) p))
+  unfolding event_count
+  count_called p = ap length (kinds_called p)
+
+  module _ (firsts : List ℕ) (shown : firsts ≡ firsts_planned s) (p : ℕ) where
+    -- where no process has this number, there are no events and no calls of one
+    none_there : length firsts ≤ suc p → slice_get s.processes p ≡ None
+    none_there le = no_part (λ q. length (kinds_by s q)) 0 s.processes p (subst (λ l. length l ≤ suc p) shown le)
+
+    pub no_kinds : length firsts ≤ suc p → kinds (plan_of s) p ≡ []
+    no_kinds le = kinds_past p (none_there le)
+
+    pub no_numbers : length firsts ≤ suc p → calls_from 0 (calls_of (plan_of s) p) ≡ []
+    no_numbers le = ap (calls_from 0) (calls_past p (none_there le))
+
+    module _ (from to : ℕ) (first : slice_get firsts p ≡ Some from) (next : slice_get firsts (suc p) ≡ Some to) where
+      kinds_part : IsPart (kinds_by s) 0 s.processes p from to
+      kinds_part =
+          is_part (kinds_by s) (λ q. length (kinds_by s q)) (λ q. refl) 0 s.processes p from to
+          (ap (λ l. slice_get l p) (sym shown) ∙ first) (ap (λ l. slice_get l (suc p)) (sym shown) ∙ next)
+
+      calls_part : IsPart (calls_by s) 0 s.processes p from to
+      calls_part =
+          is_part (calls_by s) (λ q. length (kinds_by s q)) (λ q. numbers_count 0 (map (planned_call s) q.calls)) 0 s.processes p from to
+          (ap (λ l. slice_get l p) (sym shown) ∙ first) (ap (λ l. slice_get l (suc p)) (sym shown) ∙ next)
+
+      -- the part of a process is within all events, and has its own
+      pub part_rises : from ≤ to
+      part_rises = part_ordered (kinds_by s) s.processes p from to kinds_part
+
+      pub kinds_within : {K : Type 0} (ev : K → Kind) (all : List K) → map ev all ≡ kinds_planned s → to ≤ length all
+      kinds_within ev all is =
+          let within = part_within (kinds_by s) s.processes p from to kinds_part in
+          let count = sym (length-map all ev) ∙ ap length is in
+          omega (arith, within, count)
+
+      pub kinds_shown : {K : Type 0} (ev : K → Kind) (all : List K) → map ev all ≡ kinds_planned s → map ev (slice_range all from to) ≡ kinds (plan_of s) p
+      kinds_shown ev all is =
+          slice_range-map ev all from to
+          ∙ ap (λ l. slice_range l from to) is
+          ∙ part_is (kinds_by s) s.processes p from to kinds_part
+          ∙ sym (kinds_here p kinds_part.x kinds_part.is)
+
+      pub numbers_within : (all : List ℕ) → all ≡ calls_planned s → to ≤ length all
+      numbers_within all is = subst (λ l. to ≤ length l) (sym is) (part_within (calls_by s) s.processes p from to calls_part)
+
+      pub numbers_shown : (all : List ℕ) → all ≡ calls_planned s → slice_range all from to ≡ calls_from 0 (calls_of (plan_of s) p)
+      numbers_shown all is =
+          ap (λ l. slice_range l from to) is
+          ∙ part_is (calls_by s) s.processes p from to calls_part
+          ∙ ap (calls_from 0) (sym (calls_here p calls_part.x calls_part.is))
 
 module _ {K C : Type 0} (ev : K → Kind) (f : C → Call) (calls : List C) (i : ℕ) (d : C) (lt : i < length calls) where
   one_off : map f (drop i calls) ≡ f (get_or calls i d) ∷ map f (drop (i + 1) calls)
   one_off = ap (map f) (drop_more calls i d lt)
 
   -- the events of one more call, of those that are left
-  pub events_step : (kinds more : List K) → kinds_of (map f calls) ≡ map ev kinds ++ kinds_of (map f (drop i calls))
-      → map ev more ≡ map ev kinds ++ kinds_of (f (get_or calls i d) ∷ []) → kinds_of (map f calls) ≡ map ev more ++ kinds_of (map f (drop (i + 1) calls))
-  events_step kinds more before grown =
+  pub events_step : (whole : List Kind) (kinds more : List K) → whole ≡ map ev kinds ++ kinds_of (map f (drop i calls))
+      → map ev more ≡ map ev kinds ++ kinds_of (f (get_or calls i d) ∷ []) → whole ≡ map ev more ++ kinds_of (map f (drop (i + 1) calls))
+  events_step whole kinds more before grown =
       before
       ∙ ap (λ cs. map ev kinds ++ kinds_of cs) one_off
       ∙ add_events (f (get_or calls i d)) (map f (drop (i + 1) calls)) (map ev kinds) (map ev more) grown
 
   -- its number for each of them
-  pub numbers_step : (n : ℕ) (old new : List ℕ) → calls_from 0 (map f calls) ≡ old ++ calls_from n (map f (drop i calls))
-      → new ≡ old ++ calls_from n (f (get_or calls i d) ∷ []) → calls_from 0 (map f calls) ≡ new ++ calls_from (n + 1) (map f (drop (i + 1) calls))
-  numbers_step n old new before grown =
+  pub numbers_step : (whole : List ℕ) (n : ℕ) (old new : List ℕ) → whole ≡ old ++ calls_from n (map f (drop i calls))
+      → new ≡ old ++ calls_from n (f (get_or calls i d) ∷ []) → whole ≡ new ++ calls_from (n + 1) (map f (drop (i + 1) calls))
+  numbers_step whole n old new before grown =
       before
       ∙ ap (λ cs. old ++ calls_from n cs) one_off
       ∙ add_numbers n (f (get_or calls i d)) (map f (drop (i + 1) calls)) old new grown
       ∙ ap (λ m. new ++ calls_from m (map f (drop (i + 1) calls))) (sym (add-one n))
-
-  -- and where it starts
-  pub starts_step : (kinds more : List K) (old new : List ℕ) → starts_from 0 (map f calls) ≡ old ++ starts_from (length kinds) (map f (drop i calls))
-      → map ev more ≡ map ev kinds ++ kinds_of (f (get_or calls i d) ∷ []) → new ≡ old ++ length kinds ∷ [] → starts_from 0 (map f calls) ≡ new
-      ++ starts_from (length more) (map f (drop (i + 1) calls))
-  starts_step kinds more old new before grown is =
-      before
-      ∙ ap (λ cs. old ++ starts_from (length kinds) cs) one_off
-      ∙ add_starts ev (f (get_or calls i d)) (map f (drop (i + 1) calls)) old new kinds more grown is
 
 -- the node of a process
 pub node_planned : (s : Scripts) (p : ℕ) (q : Process) → slice_get s.processes p ≡ Some q → node_of (plan_of s) p ≡ q.node
 unfolding node_of
 node_planned s p q is = ap process_node (slice_get-map (planned_process s) s.processes p ∙ ap (option_map (planned_process s)) is)
 
--- the events of all rows that show them are those of the plan
-pub total_shown : {V : Type 0} (view : V → List Kind) (s : Scripts) (rows : List V) → map view rows ≡ kinds_planned s → sum_by (λ row. length (view row)) rows ≡ event_total (plan_of s)
-total_shown view s rows shown = sym (sum_by-map length view rows) ∙ ap (sum_by length) shown ∙ sum_by-map length (λ p. kinds_of (map (planned_call s) p.calls)) s.processes
-    ∙ sym (sum_by-map (λ process. length (kinds_of process.calls)) (planned_process s) s.processes)
+-- as many events as all processes have
+pub total_shown : (s : Scripts) → length (kinds_planned s) ≡ event_total (plan_of s)
+total_shown s = go s.processes
   where
-    sum_by-map : {A B : Type 0} (f : B → ℕ) (g : A → B) (xs : List A) → sum_by f (map g xs) ≡ sum_by (λ x. f (g x)) xs
-    sum_by-map f g [] = refl
-    sum_by-map f g (x ∷ xs) = sum_by-cons f (g x) (map g xs) ∙ ap (λ n. f (g x) + n) (sum_by-map f g xs) ∙ sym (sum_by-cons (λ y. f (g y)) x xs)
+    go : (ps : List Process) → length (flat_map (λ p. kinds_of (map (planned_call s) p.calls)) ps) ≡ sum_by (λ process. length (kinds_of process.calls)) (map (planned_process s) ps)
+    go [] = refl
+    go (p ∷ ps) = length-append (kinds_of (map (planned_call s) p.calls)) (flat_map (λ q. kinds_of (map (planned_call s) q.calls)) ps)
+        ∙ ap (λ n. length (kinds_of (map (planned_call s) p.calls)) + n) (go ps)
+        ∙ sym (sum_by-cons (λ process. length (kinds_of process.calls)) (planned_process s p) (map (planned_process s) ps))
 
 pub total_fits : (s : Scripts) → call_count s.processes < 2 ^ 31 → event_total (plan_of s) < 2 ^ 32
 total_fits s few = let le = go s.processes in omega (arith, le, few)
@@ -286,20 +331,6 @@ total_fits s few = let le = go s.processes in omega (arith, le, few)
       sum_by-cons (λ process. length (kinds_of process.calls)) (planned_process s p) (map (planned_process s) ps),
     )
 
-pub sum_same : {X : Type 0} (f g : X → ℕ) (xs : List X) → ((x : X) → f x ≡ g x) → sum_by f xs ≡ sum_by g xs
-sum_same f g [] same = refl
-sum_same f g (x ∷ xs) same = sum_by-cons f x xs ∙ ap (λ n. n + sum_by f xs) (same x) ∙ ap (λ n. g x + n) (sum_same f g xs same) ∙ sym (sum_by-cons g x xs)
-
 -- all is done where nothing is left of a list
 pub done_at_end : {X Y : Type 0} (F : List X → List Y) (all done : List Y) (xs : List X) (i : ℕ) → F [] ≡ [] → length xs ≤ i → all ≡ done ++ F (drop i xs) → done ≡ all
 done_at_end F all done xs i none le is = sym (is ∙ at_drop_all (λ ys. done ++ F ys) xs i le ∙ ap (λ ys. done ++ ys) none ∙ append-nil done)
-
--- one row more, which is that of the next of a list
-pub row_step : {X Y Z : Type 0} (view : Y → Z) (f : X → Z) (whole : List Z) (rows more : List Y) (row : Y) (xs : List X) (i : ℕ) (x : X) → i < length xs
-    → x ≡ get_or xs i x → more ≡ rows ++ row ∷ [] → view row ≡ f x → whole ≡ map view rows ++ map f (drop i xs) → whole ≡ map view more ++ map f (drop (i + 1) xs)
-row_step view f whole rows more row xs i x lt next grown same before =
-    before
-    ∙ ap (λ ys. map view rows ++ map f ys) (drop_more xs i x lt)
-    ∙ ap (λ z. map view rows ++ (z ∷ map f (drop (i + 1) xs))) (sym (same ∙ ap f next))
-    ∙ sym (append_assoc (map view rows) (view row ∷ []) (map f (drop (i + 1) xs)))
-    ∙ ap (λ ys. ys ++ map f (drop (i + 1) xs)) (sym (ap (map view) grown ∙ map-append view rows (row ∷ [])))

@@ -1,5 +1,5 @@
 -- What the kinds of events are, and the events that scripts plan, each with the number of its call.
-use Rattle.std.specs.Prelude.{◌≡◌, ℕ, suc, ◌+◌, List, [], ◌∷◌, ◌++◌, map, replicate}
+use Rattle.std.specs.Prelude.{◌≡◌, ℕ, suc, ◌+◌, List, [], ◌∷◌, ◌++◌, length, map, replicate, flat_map}
 use Rattle.wire_runs.specs.Plan.{Kind, Call, kinds_of, set_of}
 use Rattle.wire_runs.specs.Plan as plan
 use Rattle.wire_types.specs.declared.Call.{Call as Written}
@@ -36,26 +36,27 @@ abbrev pub calls_from : ℕ → List Call → List ℕ
 calls_from n [] = []
 calls_from n (call ∷ calls) = replicate (call_size call) n ++ calls_from (suc n) calls
 
--- for each of these calls the number of its first event, the first of them with this number
-abbrev pub starts_from : ℕ → List Call → List ℕ
-starts_from n [] = []
-starts_from n (call ∷ calls) = n ∷ starts_from (n + call_size call) calls
-
--- the events that the calls of each process are made of
-abbrev pub kinds_planned : Scripts → List (List Kind)
-kinds_planned s = map (λ p. kinds_of (map (planned_call s) p.calls)) s.processes
+-- the events that the calls of the processes are made of, one process after another
+abbrev pub kinds_planned : Scripts → List Kind
+kinds_planned s = flat_map (λ p. kinds_of (map (planned_call s) p.calls)) s.processes
 
 -- and the number of the call of each
-abbrev pub calls_planned : Scripts → List (List ℕ)
-calls_planned s = map (λ p. calls_from 0 (map (planned_call s) p.calls)) s.processes
+abbrev pub calls_planned : Scripts → List ℕ
+calls_planned s = flat_map (λ p. calls_from 0 (map (planned_call s) p.calls)) s.processes
 
--- and the number of the first event of each call
-abbrev pub starts_planned : Scripts → List (List ℕ)
-starts_planned s = map (λ p. starts_from 0 (map (planned_call s) p.calls)) s.processes
+-- where lists of these sizes begin that stand one after another, the first of them at this place, and where the last
+-- ends
+abbrev pub firsts_from : {A : Type 0} → (A → ℕ) → ℕ → List A → List ℕ
+firsts_from size n [] = n ∷ []
+firsts_from size n (x ∷ xs) = n ∷ firsts_from size (n + size x) xs
 
--- the rows are the events of these scripts, with their calls, and where each call starts
-pub record AreEventsOf (s : Scripts) (rows : List (List Kind)) (numbers firsts : List (List ℕ)) : Type 0 where
-  pub events : rows ≡ kinds_planned s
+-- where the events of each process begin, and where those of the last end
+abbrev pub firsts_planned : Scripts → List ℕ
+firsts_planned s = firsts_from (λ p. length (kinds_of (map (planned_call s) p.calls))) 0 s.processes
+
+-- these are the events of these scripts, with their calls, and where those of each process begin
+pub record AreEventsOf (s : Scripts) (events : List Kind) (numbers begins : List ℕ) : Type 0 where
+  pub kinds : events ≡ kinds_planned s
   pub calls : numbers ≡ calls_planned s
-  pub starts : firsts ≡ starts_planned s
+  pub firsts : begins ≡ firsts_planned s
   pub sound : IsSound s

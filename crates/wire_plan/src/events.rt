@@ -1,17 +1,18 @@
 //! The events of scripts, and what they are made of.
 
-ghost use Rattle.std.specs.Prelude.{◌≡◌, ◌<◌, ◌^◌, Some, length, map, sum_by, vec_len, IfOk, IfErr};
-ghost use Rattle.wire_runs.specs.Plan.{event_of, process_count, kinds, kind_at, event_count, node_of};
+ghost use Rattle.std.specs.Prelude.{◌≡◌, ◌<◌, ◌^◌, List, Some, length, map, take, IfOk, IfErr};
+ghost use Rattle.wire_runs.specs.Plan.{event_of, process_count, kinds, kinds_of, kind_at, event_count, node_of};
+ghost use Rattle.wire_runs.specs.Plan as runs;
 ghost use Rattle.wire_scripts.specs.Scripts.{IsSound};
 ghost use Rattle.wire_scripts.specs.Planned.{plan_of};
 ghost use Rattle.wire_procmap.specs.Map.{map_of};
-ghost use Rattle.wire_plan.specs.Kinds.{kind_of, kinds_planned, calls_planned, starts_planned};
+ghost use Rattle.wire_plan.specs.Kinds.{kind_of, calls_from, kinds_planned, calls_planned, firsts_planned};
 ghost use Rattle.wire_runs.specs.Ends.{call_of, calls_of, first_event};
 ghost use Rattle.wire_runs.specs.Plan.{event_total};
 
 use crate::kind::Kind;
-use crate::row::{ProcessEvents, events_of};
-use std::alloc::{AllocError, Global};
+use crate::rows::EventRows;
+use std::alloc::Global;
 use std::marker::Model;
 use wire_procmap::ProcMap;
 use wire_scripts::Scripts;
@@ -21,7 +22,7 @@ use wire_types::{CallAt, Event, Fault, Proc};
 pub(crate) struct Events {
     scripts: Scripts,
     places: ProcMap,
-    rows: Vec<ProcessEvents>,
+    rows: EventRows,
 }
 
 // By hand and not derived: so dropping one is a call, and the proof of a function that drops one doesn't take it apart.
@@ -45,48 +46,28 @@ impl Model for Events {
 
     ghost view = { λ p. p.scripts };
 
-    ghost invariant = { λ p. AreEventsOf p.scripts (map (λ row. map (kind_of p.scripts.sets) row.kinds.items) p.rows.items)
-        (map (λ row. row.calls.items) p.rows.items) (map (λ row. row.starts.items) p.rows.items) × (p.places ≡ map_of p.scripts) };
+    ghost invariant = { λ p. AreEventsOf p.scripts (map (kind_of p.scripts.sets) p.rows.kinds.items) p.rows.calls.items p.rows.firsts.items
+        × (p.places ≡ map_of p.scripts) };
 }
 
-/// The events of each process.
-fn all_rows(
-    alloc: Global,
-    scripts: &Scripts,
-    places: &ProcMap,
-) -> Result<Vec<ProcessEvents>, AllocError>
-    requires { places.now ≡ map_of scripts.now }
-    ensures kinds { IfOk result (λ all. map (λ row. map (kind_of scripts.now.sets) row.kinds.items) all.items ≡ kinds_planned scripts.now) }
-    ensures calls { IfOk result (λ all. map (λ row. row.calls.items) all.items ≡ calls_planned scripts.now) }
-    ensures starts { IfOk result (λ all. map (λ row. row.starts.items) all.items ≡ starts_planned scripts.now) }
-{
-    let processes = scripts.processes();
-    let mut all = Vec::with_capacity(alloc, processes.len())?;
-    for process in processes {
-        all.push(events_of(alloc, scripts, places, process.calls())?)?;
-    }
-    Ok(all)
-}
-
-/// The process map of scripts, and the events of each process.
-fn parts_of(alloc: Global, scripts: &Scripts) -> Result<(ProcMap, Vec<ProcessEvents>), Fault>
+/// The process map of scripts, and their events.
+fn parts_of(alloc: Global, scripts: &Scripts) -> Result<(ProcMap, EventRows), Fault>
     ensures places { IfOk result (λ parts. parts.0 ≡ map_of scripts.now) }
-    ensures kinds { IfOk result (λ parts. map (λ row. map (kind_of scripts.now.sets) row.kinds.items) parts.1.items ≡ kinds_planned scripts.now) }
-    ensures calls { IfOk result (λ parts. map (λ row. row.calls.items) parts.1.items ≡ calls_planned scripts.now) }
-    ensures starts { IfOk result (λ parts. map (λ row. row.starts.items) parts.1.items ≡ starts_planned scripts.now) }
+    ensures kinds { IfOk result (λ parts. map (kind_of scripts.now.sets) parts.1.kinds.items ≡ kinds_planned scripts.now) }
+    ensures calls { IfOk result (λ parts. parts.1.calls.items ≡ calls_planned scripts.now) }
+    ensures firsts { IfOk result (λ parts. parts.1.firsts.items ≡ firsts_planned scripts.now) }
     ensures err { IfErr result (λ e. e ≡ Fault.Memory) }
 {
     let places = ProcMap::new(alloc, scripts)?;
-    let rows = all_rows(alloc, scripts, &places)?;
+    let rows = EventRows::of(alloc, scripts, &places)?;
     Ok((places, rows))
 }
 
-/// How many events these rows hold.
-fn total_of(rows: &[ProcessEvents]) -> usize
-    requires { sum_by (λ row. vec_len row.kinds) rows.now < 2 ^ 64 }
-    ensures { result ≡ sum_by (λ row. vec_len row.kinds) rows.now }
+/// How many events the calls before this one are made of, by bisection, where each event has its call's number here.
+fn events_before(numbers: &[u32], call: u32) -> usize
+    ensures { (calls : List runs.Call) → numbers.now ≡ calls_from 0 calls → result ≡ length (kinds_of (take call calls)) }
 {
-    rows.iter().map(|row| row.kinds.len()).sum()
+    numbers.partition_point(|number| *number < call)
 }
 
 impl Events {
@@ -134,8 +115,18 @@ impl Events {
     pub(crate) fn events(&self, proc: Proc) -> &[Kind]
         ensures { map (kind_of self.now.sets) result.now ≡ kinds (plan_of self.now) proc.number }
     {
-        match self.rows.get(proc.index()) {
-            Some(row) => row.kinds.as_slice(),
+        match self.rows.part(proc) {
+            Some(part) => part.of_kinds(&self.rows.kinds),
+            None => &[],
+        }
+    }
+
+    /// The number of the call of each event of a process, in their order; none where it isn't of the plan.
+    fn numbers(&self, proc: Proc) -> &[u32]
+        ensures { result.now ≡ calls_from 0 (calls_of (plan_of self.now) proc.number) }
+    {
+        match self.rows.part(proc) {
+            Some(part) => part.of_numbers(&self.rows.calls),
             None => &[],
         }
     }
@@ -154,7 +145,7 @@ impl Events {
         ensures total { result ≡ event_total (plan_of self.now) }
         ensures fits { result < 2 ^ 32 }
     {
-        total_of(&self.rows)
+        self.rows.kinds.len()
     }
 
     /// What an event of the plan is.
@@ -170,10 +161,9 @@ impl Events {
         requires { event.at < event_count (plan_of self.now) event.proc.number }
         ensures { result ≡ call_of (plan_of self.now) (event_of event) }
     {
-        let row = &self.rows[event.proc.index()];
         CallAt {
             proc: event.proc,
-            call: row.calls[event.at as usize],
+            call: self.numbers(event.proc)[event.at as usize],
         }
     }
 
@@ -182,10 +172,11 @@ impl Events {
         requires { call.call < length (calls_of (plan_of self.now) call.proc.number) }
         ensures { event_of result ≡ first_event (plan_of self.now) call }
     {
-        let row = &self.rows[call.proc.index()];
+        // The borrow gives the proof what the scripts promise of their numbers.
+        let _scripts = &self.scripts;
         Event {
             proc: call.proc,
-            at: row.starts[call.call as usize],
+            at: events_before(self.numbers(call.proc), call.call) as u32,
         }
     }
 

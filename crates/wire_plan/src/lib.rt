@@ -14,7 +14,7 @@ mod kind;
 mod meetings;
 mod names;
 mod plan;
-mod row;
+mod rows;
 mod sources;
 
 pub use kind::Kind;

@@ -3,12 +3,9 @@ use Rattle.std.proofs.Common.{◌≡◌, ℕ, ◌+◌, ◌<◌, ◌≤◌, List,
 use Rattle.std.proofs.lemmas.Bool.{cases_eq, cases_lt}
 use Rattle.std.proofs.lemmas.Option.{slice_get_past}
 use Rattle.wire_runs.specs.Plan.{Plan, Event, Kind, kind, kinds, event_count, process_count, process_kinds}
-use Rattle.wire_runs.specs.Races.{IsRewrite}
-use Rattle.wire_library_laws.specs.Portable.{IsAsked}
 use Rattle.wire_portable.specs.declared.libraries.Library.{Library}
 use Rattle.wire_portable.specs.declared.listed.Unportable.{Unportable}
 use Rattle.wire_portable.specs.Adding.{AddsUnportable}
-use Rattle.wire_portable.specs.Fences.{IsPlainArrival}
 use Rattle.wire_portable.specs.Kept.{IsCallFine, IsEventFine, AreFineTo, AreAllFine}
 use Rattle.wire_portable.specs.Libraries.{has, all}
 use Rattle.wire_portable.specs.Searched.{Searched, plan_in}
@@ -46,16 +43,6 @@ pub call_told : (v : Searched) (y : Event) (o : Option Kind) (xs ys : List Unpor
 call_told v y o xs ys e h = λ library u. let t = h library u in (t.0, subst (IsCallFine v library y) (sym e) t.1)
 
 module _ (v : Searched) where
-  -- the parts of an event
-  pub event_added : (y : Event) (xs ys zs ws : List Unportable) → AddsUnportable xs ys (λ library. (x : Event) → IsRewrite (plan_in v) x y → ⊥) →
-      AddsUnportable ys zs (λ library. IsPlainArrival library v.scripts v.rows v.sets y) →
-      AddsUnportable zs ws (λ library. IsAsked (plan_in v) y → IsCallFine v library y (kind (plan_in v) y)) → AddsUnportable xs ws (λ library. IsEventFine v library y)
-  event_added y xs ys zs ws a b c = λ library u.
-      let k = c library u in
-      let j = b library k.0 in
-      let i = a library j.0 in
-      (i.0, record { put = i.1; arrival = j.1; call = k.1 })
-
   -- one event of a process more
   fine_more : (library : Library) (p n m : ℕ) → m ≡ n + 1 → AreFineTo v library p n → IsEventFine v library (record { proc = p; at = n }) → AreFineTo v library p m
   fine_more library p n m e are one i lt = elim (cases_eq i n) [

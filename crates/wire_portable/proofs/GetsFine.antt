@@ -1,5 +1,5 @@
 -- What a get that waits keeps for a library.
-use Rattle.std.proofs.Common.{◌≡◌, ◌∙◌, ℕ, Bool, true, false, not, List, refl, sym, ap}
+use Rattle.std.proofs.Common.{◌≡◌, ◌∙◌, ℕ, Bool, true, false, not, List, inl, inr, refl, sym, ap}
 use Rattle.std.proofs.lemmas.Bool.{true≢false}
 use Rattle.wire_runs.specs.Plan.{Plan, Event}
 use Rattle.wire_library_laws.specs.Portable.{IsFor, IsPortableFar, Lacks}
@@ -8,6 +8,7 @@ use Rattle.wire_portable.specs.declared.listed.Unportable.{Unportable}
 use Rattle.wire_portable.specs.Libraries.{family_of}
 use Rattle.wire_portable.specs.Adding.{AddsUnportable}
 use Rattle.wire_portable.specs.Gets.{place_in, AreOpenGets}
+use Rattle.wire_portable.specs.Phases.{IsOfLaterPhase}
 use Rattle.wire_portable.specs.Sharing.{AreAskedGets}
 use Rattle.wire_portable.specs.Judging.{NoRewrites, IsEndedNear, IsEndedFar, AreFineMates}
 use Rattle.wire_portable.specs.Searched.{MayBe, may_be, HasNoMate, IsNearFine, IsFarFine}
@@ -54,6 +55,11 @@ module _ (library : Library) (plan : Plan) (p key : ℕ) (g : Event) where
   -- no live commit of the owner lacks the key
   pub none_lacks : (anywhere : Bool) → ((x : Event) → Lacks plan p key x → ⊥) → HasNoMate anywhere library plan p key g
   none_lacks anywhere never h other_key is other asked differ there not_first not_last commit lacks has = absurd (never commit lacks)
+
+  -- where its key is stored in an earlier phase, g has none
+  pub none_of_phase : (anywhere : Bool) → IsOfLaterPhase plan p key g → HasNoMate anywhere library plan p key g
+  none_of_phase anywhere later h other_key is other asked differ there not_first not_last commit lacks has =
+      elim (later h p other_key is asked) [ inl e ↦ absurd (not_last e) | inr t ↦ t ]
 
   pub far_fine : (anywhere : Bool) → (NoRewrites plan → IsPortableFar (family_of library) plan p key g) → HasNoMate anywhere library plan p key g → IsFarFine anywhere library plan p key g
   far_fine anywhere alone beside = record { alone = alone; beside = beside }

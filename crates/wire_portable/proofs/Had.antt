@@ -25,7 +25,7 @@ use Rattle.wire_portable.specs.declared.libraries.Library.{Library}
 use Rattle.wire_portable.specs.declared.libraries.Library.TheVariants.{V4, V5, V7}
 use Rattle.wire_portable.specs.Libraries.{family_of, has, only_v5}
 use Rattle.wire_portable.specs.Judging.{AreFor}
-use Rattle.wire_portable.specs.Nows.{IsLiveNow, AreListedGets, AreGetsOf, IsStoreAway, IsGotAmong, AreOfFence, HasMate, HasLeft, HasArrived, IsLeftThere, IsLeft, HasLeftItself, HasKept, HasGotItself}
+use Rattle.wire_portable.specs.Nows.{IsLiveNow, AreListedGets, AreGetsOf, IsStoreAway, IsGotAmong, AreOfFence, HasJobMember, HasLeft, HasArrived, IsLeftThere, IsLeft, HasLeftItself, HasKept, HasGotItself}
 use Rattle.wire_portable.proofs.Carried.{some_of, same_owner}
 
 -- the owner's arrival, its process told by another name, is an arrival
@@ -112,8 +112,8 @@ module _ (plan : Plan) (p key : ℕ) (g : Event) where
       left = subst (λ q. Before plan (here q (suc a.arrival.at)) g) (sym a.own) (left_before now fence.members fence.j a.arrival.at (its_arrival fence a.k a.arrival a.is a.own) a.earlier);
     }
 
-    pub arrived_mate : (job : ℕ → ℕ) → job g.proc ≡ job p → HasArrived g places → HasMate plan job p (node_of plan g.proc) places
-    arrived_mate job same a = record { k = a.k; arrival = a.arrival; is = a.is; there = ap (node_of plan) a.own; same = ap job a.own ∙ same }
+    pub arrived_member : (job : ℕ → ℕ) → job g.proc ≡ job p → HasArrived g places → HasJobMember plan job p (node_of plan g.proc) places
+    arrived_member job same a = record { k = a.k; arrival = a.arrival; is = a.is; there = ap (node_of plan) a.own; same = ap job a.own ∙ same }
 
   -- a fence that brings the key and that a process of the node has left
   pub left_by : (job : ℕ → ℕ) (node at : ℕ) (d : IsDelivering plan p key node at) (places : List Event) → AreArrivals plan d.members d.j places → IsLeftThere plan job p node g places →
@@ -124,10 +124,10 @@ module _ (plan : Plan) (p key : ℕ) (g : Event) where
         members = d.members;
         j = d.j;
         delivers = d.brings;
-        mate = l.mate.arrival.proc;
-        member = (are.only l.mate.k l.mate.arrival l.mate.is).member;
-        there = l.mate.there;
-        same = l.mate.same;
+        other = l.other.arrival.proc;
+        member = (are.only l.other.k l.other.arrival l.other.is).member;
+        there = l.other.there;
+        same = l.other.same;
         leave = here l.left.arrival.proc (suc l.left.arrival.at);
         is = leave.is;
         nth = leave.nth;
@@ -151,7 +151,7 @@ module _ (plan : Plan) (p key : ℕ) (g : Event) where
 
     pub have_left : family.brings ≡ true → IsLeft plan job p key (node_of plan g.proc) g → LibrariesHave family words plan p key g
     have_left brings l =
-        left l.members l.j l.mate l.leave brings l.delivers (record { member = l.member; there = l.there; job = its_job l.mate l.same }) l.is l.nth l.on_node l.before
+        left l.members l.j l.other l.leave brings l.delivers (record { member = l.member; there = l.there; job = its_job l.other l.same }) l.is l.nth l.on_node l.before
 
     pub left_itself : IsLiveNow plan p key g → family.brings ≡ true → job g.proc ≡ job p → HasLeftItself plan p key g → OwnCallsHave family words plan p key g
     left_itself now brings same l =

@@ -1,8 +1,9 @@
 pub mod Sets
 pub mod Firsts
 pub mod Gathered
+pub mod Parted
+pub mod PhaseRows
 pub mod Keys
-pub mod KnownSets
 pub mod Waits
 pub mod NamesFound
 pub mod OpenGets
@@ -19,8 +20,4 @@ pub mod Parts
 pub mod Sharing
 pub mod GetsFine
 pub mod NowsAdded
-pub mod ItemOrder
-mod Overlaps
-pub mod NumberTable
-pub mod Numbered
-pub mod ReadSets
+pub mod ByKind

@@ -29,7 +29,7 @@ use Rattle.wire_portable.specs.Adding.{AddsUnportable}
 use Rattle.wire_portable.specs.Libraries.{has}
 use Rattle.wire_portable.specs.Words.{words_of, sign_by, spelled, unrepeated, is_one_job, takes}
 use Rattle.wire_portable.specs.declared.libraries.Library.{Library}
-use Rattle.wire_portable.specs.declared.spelling.Spelt.{Spelt}
+use Rattle.wire_spelling.specs.declared.spelling.Spelt.{Spelt}
 use Rattle.wire_portable.specs.declared.fences.SetTable.{SetTable}
 use Rattle.wire_portable.specs.declared.fences.FenceCall.{FenceCall}
 use Rattle.wire_portable.specs.Fences.{numbered, spelt_first, number_of, spelt_at, AreEventsOfPlan, NoneSpelt, NamesNobodyTwice, IsSpeltAt, IsLowestSpelt, IsPlainCall, IsPlainArrival, KeepsFenceRules}

@@ -14,7 +14,7 @@ use Rattle.wire_library_laws.specs.Portable.{IsRightBefore, EndsFirst, IsAsked, 
 use Rattle.wire_portable.specs.declared.libraries.Library.{Library}
 use Rattle.wire_portable.specs.Libraries.{family_of, has, only_v4}
 use Rattle.wire_portable.specs.Commits.{IsLastOf}
-use Rattle.wire_portable.specs.Gets.{AreUnread}
+use Rattle.wire_portable.specs.Gets.{AreUnreadBeside}
 use Rattle.wire_portable.specs.Judging.{IsFineMate, AreFineMates}
 use Rattle.wire_portable.specs.Sharing.{AreAskedGets, AreTurns, IsApart}
 use Rattle.wire_portable.proofs.Keys.{never_there, missing_before}
@@ -187,10 +187,17 @@ module _ (plan : Plan) (mate : Event) (p key q other n : ℕ) (is : kind plan ma
   pub key_never : ((x : Event) → x.proc ≡ q → Stores plan x other → ⊥) → stored plan p key (suc n) ≡ None
   key_never never = never_there plan p key (λ x its stores. never x (its ∙ sym same_owner) (subst (Stores plan x) (sym same_key) stores)) (suc n)
 
--- where none of the keys that gets read is there at the last commit that lacks a get's, 4.2 alone answers it by them
+-- where none of the keys is there at the last commit that lacks a get's that others read which can be under way at once with it,
+-- 4.2 alone answers it by them
 pub later_fine : (plan : Plan) (p key : ℕ) (g : Event) (library : Library) (hs : List Event) (e : CodeEvent) (first : ℕ) → has only_v4 library ≡ false →
-    IsLastOf (Lacks plan p key) (Some e) → e.at < first → AreUnread plan p first hs → AreFineMates (family_of library) plan p key g hs
-later_fine plan p key g library hs e first not last lt unread k h at = mate_later plan p key g library h e not last (λ q other its same.
-    let mine : q ≡ p = sym same ∙ last.0.its in
-    subst (λ r. stored plan r other (suc e.at) ≡ None) (sym mine)
-    (missing_before plan p other (suc e.at) first lt (unread k h other at (subst (λ r. kind plan h ≡ Some (Get r other)) mine its))))
+    IsLastOf (Lacks plan p key) (Some e) → e.at < first → AreUnreadBeside plan p first g hs → AreFineMates (family_of library) plan p key g hs
+later_fine plan p key g library hs e first not last lt unread k h at other is ne no_first no_last c l has_it = elim (unread k h other at is) [
+  | inr (inl ends) ↦ absurd (no_first ends)
+  | inr (inr ends) ↦ absurd (no_last ends)
+  | inl none ↦ mate_later plan p key g library h e not last (λ q last_key its same.
+      let mine : q ≡ p = sym same ∙ last.0.its in
+      let also : kind plan h ≡ Some (Get p last_key) = subst (λ r. kind plan h ≡ Some (Get r last_key)) mine its in
+      let its_key : other ≡ last_key = ap key_of (same_Some _ _ (sym is ∙ also)) in
+      subst (λ r. stored plan r last_key (suc e.at) ≡ None) (sym mine)
+      (missing_before plan p last_key (suc e.at) first lt (subst (λ i. stored plan p i first ≡ None) its_key none))) other is ne no_first no_last c l has_it
+]

@@ -8,7 +8,7 @@ use Rattle.wire_scripts.specs.Scripts.{Scripts, set_at}
 use Rattle.wire_scripts.specs.Planned.{plan_of}
 use Rattle.wire_portable.specs.Words.{spelled, unrepeated, is_one_job, takes}
 use Rattle.wire_portable.specs.declared.libraries.Library.{Library}
-use Rattle.wire_portable.specs.declared.spelling.Spelt.{Spelt}
+use Rattle.wire_spelling.specs.declared.spelling.Spelt.{Spelt}
 use Rattle.wire_portable.specs.declared.fences.SetTable.{SetTable}
 use Rattle.wire_portable.specs.declared.fences.FenceCall.{FenceCall}
 

@@ -40,7 +40,7 @@ IsLiveStore plan owner key found =
 abbrev pub AreFor : Plan → ℕ → ℕ → Bool → Bool → Type 0
 AreFor plan p key near is = (n u : ℕ) → stored plan p key n ≡ Some u → admits (scope_of plan p u) near ≡ is
 
--- h is no get of p's key that may answer g too early
+-- h is no get of one of p's keys that may answer g too early
 abbrev pub IsFineMate : Family → Plan → ℕ → ℕ → Event → Event → Type 0
 IsFineMate family plan p key g h = (other_key : ℕ) → kind plan h ≡ Some (Get p other_key) → g.proc ≢ h.proc → AreMates family plan p key other_key g h
 

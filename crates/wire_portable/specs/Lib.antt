@@ -3,15 +3,12 @@ pub mod Words
 pub mod Unportable
 pub mod Commits
 pub mod Judging
+pub mod Phases
 pub mod Gets
 pub mod Named
 pub mod Adding
 pub mod Searched
 pub mod Kept
-pub mod Known
 pub mod Fences
 pub mod Nows
-pub mod Spelling
 pub mod Sharing
-pub mod Spelled
-pub mod Numbering

@@ -126,7 +126,7 @@ pub record AreOfFence (plan : Plan) (places : List Event) : Type 0 where
   pub are : AreArrivals plan members j places
 
 -- one of these is of a process on the node, of the owner's job
-pub record HasMate (plan : Plan) (job : ℕ → ℕ) (owner node : ℕ) (places : List Event) : Type 0 where
+pub record HasJobMember (plan : Plan) (job : ℕ → ℕ) (owner node : ℕ) (places : List Event) : Type 0 where
   pub k : ℕ
   pub arrival : Event
   pub is : slice_get places k ≡ Some arrival
@@ -151,7 +151,7 @@ pub record HasArrived (g : Event) (places : List Event) : Type 0 where
 
 -- a process on the node has left before g the fence of these arrivals, and one there is of the owner's job
 pub record IsLeftThere (plan : Plan) (job : ℕ → ℕ) (owner node : ℕ) (g : Event) (places : List Event) : Type 0 where
-  pub mate : HasMate plan job owner node places
+  pub other : HasJobMember plan job owner node places
   pub left : HasLeft plan node g places
 
 -- so it is of a fence that brings p's key to the node
@@ -159,10 +159,10 @@ pub record IsLeft (plan : Plan) (job : ℕ → ℕ) (p key node : ℕ) (g : Even
   pub members : List ℕ
   pub j : ℕ
   pub delivers : FenceDelivers plan p key node members j
-  pub mate : ℕ
-  pub member : is_member members mate ≡ true
-  pub there : node_of plan mate ≡ node
-  pub same : job mate ≡ job p
+  pub other : ℕ
+  pub member : is_member members other ≡ true
+  pub there : node_of plan other ≡ node
+  pub same : job other ≡ job p
   pub leave : Event
   pub is : kind plan leave ≡ Some (Leave members)
   pub nth : arrivals plan leave.proc members leave.at ≡ j

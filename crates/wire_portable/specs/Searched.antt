@@ -8,7 +8,7 @@ use Rattle.wire_library_laws.specs.Library.{Words}
 use Rattle.wire_library_laws.specs.Portable.{IsAsked, IsPortableNear, IsPortableFar, AreMates}
 use Rattle.wire_portable.specs.declared.fences.SetTable.{SetTable}
 use Rattle.wire_portable.specs.declared.libraries.Library.{Library}
-use Rattle.wire_portable.specs.declared.spelling.Spelt.{Spelt}
+use Rattle.wire_spelling.specs.declared.spelling.Spelt.{Spelt}
 use Rattle.wire_portable.specs.Gets.{place_in}
 use Rattle.wire_portable.specs.Judging.{NoRewrites}
 use Rattle.wire_portable.specs.Libraries.{family_of}

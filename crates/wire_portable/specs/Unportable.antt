@@ -7,7 +7,7 @@ use Rattle.wire_library_laws.specs.Anywhere.{IsPortableAnywhere}
 use Rattle.wire_portable.specs.Libraries.{family_of, has}
 use Rattle.wire_portable.specs.Words.{words_of}
 use Rattle.wire_portable.specs.declared.libraries.Library.{Library}
-use Rattle.wire_portable.specs.declared.spelling.Spelt.{Spelt}
+use Rattle.wire_spelling.specs.declared.spelling.Spelt.{Spelt}
 use Rattle.wire_portable.specs.declared.listed.Unportable.{Unportable}
 
 -- no line has the library

@@ -14,7 +14,7 @@ use Rattle.wire_scripts.specs.Map.{job_at}
 use Rattle.wire_scripts.specs.Planned.{plan_of}
 use Rattle.wire_library_laws.specs.Library.{Words}
 use Rattle.wire_portable.specs.declared.libraries.Library.{Library}
-use Rattle.wire_portable.specs.declared.spelling.Spelt.{Spelt}
+use Rattle.wire_spelling.specs.declared.spelling.Spelt.{Spelt}
 use Rattle.wire_portable.specs.declared.libraries.Library.TheVariants.{V4}
 
 -- how a call spells the set of its fence, by rows of numbers: None where it names a process or a job twice
@@ -44,8 +44,8 @@ sign_by library s rows call _ = None
 abbrev pub is_of_map : List ℕ → Bool
 is_of_map key = bytes_eq key (codes "PMIX_LOCAL_RANK") || (bytes_eq key (codes "PMIX_NODE_RANK") || bytes_eq key (codes "PMIX_HOSTNAME"))
 
--- keys of which a library may hold a value of its own: their names begin with `pmix.`. It tells neither of these two of a
--- process
+-- keys of which a library may hold a value of its own: their names begin with `pmix.`. These two are excepted: of these two
+-- it says NOT_FOUND, as the rules do
 abbrev pub is_its_own : List ℕ → Bool
 is_its_own key = begins_with (codes "pmix.") key && not (bytes_eq key (codes "pmix.rank") || bytes_eq key (codes "pmix.job.size"))
 

@@ -5,11 +5,11 @@ ghost use Rattle.std.specs.Prelude.{◌<◌};
 ghost use Rattle.wire_runs.specs.Plan.{event_count};
 ghost use Rattle.wire_scripts.specs.Planned.{plan_of};
 
-use crate::spelling::Spelling;
 use std::alloc::{AllocError, Global};
 use std::collections::HashMap;
 use wire_happens_before::MarkedPlan;
 use wire_plan::Kind;
+use wire_spelling::Spelling;
 use wire_types::{Event, Proc};
 
 /// A fence by its set, how its calls spell that, and which fence of each member so spelt it is.

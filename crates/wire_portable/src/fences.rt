@@ -19,18 +19,20 @@ ghost use Rattle.wire_portable.specs.Fences as spec;
 use crate::jobs::job_of;
 use crate::libraries::Libraries;
 use crate::listed::{Rule, UnportableList};
-use crate::spelling::{Spelling, Spelt};
 use std::alloc::{AllocError, Global};
 use wire_fates::all_arrivals;
 use wire_happens_before::MarkedPlan;
 use wire_plan::{Kind, Plan};
 use wire_scripts::Scripts;
+use wire_spelling::{Spelling, Spelt};
 use wire_types::{Event, Proc};
 
 /// What is asked of each set: whether its processes are of one job, and how the first live call over it spells it.
+/// `unseen` says of how many sets no such call was seen yet.
 pub(crate) struct SetTable {
     one_job: Vec<bool>,
     spelt: Vec<Option<usize>>,
+    unseen: usize,
 }
 
 // By hand and not derived: so dropping one is a call, and the proof of a function that drops one doesn't take it apart.
@@ -39,6 +41,7 @@ impl Drop for SetTable {
         let SetTable {
             one_job: _,
             spelt: _,
+            unseen: _,
         } = self;
     }
 }
@@ -83,7 +86,12 @@ impl SetTable {
             one_job.push(is_one_job(scripts, scripts.sets().members(set)))?;
             spelt.push(None)?;
         }
-        Ok(SetTable { one_job, spelt })
+        let unseen = spelt.len();
+        Ok(SetTable {
+            one_job,
+            spelt,
+            unseen,
+        })
     }
 
     /// Takes up how a live call spells its set, where it is the first.
@@ -99,6 +107,7 @@ impl SetTable {
         }
         if let Some(None) = self.spelt.get(set as usize).copied() {
             self.spelt[set as usize] = number_of(spelling.of(marked.plan().call_of(event)));
+            self.unseen = self.unseen.saturating_sub(1);
         }
     }
 
@@ -107,6 +116,9 @@ impl SetTable {
         ensures { self.new.one_job ≡ self.old.one_job }
     {
         for at in 0..marked.plan().event_count(proc) {
+            if self.unseen == 0 {
+                return;
+            }
             self.take(marked, spelling, Event { proc, at });
         }
     }

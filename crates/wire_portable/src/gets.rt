@@ -1,26 +1,33 @@
 //! The gets that come to be made, of keys of other processes, by their owner and by the node of the reader.
 
-ghost use Rattle.std.specs.Prelude.{◌≡◌, ◌≢◌, ◌<◌, ◌≤◌, ◌++◌, ◌∷◌, [], ℕ, List, suc, Some, None, map, IfOk, OnOk};
+ghost use Rattle.std.specs.Prelude.{◌≡◌, ◌≢◌, ◌<◌, ◌≤◌, ◌++◌, ◌∷◌, [], ℕ, List, suc, Some, None, map, IfOk, IsTrue, OnOk};
 ghost use Rattle.wire_runs.specs.Plan.{Get, event_of, event_count, process_count, kind};
 ghost use Rattle.wire_runs.specs.Plan as runs;
 ghost use Rattle.wire_runs.specs.Puts.{stored};
 ghost use Rattle.wire_scripts.specs.Planned.{plan_of};
 ghost use Rattle.wire_library_laws.specs.Portable.{IsAsked};
-ghost use Rattle.wire_portable.specs.Gets.{place_in, gets_under, first_under, AreGetsTo, AreGetLists, AreOpenGets, AreFirst, AreUnread};
+ghost use Rattle.wire_portable.specs.Gets.{place_in, gets_under, first_under, AreGetsTo, AreGetLists, AreOpenGets, AreFirst, AreUnreadBeside, IsGetTable};
+ghost use Rattle.wire_portable.specs.Phases.{ArePhases, IsOfLaterPhase};
 
 use crate::asked::is_asked;
+use crate::hearing::Hearing;
 use crate::judge::Key;
+use crate::last_stores::{LastStores, ReadStore};
+use crate::phases::Phases;
 use std::alloc::{AllocError, Global};
 use std::collections::HashMap;
 use wire_happens_before::MarkedPlan;
-use wire_plan::Kind;
+use wire_plan::{Kind, Plan};
 use wire_types::{Event, Proc};
 
-/// The gets of each process's keys from each node, in process order; or from all nodes together. And for each list a
-/// number of events of the owner up to which none of the keys is there that are read.
+/// The gets of each process's keys from each node, in process order; or from all nodes together. For each list
+/// and phase, how many events of the owner come before any key is there that the list's gets read in that phase; and how
+/// late the commits are that store those keys.
 pub(crate) struct GetTable {
     lists: HashMap<(u32, u32), Vec<Event>>,
-    firsts: HashMap<(u32, u32), u32>,
+    firsts: HashMap<(u32, u32, u32), u32>,
+    lasts: LastStores,
+    phases: Phases,
     together: bool,
 }
 
@@ -30,6 +37,8 @@ impl Drop for GetTable {
         let GetTable {
             lists: _,
             firsts: _,
+            lasts: _,
+            phases: _,
             together: _,
         } = self;
     }
@@ -48,8 +57,8 @@ impl GetTable {
         }
     }
 
-    /// How many events of the owner bring none of the keys that a list's gets read.
-    fn first(&self, listed: (u32, u32)) -> u32
+    /// How many events of the owner bring none of the keys that a list's gets read in a phase.
+    fn first(&self, listed: (u32, u32, u32)) -> u32
         ensures { result ≡ first_under self.now listed }
     {
         match self.firsts.get(&listed) {
@@ -58,12 +67,13 @@ impl GetTable {
         }
     }
 
-    /// Takes up the commit of this number, which stores a key that a get of a list reads.
-    fn lower(&mut self, listed: (u32, u32), at: u32) -> Result<(), AllocError>
+    /// Takes up the commit of this number, which stores a key that a get of a list reads in a phase.
+    fn lower(&mut self, listed: (u32, u32, u32), at: u32) -> Result<(), AllocError>
         ensures lower { OnOk result (first_under self.new listed ≤ at) }
-        ensures less { OnOk result ((other : ℕ × ℕ) → first_under self.new other ≤ first_under self.old other) }
+        ensures less { OnOk result ((other : ℕ × ℕ × ℕ) → first_under self.new other ≤ first_under self.old other) }
         ensures lists { OnOk result (self.new.lists ≡ self.old.lists) }
         ensures kept { OnOk result (self.new.together ≡ self.old.together) }
+        ensures phases { OnOk result (self.new.phases ≡ self.old.phases) }
     {
         if at < self.first(listed) {
             self.firsts.insert(listed, at)?;
@@ -71,20 +81,36 @@ impl GetTable {
         Ok(())
     }
 
-    /// Takes up the key that a get of a list reads.
+    /// Takes up a commit for `is_brought` and `earlier_reader`.
+    fn raise(&mut self, listed: (u32, u32, u32), store: ReadStore) -> Result<(), AllocError>
+        ensures lists { OnOk result (self.new.lists ≡ self.old.lists) }
+        ensures firsts { OnOk result (self.new.firsts ≡ self.old.firsts) }
+        ensures kept { OnOk result (self.new.together ≡ self.old.together) }
+        ensures phases { OnOk result (self.new.phases ≡ self.old.phases) }
+    {
+        self.lasts.take(listed, store)
+    }
+
+    /// Takes up the key that a get of a list reads in a phase, a get of this process.
     fn lower_to(
         &mut self,
         marked: &MarkedPlan<'_>,
-        listed: (u32, u32),
+        listed: (u32, u32, u32),
         asked: Key,
+        reader: Proc,
     ) -> Result<(), AllocError>
         ensures lower { OnOk result (stored (plan_of marked.now) asked.owner.number asked.key (first_under self.new listed) ≡ None) }
-        ensures less { OnOk result ((other : ℕ × ℕ) → first_under self.new other ≤ first_under self.old other) }
+        ensures less { OnOk result ((other : ℕ × ℕ × ℕ) → first_under self.new other ≤ first_under self.old other) }
         ensures lists { OnOk result (self.new.lists ≡ self.old.lists) }
         ensures kept { OnOk result (self.new.together ≡ self.old.together) }
+        ensures phases { OnOk result (self.new.phases ≡ self.old.phases) }
     {
         match marked.plan().store_of(asked.owner, asked.key) {
-            Some(store) => self.lower(listed, store.at),
+            Some(store) => {
+                let at = store.at;
+                self.raise(listed, ReadStore { at, reader })?;
+                self.lower(listed, at)
+            }
             None => Ok(()),
         }
     }
@@ -95,6 +121,7 @@ impl GetTable {
         ensures others { OnOk result ((other : ℕ × ℕ) → asked ≢ other → gets_under self.new other ≡ gets_under self.old other) }
         ensures firsts { OnOk result (self.new.firsts ≡ self.old.firsts) }
         ensures kept { OnOk result (self.new.together ≡ self.old.together) }
+        ensures phases { OnOk result (self.new.phases ≡ self.old.phases) }
     {
         match self.lists.get_mut(&asked) {
             Some(list) => list.push(event)?,
@@ -119,12 +146,15 @@ impl GetTable {
         requires other { event.proc.number ≢ asked.owner.number }
         ensures added { OnOk result (AreGetsTo self.old.together (plan_of marked.now) event.proc.number event.at self.old →
             AreGetsTo self.old.together (plan_of marked.now) event.proc.number (suc event.at) self.new) }
-        ensures firsts { OnOk result (AreFirst (plan_of marked.now) self.old → AreFirst (plan_of marked.now) self.new) }
+        ensures firsts { OnOk result (AreFirst (plan_of marked.now) self.old.phases self.old → AreFirst (plan_of marked.now) self.old.phases self.new) }
         ensures kept { OnOk result (self.new.together ≡ self.old.together) }
+        ensures phases { OnOk result (self.new.phases ≡ self.old.phases) }
     {
         if is_asked(marked, event) {
             let place = self.place_of(marked, event.proc);
-            self.lower_to(marked, (asked.owner.number, place), asked)?;
+            let phase = self.phases.phase(event);
+            let listed = (asked.owner.number, place, phase);
+            self.lower_to(marked, listed, asked, event.proc)?;
             self.add(alloc, (asked.owner.number, place), event)?;
         }
         Ok(())
@@ -140,8 +170,9 @@ impl GetTable {
         requires { event.at < event_count (plan_of marked.now) event.proc.number }
         ensures added { OnOk result (AreGetsTo self.old.together (plan_of marked.now) event.proc.number event.at self.old →
             AreGetsTo self.old.together (plan_of marked.now) event.proc.number (suc event.at) self.new) }
-        ensures firsts { OnOk result (AreFirst (plan_of marked.now) self.old → AreFirst (plan_of marked.now) self.new) }
+        ensures firsts { OnOk result (AreFirst (plan_of marked.now) self.old.phases self.old → AreFirst (plan_of marked.now) self.old.phases self.new) }
         ensures kept { OnOk result (self.new.together ≡ self.old.together) }
+        ensures phases { OnOk result (self.new.phases ≡ self.old.phases) }
     {
         if let Kind::Get { owner, key } = marked.plan().kind(event) {
             if owner.number != event.proc.number {
@@ -160,8 +191,9 @@ impl GetTable {
     ) -> Result<(), AllocError>
         ensures added { OnOk result (AreGetsTo self.old.together (plan_of marked.now) proc.number 0 self.old →
             AreGetsTo self.old.together (plan_of marked.now) (suc proc.number) 0 self.new) }
-        ensures firsts { OnOk result (AreFirst (plan_of marked.now) self.old → AreFirst (plan_of marked.now) self.new) }
+        ensures firsts { OnOk result (AreFirst (plan_of marked.now) self.old.phases self.old → AreFirst (plan_of marked.now) self.old.phases self.new) }
         ensures kept { OnOk result (self.new.together ≡ self.old.together) }
+        ensures phases { OnOk result (self.new.phases ≡ self.old.phases) }
     {
         for at in 0..marked.plan().event_count(proc) {
             self.add_event(alloc, marked, Event { proc, at })?;
@@ -173,8 +205,9 @@ impl GetTable {
     fn add_all(&mut self, alloc: Global, marked: &MarkedPlan<'_>) -> Result<(), AllocError>
         ensures added { OnOk result (AreGetsTo self.old.together (plan_of marked.now) 0 0 self.old →
             AreGetLists self.old.together (plan_of marked.now) self.new) }
-        ensures firsts { OnOk result (AreFirst (plan_of marked.now) self.old → AreFirst (plan_of marked.now) self.new) }
+        ensures firsts { OnOk result (AreFirst (plan_of marked.now) self.old.phases self.old → AreFirst (plan_of marked.now) self.old.phases self.new) }
         ensures kept { OnOk result (self.new.together ≡ self.old.together) }
+        ensures phases { OnOk result (self.new.phases ≡ self.old.phases) }
     {
         for number in 0..marked.plan().process_count() {
             self.add_process(alloc, marked, Proc { number })?;
@@ -188,13 +221,15 @@ impl GetTable {
         marked: &MarkedPlan<'_>,
         together: bool,
     ) -> Result<GetTable, AllocError>
-        ensures lists { IfOk result (λ table. AreGetLists together (plan_of marked.now) table) }
-        ensures firsts { IfOk result (λ table. AreFirst (plan_of marked.now) table) }
-        ensures together { IfOk result (λ table. table.together ≡ together) }
+        ensures { IfOk result (λ table. IsGetTable together (plan_of marked.now) table) }
     {
+        let phases = Phases::of(alloc, marked.plan())?;
+        let count = phases.count();
         let mut table = GetTable {
             lists: HashMap::new(alloc),
             firsts: HashMap::new(alloc),
+            lasts: LastStores::empty(alloc, count),
+            phases,
             together,
         };
         table.add_all(alloc, marked)?;
@@ -222,15 +257,76 @@ impl GetTable {
         self.list((owner.number, place))
     }
 
-    /// How many events of the owner bring none of the keys that those gets read.
-    pub(crate) fn first_beside(&self, marked: &MarkedPlan<'_>, owner: Proc, proc: Proc) -> u32
-        requires lists { AreGetLists self.now.together (plan_of marked.now) self.now }
-        requires firsts { AreFirst (plan_of marked.now) self.now }
-        requires there { proc.number < process_count (plan_of marked.now) }
-        ensures { (places : List runs.Event) → AreOpenGets self.now.together (plan_of marked.now) owner.number
-            (place_in self.now.together (plan_of marked.now) proc.number) places → AreUnread (plan_of marked.now) owner.number result places }
+    /// How many events of the owner bring none of the keys that are read by gets which can be under way at once with this
+    /// one: those of its phase, made where it is made.
+    pub(crate) fn first_beside(&self, marked: &MarkedPlan<'_>, get: Event, asked: Key) -> u32
+        requires table { IsGetTable self.now.together (plan_of marked.now) self.now }
+        requires is { kind (plan_of marked.now) (event_of get) ≡ Some (Get asked.owner.number asked.key) }
+        requires asked { IsAsked (plan_of marked.now) (event_of get) }
+        ensures { (places : List runs.Event) → AreOpenGets self.now.together (plan_of marked.now) asked.owner.number
+            (place_in self.now.together (plan_of marked.now) get.proc.number) places
+            → AreUnreadBeside (plan_of marked.now) asked.owner.number result (event_of get) places }
     {
-        let place = self.place_of(marked, proc);
-        self.first((owner.number, place))
+        let place = self.place_of(marked, get.proc);
+        let phase = self.phases.phase(get);
+        self.first((asked.owner.number, place, phase))
+    }
+
+    /// Whether the commit that stores a key is of an earlier phase than a get.
+    pub(crate) fn is_of_later_phase(&self, marked: &MarkedPlan<'_>, get: Event, asked: Key) -> bool
+        requires phases { ArePhases (plan_of marked.now) self.now.phases }
+        requires is { kind (plan_of marked.now) (event_of get) ≡ Some (Get asked.owner.number asked.key) }
+        requires asked { IsAsked (plan_of marked.now) (event_of get) }
+        ensures { IsTrue result → IsOfLaterPhase (plan_of marked.now) asked.owner.number asked.key (event_of get) }
+    {
+        match marked.plan().store_of(asked.owner, asked.key) {
+            Some(store) => self.phases.phase(store) < self.phases.phase(get),
+            None => false,
+        }
+    }
+
+    /// Whether one of those gets, of a phase no later than a get-now's, may have brought the key that a commit stores: it
+    /// reads a key that comes no earlier. (That none has where it says no is only tested: else 5.0 is blamed needlessly.)
+    pub(crate) fn is_brought(&self, marked: &MarkedPlan<'_>, get: Event, store: Event) -> bool
+        requires { get.proc.number < process_count (plan_of marked.now) }
+    {
+        let place = self.place_of(marked, get.proc);
+        let phases = self.phases.phase(get).saturating_add(1);
+        self.lasts
+            .reader_in((store.proc.number, place, phases), store.at)
+            .is_some()
+    }
+
+    /// The process of one of those gets that is of an earlier phase than a get-now, and reads such a key.
+    pub(crate) fn earlier_reader(
+        &self,
+        marked: &MarkedPlan<'_>,
+        get: Event,
+        store: Event,
+    ) -> Option<Proc>
+        requires { get.proc.number < process_count (plan_of marked.now) }
+    {
+        let place = self.place_of(marked, get.proc);
+        let phases = self.phases.phase(get);
+        self.lasts
+            .reader_in((store.proc.number, place, phases), store.at)
+    }
+
+    /// Whether no get is listed.
+    fn is_empty(&self) -> bool {
+        self.lists.is_empty()
+    }
+
+    /// What processes hear of each other, where gets are listed.
+    pub(crate) fn hearing(&self, alloc: Global, plan: &Plan) -> Result<Hearing, AllocError> {
+        if self.is_empty() {
+            return Ok(Hearing::empty(alloc));
+        }
+        Hearing::for_nows(alloc, plan, &self.phases)
+    }
+
+    /// Whether a call's process has heard of another one in the call's phase.
+    pub(crate) fn has_heard(&self, hearing: &Hearing, call: Event) -> bool {
+        hearing.has_heard(&self.phases, call)
     }
 }

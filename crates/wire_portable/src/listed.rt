@@ -26,7 +26,7 @@ pub enum Rule {
     FenceCollect,
     /// A fence of two jobs.
     FenceJobs,
-    /// A call of a fence names a process twice.
+    /// A call of a fence names a process or a job twice.
     FenceRepeats,
     /// The calls of fences over a set don't spell it alike.
     FenceSpelling,
@@ -177,6 +177,13 @@ impl UnportableList {
         ensures { result ≡ (length self.now == 0) }
     {
         self.entries.is_empty()
+    }
+
+    /// All of them.
+    pub fn as_slice(&self) -> &[Unportable]
+        ensures { result.now ≡ self.now }
+    {
+        self.entries.as_slice()
     }
 
     /// The one of this number, from 0, if there is one.

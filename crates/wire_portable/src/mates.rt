@@ -9,7 +9,7 @@ ghost use Rattle.wire_library_laws.specs.Portable.{EndsFirst, IsAsked, Lacks};
 ghost use Rattle.wire_portable.specs.declared.libraries.Library.{Library as L};
 ghost use Rattle.wire_portable.specs.Commits.{IsLastOf};
 ghost use Rattle.wire_portable.specs.Libraries.{family_of, has, only_v4};
-ghost use Rattle.wire_portable.specs.Gets.{AreUnread};
+ghost use Rattle.wire_portable.specs.Gets.{AreUnreadBeside};
 ghost use Rattle.wire_portable.specs.Judging.{AreFineMates};
 ghost use Rattle.wire_portable.specs.Sharing.{AreAskedGets, AreTurns, IsApart};
 
@@ -130,8 +130,8 @@ fn is_told(found: Libraries, lacking: Event, first: u32) -> bool
 }
 
 /// The libraries on which a get may get the answer of one of these, in process order, which lacks its key. `first` says
-/// up to which event of the owner none of the keys is there that these read: so where the last commit that lacks the
-/// get's key is before it, 4.2 alone can be blamed, and the first such get tells it.
+/// up to which event of the owner none of the keys is there that those read which can be under way at once with the get: so
+/// where the last commit that lacks the get's key is before it, 4.2 alone can be blamed, and the first such get tells it.
 pub(crate) fn mates(
     judge: &Judge<'_>,
     gets: &[Event],
@@ -140,7 +140,7 @@ pub(crate) fn mates(
     asked: Key,
 ) -> Libraries
     requires gets { AreAskedGets (plan_of judge.now) asked.owner.number (map event_of gets.now) }
-    requires first { AreUnread (plan_of judge.now) asked.owner.number first (map event_of gets.now) }
+    requires first { AreUnreadBeside (plan_of judge.now) asked.owner.number first (event_of get) (map event_of gets.now) }
     requires asked { IsAsked (plan_of judge.now) (event_of get) }
     ensures { (library : L) → has result library ≡ false →
         AreFineMates (family_of library) (plan_of judge.now) asked.owner.number asked.key (event_of get) (map event_of gets.now) }

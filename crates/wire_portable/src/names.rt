@@ -28,7 +28,7 @@ pub(crate) fn stuck_lookups(
     ensures { IfOk result (λ stuck. AreNever (plan_of marked.now) (map event_of stuck.items)) }
 {
     let mut stuck = Vec::new(alloc);
-    if !settled {
+    if !settled || marked.plan().scripts().names().is_empty() {
         return Ok(stuck);
     }
     for number in 0..marked.plan().process_count() {

@@ -1,13 +1,14 @@
 //! The search for calls by which a plan isn't portable.
 
-ghost use Rattle.std.specs.Prelude.{◌≡◌, ◌≢◌, ◌<◌, ℕ, List, true, false, Some, MatchOption, OnOk, IfOk, IsOkUnless, map};
+ghost use Rattle.std.specs.Prelude.{◌≡◌, ◌≢◌, ◌<◌, ℕ, List, true, false, Some, MatchOption, OnOk, IfOk, IsOkUnless, IsTrue, map};
 ghost use Rattle.wire_scripts.specs.Planned.{plan_of};
 ghost use Rattle.wire_types.specs.declared.Scope.{Scope};
 ghost use Rattle.wire_runs.specs.Plan as runs;
 ghost use Rattle.wire_runs.specs.Plan.{Get, GetNow, Publish, Put, Unpublish, kind, event_count, event_of, process_count, same_node};
-ghost use Rattle.wire_runs.specs.Races.{IsRewrite, IsSettled};
+ghost use Rattle.wire_runs.specs.Races.{IsSettled};
 ghost use Rattle.wire_library_laws.specs.Portable.{IsAsked};
-ghost use Rattle.wire_portable.specs.Gets.{place_in, AreGetLists, AreOpenGets, AreFirst, AreUnread};
+ghost use Rattle.wire_portable.specs.Gets.{place_in, AreOpenGets, AreUnreadBeside, IsGetTable};
+ghost use Rattle.wire_portable.specs.Phases.{IsOfLaterPhase};
 ghost use Rattle.wire_portable.specs.declared.libraries.Library.{Library as L};
 ghost use Rattle.wire_portable.specs.Adding.{AddsUnportable};
 ghost use Rattle.wire_portable.specs.Judging.{IsNoRewrite};
@@ -21,6 +22,7 @@ ghost use Rattle.wire_portable.specs.Unportable.{AreUnportable, AreUnportableAny
 use crate::asked::is_asked;
 use crate::fences::{SetTable, add_fence, all_if};
 use crate::gets::GetTable;
+use crate::hearing::Hearing;
 use crate::judge::{Judge, Key};
 use crate::libraries::Libraries;
 use crate::listed::{Rule, UnportableList};
@@ -30,14 +32,14 @@ use crate::nows::sees_remote;
 use crate::own_calls::now_anywhere;
 use crate::puts::is_put_again;
 use crate::reserved::{is_known, is_unpublish};
-use crate::spelling::Spelling;
 use crate::spelt_apart::{Ruled, all_blamed, as_spelt};
-use crate::sure::far_now;
+use crate::sure::{Beside, far_now};
 use crate::waiting::{far_get, near_get, outside};
 use std::alloc::{AllocError, Global};
 use std::marker::Model;
 use wire_happens_before::MarkedPlan;
 use wire_plan::Kind;
+use wire_spelling::Spelling;
 use wire_types::{Event, Fault, Proc};
 
 /// What the search looks things up in.
@@ -46,6 +48,7 @@ struct Search<'a> {
     marked: &'a MarkedPlan<'a>,
     judge: &'a Judge<'a>,
     gets: Option<&'a GetTable>,
+    hearing: &'a Hearing,
     sets: &'a SetTable,
     spelling: &'a Spelling,
     settled: bool,
@@ -60,7 +63,7 @@ impl<'a> Model for Search<'a> {
     ghost use Rattle.wire_runs.specs.Plan.{event_of};
     ghost use Rattle.wire_runs.specs.Races.{IsSettled};
     ghost use Rattle.wire_portable.specs.Fences.{TellsJobs};
-    ghost use Rattle.wire_portable.specs.Gets.{AreGetLists, AreFirst};
+    ghost use Rattle.wire_portable.specs.Gets.{IsGetTable};
     ghost use Rattle.wire_portable.specs.Named.{AreNever};
     ghost use Rattle.wire_portable.specs.Searched.{Searched};
 
@@ -69,7 +72,7 @@ impl<'a> Model for Search<'a> {
     ghost view = { λ s. record { scripts = s.marked.now; rows = s.spelling.now; sets = s.sets.now; anywhere = s.anywhere } };
 
     ghost invariant = { λ s. (s.judge.now ≡ s.marked.now)
-        × MatchOption s.gets (Unit {0}) (λ g. (g.now.together ≡ s.anywhere) × AreGetLists s.anywhere (plan_of s.marked.now) g.now × AreFirst (plan_of s.marked.now) g.now)
+        × MatchOption s.gets (Unit {0}) (λ g. IsGetTable s.anywhere (plan_of s.marked.now) g.now)
         × IsSound s.marked.now
         × TellsJobs s.marked.now s.sets.now
         × (s.settled ≡ true → IsSettled (plan_of s.marked.now))
@@ -143,15 +146,30 @@ impl Search<'_> {
         }
     }
 
-    /// How many events of the owner bring none of the keys that those gets read.
-    fn first_beside(&self, owner: Proc, proc: Proc) -> u32
-        requires { proc.number < process_count (plan_in self.now) }
-        ensures { (places : List runs.Event) → AreOpenGets self.now.anywhere (plan_in self.now) owner.number
-            (place_in self.now.anywhere (plan_in self.now) proc.number) places → AreUnread (plan_in self.now) owner.number result places }
+    /// How many events of the owner bring none of the keys that those of these gets read that can be under way at once
+    /// with this one.
+    fn first_beside(&self, get: Event, asked: Key) -> u32
+        requires is { kind (plan_in self.now) (event_of get) ≡ Some (Get asked.owner.number asked.key) }
+        requires asked { IsAsked (plan_in self.now) (event_of get) }
+        ensures { (places : List runs.Event) → AreOpenGets self.now.anywhere (plan_in self.now) asked.owner.number
+            (place_in self.now.anywhere (plan_in self.now) get.proc.number) places
+            → AreUnreadBeside (plan_in self.now) asked.owner.number result (event_of get) places }
     {
         match self.gets {
-            Some(table) => table.first_beside(self.marked, owner, proc),
+            Some(table) => table.first_beside(self.marked, get, asked),
             None => 0,
+        }
+    }
+
+    /// Whether the commit that stores a key is of an earlier phase than a get.
+    fn is_of_later_phase(&self, get: Event, asked: Key) -> bool
+        requires is { kind (plan_in self.now) (event_of get) ≡ Some (Get asked.owner.number asked.key) }
+        requires asked { IsAsked (plan_in self.now) (event_of get) }
+        ensures { IsTrue result → IsOfLaterPhase (plan_in self.now) asked.owner.number asked.key (event_of get) }
+    {
+        match self.gets {
+            Some(table) => table.is_of_later_phase(self.marked, get, asked),
+            None => false,
         }
     }
 
@@ -165,7 +183,10 @@ impl Search<'_> {
         let Some(_) = self.judge.last_lacking(asked) else {
             return Libraries::none();
         };
-        let first = self.first_beside(asked.owner, get.proc);
+        if self.is_of_later_phase(get, asked) {
+            return Libraries::none();
+        }
+        let first = self.first_beside(get, asked);
         match self.beside(asked.owner, get.proc) {
             Some(gets) => mates(self.judge, gets, first, get, asked),
             None => Libraries::all(),
@@ -243,7 +264,12 @@ impl Search<'_> {
         if self.anywhere {
             now_anywhere(self.judge, gets, get, asked)
         } else {
-            far_now(self.judge, gets, get, asked)
+            let beside = Beside {
+                gets,
+                table: self.gets,
+                hearing: self.hearing,
+            };
+            far_now(self.judge, beside, get, asked)
         }
     }
 
@@ -421,28 +447,23 @@ impl Search<'_> {
         self.add_asked(found, event)
     }
 
-    /// Adds what an event breaks, if it is a put.
-    fn add_again(&self, found: &mut UnportableList, event: Event) -> Result<(), AllocError>
-        requires { event.at < event_count (plan_in self.now) event.proc.number }
-        ensures { OnOk result (AddsUnportable found.old found.new (λ library. (x : runs.Event) → IsRewrite (plan_in self.now) x (event_of event) → ⊥)) }
-    {
-        match self.marked.plan().kind(event) {
-            Kind::Put { key, .. } => self.add_put(found, event, key),
-            Kind::Get { .. } | Kind::GetNow { .. } | Kind::Commit | Kind::Fixed(_) => Ok(()),
-            Kind::Arrive { .. } | Kind::Leave { .. } | Kind::UnpublishAll => Ok(()),
-            Kind::Publish { .. } | Kind::Unpublish { .. } => Ok(()),
-            Kind::Lookup { .. } | Kind::LookupWait { .. } => Ok(()),
-        }
-    }
-
     /// Adds what an event of the plan breaks.
     fn add_event(&self, found: &mut UnportableList, event: Event) -> Result<(), AllocError>
         requires { event.at < event_count (plan_in self.now) event.proc.number }
         ensures { OnOk result (AddsUnportable found.old found.new (λ library. IsEventFine self.now library (event_of event))) }
     {
-        self.add_again(found, event)?;
-        add_fence(self.marked, self.spelling, self.sets, found, event)?;
-        self.add_call(found, event)
+        match self.marked.plan().kind(event) {
+            Kind::Put { key, .. } => self.add_put(found, event, key),
+            Kind::Arrive { .. } => add_fence(self.marked, self.spelling, self.sets, found, event),
+            Kind::Get { .. }
+            | Kind::GetNow { .. }
+            | Kind::Fixed(_)
+            | Kind::Publish { .. }
+            | Kind::Unpublish { .. }
+            | Kind::UnpublishAll => self.add_call(found, event),
+            Kind::Commit | Kind::Leave { .. } => Ok(()),
+            Kind::Lookup { .. } | Kind::LookupWait { .. } => Ok(()),
+        }
     }
 
     /// Adds what the events of a process break.
@@ -499,14 +520,25 @@ fn gets_of(
     marked: &MarkedPlan<'_>,
     anywhere: bool,
 ) -> Result<Option<GetTable>, AllocError>
-    ensures { IfOk result (λ gets. MatchOption gets (Unit {0}) (λ g. (g.together ≡ anywhere)
-        × AreGetLists anywhere (plan_of marked.now) g × AreFirst (plan_of marked.now) g)) }
+    ensures { IfOk result (λ gets. MatchOption gets (Unit {0}) (λ g. IsGetTable anywhere (plan_of marked.now) g)) }
 {
     if !asks_for_gets(judge) {
         return Ok(None);
     }
     let gets = GetTable::of(alloc, marked, anywhere)?;
     Ok(Some(gets))
+}
+
+/// What processes hear of each other, for gets beside get-nows.
+fn hearing_of(
+    alloc: Global,
+    marked: &MarkedPlan<'_>,
+    gets: Option<&GetTable>,
+) -> Result<Hearing, AllocError> {
+    match gets {
+        Some(table) => table.hearing(alloc, marked.plan()),
+        None => Ok(Hearing::empty(alloc)),
+    }
 }
 
 /// The lines of a plan, on its nodes or wherever its processes are.
@@ -524,12 +556,14 @@ fn lines_of(
     let _ = marked.plan().scripts();
     let judge = Judge::of(alloc, marked)?;
     let gets = gets_of(alloc, &judge, marked, anywhere)?;
+    let hearing = hearing_of(alloc, marked, gets.as_ref())?;
     let sets = SetTable::of(alloc, marked, spelling)?;
     let stuck = stuck_lookups(alloc, marked, settled)?;
     let search = Search {
         marked,
         judge: &judge,
         gets: gets.as_ref(),
+        hearing: &hearing,
         sets: &sets,
         spelling,
         settled,

@@ -13,11 +13,11 @@ use crate::coming::{Coming, SpeltFence, count_one, spelt_number};
 use crate::fences::SetTable;
 use crate::libraries::Libraries;
 use crate::listed::{Rule, Unportable, UnportableList};
-use crate::spelling::Spelling;
 use std::alloc::{AllocError, Global};
 use std::collections::HashMap;
 use wire_happens_before::MarkedPlan;
 use wire_plan::{Kind, Plan};
+use wire_spelling::Spelling;
 use wire_types::{CallAt, Event, Proc};
 
 /// What is known of the calls of a fence that spell its set alike.

@@ -11,15 +11,26 @@ ghost use Rattle.wire_library_laws.specs.Portable.{IsPortableNow};
 ghost use Rattle.wire_portable.specs.Judging.{NoRewrites};
 ghost use Rattle.wire_portable.specs.Libraries.{family_of, has};
 ghost use Rattle.wire_portable.specs.Nows.{IsLiveNow, AreListedGets, AreForReaders, AreGetsOf, IsStoreAway, IsSureNow};
-ghost use Rattle.wire_portable.specs.Nows.{IsGotAmong, AreOfFence, HasMate, HasLeft, HasArrived, IsLeftThere, IsLeft};
+ghost use Rattle.wire_portable.specs.Nows.{IsGotAmong, AreOfFence, HasJobMember, HasLeft, HasArrived, IsLeftThere, IsLeft};
 ghost use Rattle.wire_portable.specs.declared.libraries.Library.{Library as L};
 
+use crate::gets::GetTable;
+use crate::hearing::Hearing;
 use crate::jobs::job_of;
 use crate::judge::{Judge, Key};
 use crate::libraries::Libraries;
 use crate::nows::{end_of, fence_may_bring, gets_may_bring, has_got, store_away};
 use wire_fates::{KeyRead, all_arrivals, comes_surely, next_arrival};
 use wire_types::{Event, Proc};
+
+/// The gets of an owner's keys that are made where a get-now is, in process order, with their table and what processes hear
+/// of each other.
+#[derive(Clone, Copy)]
+pub(crate) struct Beside<'a> {
+    pub gets: &'a [Event],
+    pub table: Option<&'a GetTable>,
+    pub hearing: &'a Hearing,
+}
 
 /// Whether one of these gets, from this place on, is of a key that comes no earlier than this commit, and before a
 /// get-now.
@@ -35,24 +46,71 @@ fn is_got_from(judge: &Judge<'_>, gets: &[Event], get: Event, store: Event, from
     false
 }
 
-/// Whether one of these gets, in process order, is of a key that comes no earlier than this commit, and before a get-now.
-/// Mostly it is one of the get-now's own process, if any.
-fn is_got(judge: &Judge<'_>, gets: &[Event], get: Event, store: Event) -> bool
+/// Whether one of these gets, in process order, that this process makes is of such a key, and before a get-now.
+fn is_got_by(judge: &Judge<'_>, gets: &[Event], get: Event, store: Event, reader: Proc) -> bool
     requires { (owner : ℕ) × AreGetsOf (plan_of judge.now) owner (map event_of gets.now) }
     ensures { IsTrue result → IsGotAmong (plan_of judge.now) store.at (event_of get) (map event_of gets.now) }
 {
-    let own = gets.partition_point(|other| other.proc.number < get.proc.number);
-    if is_got_from(judge, gets, get, store, own) {
+    let mut place = gets.partition_point(|other| other.proc.number < reader.number);
+    'gets: while place < gets.len() {
+        let other = gets[place];
+        if other.proc.number != reader.number {
+            return false;
+        }
+        if has_got(judge, get, store, other) {
+            return true;
+        }
+        place += 1;
+    }
+    false
+}
+
+/// The process of a get of an earlier phase that may have brought the key: it is before the get-now.
+fn earlier_reader(judge: &Judge<'_>, beside: Beside<'_>, get: Event, store: Event) -> Option<Proc>
+    requires { get.proc.number < process_count (plan_of judge.now) }
+{
+    match beside.table {
+        Some(table) => table.earlier_reader(&judge.marked(), get, store),
+        None => None,
+    }
+}
+
+/// Whether a get of its phase that another process makes may be before a get-now.
+fn has_heard(beside: Beside<'_>, get: Event) -> bool {
+    match beside.table {
+        Some(table) => table.has_heard(beside.hearing, get),
+        None => true,
+    }
+}
+
+/// Whether one of these gets, in process order, is of a key that comes no earlier than this commit, and before a get-now:
+/// one of the get-now's own process, or of an earlier phase; or any of them, where its process has heard of another one in
+/// its phase.
+fn is_got(judge: &Judge<'_>, beside: Beside<'_>, get: Event, store: Event) -> bool
+    requires there { get.proc.number < process_count (plan_of judge.now) }
+    requires gets { (owner : ℕ) × AreGetsOf (plan_of judge.now) owner (map event_of beside.gets.now) }
+    ensures { IsTrue result → IsGotAmong (plan_of judge.now) store.at (event_of get) (map event_of beside.entry.gets.now) }
+{
+    let gets = beside.gets;
+    if is_got_by(judge, gets, get, store, get.proc) {
         return true;
+    }
+    if let Some(reader) = earlier_reader(judge, beside, get, store) {
+        if is_got_by(judge, gets, get, store, reader) {
+            return true;
+        }
+    }
+    if !has_heard(beside, get) {
+        return false;
     }
     is_got_from(judge, gets, get, store, 0)
 }
 
 /// Whether a process on a get-now's node, one of those that arrive, is of the owner's job.
-fn has_mate(judge: &Judge<'_>, arrivals: &[Event], get: Event, owner: Proc) -> bool
+fn has_job_member(judge: &Judge<'_>, arrivals: &[Event], get: Event, owner: Proc) -> bool
     requires get { get.proc.number < process_count (plan_of judge.now) }
     requires fence { AreOfFence (plan_of judge.now) (map event_of arrivals.now) }
-    ensures { IsTrue result → HasMate (plan_of judge.now) (job_at judge.now.processes) owner.number (node_of (plan_of judge.now) get.proc.number)
+    ensures { IsTrue result → HasJobMember (plan_of judge.now) (job_at judge.now.processes) owner.number (node_of (plan_of judge.now) get.proc.number)
         (map event_of arrivals.now) }
 {
     let plan = judge.plan();
@@ -130,9 +188,9 @@ pub(crate) fn has_arrived(arrivals: &[Event], get: Event) -> bool
     }
 }
 
-/// Whether some process on a get-now's node has left the fence of these arrivals before it, and some member there is of
-/// the owner's job. Mostly the get-now's own process is both, and then the others needn't be looked at.
-fn is_left_there(judge: &Judge<'_>, arrivals: &[Event], get: Event, asked: Key) -> bool
+/// Whether a get-now's own process has left the fence of these arrivals before it, and is of the owner's job: mostly so,
+/// and then the others needn't be looked at.
+fn is_left_itself(judge: &Judge<'_>, arrivals: &[Event], get: Event, asked: Key) -> bool
     requires get { IsLiveNow (plan_of judge.now) asked.owner.number asked.key (event_of get) }
     requires fence { AreOfFence (plan_of judge.now) (map event_of arrivals.now) }
     ensures { IsTrue result → IsLeftThere (plan_of judge.now) (job_at judge.now.processes) asked.owner.number
@@ -147,7 +205,18 @@ fn is_left_there(judge: &Judge<'_>, arrivals: &[Event], get: Event, asked: Key) 
             return true;
         }
     }
-    if !has_mate(judge, arrivals, get, asked.owner) {
+    false
+}
+
+/// Whether some process on a get-now's node has left the fence of these arrivals before it, and some member there is of
+/// the owner's job.
+fn is_left_there(judge: &Judge<'_>, arrivals: &[Event], get: Event, asked: Key) -> bool
+    requires get { IsLiveNow (plan_of judge.now) asked.owner.number asked.key (event_of get) }
+    requires fence { AreOfFence (plan_of judge.now) (map event_of arrivals.now) }
+    ensures { IsTrue result → IsLeftThere (plan_of judge.now) (job_at judge.now.processes) asked.owner.number
+        (node_of (plan_of judge.now) get.proc.number) (event_of get) (map event_of arrivals.now) }
+{
+    if !has_job_member(judge, arrivals, get, asked.owner) {
         return false;
     }
     has_left(judge, arrivals, get)
@@ -169,10 +238,14 @@ fn is_left(judge: &Judge<'_>, get: Event, asked: Key) -> bool
         let Some(arrival) = next_arrival(plan, asked.owner, asked.key, node, from) else {
             return false;
         };
+        let arrivals = all_arrivals(plan, arrival);
+        if is_left_itself(judge, arrivals, get, asked) {
+            return true;
+        }
         if !marked.before(arrival, get) {
             return false;
         }
-        if is_left_there(judge, all_arrivals(plan, arrival), get, asked) {
+        if is_left_there(judge, arrivals, get, asked) {
             return true;
         }
         from = arrival.at + 1;
@@ -180,29 +253,48 @@ fn is_left(judge: &Judge<'_>, get: Event, asked: Key) -> bool
     false
 }
 
+/// The libraries that don't surely have a key where a get-now is by a fence that a process of its node has left: those in
+/// which fences don't bring.
+fn left_alone(judge: &Judge<'_>, get: Event, asked: Key) -> Libraries
+    requires { IsLeft (plan_of judge.now) (job_at judge.now.processes) asked.owner.number asked.key
+        (node_of (plan_of judge.now) get.proc.number) (event_of get) }
+    ensures { (library : L) (words : Words) → words.job ≡ job_at judge.now.processes → has result library ≡ false →
+        IsSureNow (family_of library) words (plan_of judge.now) asked.owner.number asked.key (event_of get) }
+{
+    // Only the proof asks which plan, get and key it is.
+    let _ = judge;
+    let _ = get;
+    let _ = asked;
+    Libraries::only_v5()
+}
+
 /// The libraries that don't surely have a key where a get-now is, though a process of its node has left a fence that
 /// brings it: those in which fences don't bring, where no get has brought it either.
-fn unsure_left(judge: &Judge<'_>, gets: &[Event], get: Event, asked: Key, store: Event) -> Libraries
+fn unsure_left(
+    judge: &Judge<'_>,
+    beside: Beside<'_>,
+    get: Event,
+    asked: Key,
+    store: Event,
+) -> Libraries
     requires get { IsLiveNow (plan_of judge.now) asked.owner.number asked.key (event_of get) }
-    requires gets { AreListedGets false (plan_of judge.now) asked.owner.number (event_of get) (map event_of gets.now) }
+    requires gets { AreListedGets false (plan_of judge.now) asked.owner.number (event_of get) (map event_of beside.gets.now) }
     requires store { IsStoreAway (plan_of judge.now) asked.owner asked.key store }
     requires left { IsLeft (plan_of judge.now) (job_at judge.now.processes) asked.owner.number asked.key
         (node_of (plan_of judge.now) get.proc.number) (event_of get) }
     ensures { (library : L) (words : Words) → words.job ≡ job_at judge.now.processes → has result library ≡ false → NoRewrites (plan_of judge.now) →
         IsSureNow (family_of library) words (plan_of judge.now) asked.owner.number asked.key (event_of get) }
 {
-    // Only the proof asks whose key it is.
-    let _ = asked;
-    if is_got(judge, gets, get, store) {
+    if is_got(judge, beside, get, store) {
         return Libraries::none();
     }
-    Libraries::only_v5()
+    left_alone(judge, get, asked)
 }
 
 /// The libraries that don't surely have a key where a get-now is, though something may have brought it.
-fn unsure(judge: &Judge<'_>, gets: &[Event], get: Event, asked: Key, store: Event) -> Libraries
+fn unsure(judge: &Judge<'_>, beside: Beside<'_>, get: Event, asked: Key, store: Event) -> Libraries
     requires get { IsLiveNow (plan_of judge.now) asked.owner.number asked.key (event_of get) }
-    requires gets { AreListedGets false (plan_of judge.now) asked.owner.number (event_of get) (map event_of gets.now) }
+    requires gets { AreListedGets false (plan_of judge.now) asked.owner.number (event_of get) (map event_of beside.gets.now) }
     requires store { IsStoreAway (plan_of judge.now) asked.owner asked.key store }
     ensures { (library : L) (words : Words) → words.job ≡ job_at judge.now.processes → has result library ≡ false → NoRewrites (plan_of judge.now) →
         IsSureNow (family_of library) words (plan_of judge.now) asked.owner.number asked.key (event_of get) }
@@ -216,7 +308,7 @@ fn unsure(judge: &Judge<'_>, gets: &[Event], get: Event, asked: Key, store: Even
     let marked = judge.marked();
     let node = plan.node_of(get.proc);
     let all = Libraries::all();
-    if !is_got(judge, gets, get, store) {
+    if !is_got(judge, beside, get, store) {
         return all;
     }
     if comes_surely(&marked, read, node) {
@@ -225,14 +317,24 @@ fn unsure(judge: &Judge<'_>, gets: &[Event], get: Event, asked: Key, store: Even
     all
 }
 
+/// Whether a get where a get-now is may have brought a key that this commit stores.
+fn is_brought(judge: &Judge<'_>, table: Option<&GetTable>, get: Event, store: Event) -> bool
+    requires { get.proc.number < process_count (plan_of judge.now) }
+{
+    match table {
+        Some(table) => table.is_brought(&judge.marked(), get, store),
+        None => true,
+    }
+}
+
 /// The libraries on which a get-now of another node may see what it doesn't see by the rules, or the other way round;
-/// given the gets of the owner's keys from its node.
-pub(crate) fn far_now(judge: &Judge<'_>, gets: &[Event], get: Event, asked: Key) -> Libraries
+/// given the gets of the owner's keys from its node, and their table.
+pub(crate) fn far_now(judge: &Judge<'_>, beside: Beside<'_>, get: Event, asked: Key) -> Libraries
     requires get { IsLiveNow (plan_of judge.now) asked.owner.number asked.key (event_of get) }
     requires far { same_node (plan_of judge.now) asked.owner.number get.proc.number ≡ false }
-    requires gets { AreListedGets false (plan_of judge.now) asked.owner.number (event_of get) (map event_of gets.now) }
+    requires gets { AreListedGets false (plan_of judge.now) asked.owner.number (event_of get) (map event_of beside.gets.now) }
     ensures { (library : L) (words : Words) → words.job ≡ job_at judge.now.processes → has result library ≡ false → NoRewrites (plan_of judge.now) →
-        AreForReaders (plan_of judge.now) asked.owner.number (map event_of gets.now) →
+        AreForReaders (plan_of judge.now) asked.owner.number (map event_of beside.entry.gets.now) →
         IsPortableNow (family_of library) words (plan_of judge.now) asked.owner.number asked.key (event_of get) }
 {
     let plan = judge.plan();
@@ -241,13 +343,16 @@ pub(crate) fn far_now(judge: &Judge<'_>, gets: &[Event], get: Event, asked: Key)
         return Libraries::none();
     };
     if is_left(judge, get, asked) {
-        return unsure_left(judge, gets, get, asked, store);
+        if !is_brought(judge, beside.table, get, store) {
+            return left_alone(judge, get, asked);
+        }
+        return unsure_left(judge, beside, get, asked, store);
     }
     if fence_may_bring(judge, get, asked, node) {
-        return unsure(judge, gets, get, asked, store);
+        return unsure(judge, beside, get, asked, store);
     }
-    if gets_may_bring(judge, gets, get, asked, store) {
-        return unsure(judge, gets, get, asked, store);
+    if gets_may_bring(judge, beside.gets, get, asked, store) {
+        return unsure(judge, beside, get, asked, store);
     }
     Libraries::none()
 }

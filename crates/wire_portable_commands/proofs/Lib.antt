@@ -4,4 +4,3 @@ pub mod SpelledLines
 pub mod SpellingCame
 pub mod Blames
 pub mod Settled
-pub mod Copied

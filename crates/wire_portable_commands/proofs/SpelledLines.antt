@@ -1,9 +1,9 @@
 -- The lines of a text, as the reader of scripts takes them and as the reader of spellings does.
-use Rattle.std.proofs.Common.{◌≡◌, ℕ, zero, suc, ◌+◌, ◌-◌, ◌<◌, ◌≤◌, ◌⊎◌, inl, inr, List, [], ◌∷◌, ◌++◌, Bool, true, false, cond, Option, Some, None, Result, Ok, Err, IsTrue, refl, sym, ap, ◌∙◌, subst, arith, map, length}
-use Rattle.std.specs.Prelude.{slice_get, slice_index_or, MatchResult, not, nat_lt, ◌&&◌, ◌||◌}
-use Rattle.std.proofs.lemmas.Bool.{cases_Bool, true≢false, ltb-true}
+use Rattle.std.proofs.Common.{◌≡◌, ℕ, zero, suc, ◌+◌, ◌-◌, ◌<◌, ◌⊎◌, inl, inr, List, [], ◌∷◌, ◌++◌, Bool, true, false, cond, Option, Some, None, Result, Ok, Err, refl, sym, ap, ◌∙◌, subst, arith, map, length}
+use Rattle.std.specs.Prelude.{slice_get, slice_index_or, MatchResult, not, ◌&&◌, ◌||◌}
+use Rattle.std.proofs.lemmas.Bool.{true≢false, ltb-true}
 use Rattle.std.proofs.lemmas.List.{append-nil, map_push}
-use Rattle.std.proofs.lemmas.Option.{none-some, same_Some, slice_get_within}
+use Rattle.std.proofs.lemmas.Option.{none-some, same_Some}
 use Rattle.std.proofs.Common.{append_assoc}
 use Rattle.wire_types.specs.declared.Fault.{Fault}
 use Rattle.wire_types.specs.declared.Fault.TheVariants.{TooLong, BadLine, UnknownName, Twice, TooMany}
@@ -13,14 +13,14 @@ use Rattle.wire_types.specs.declared.Call.{Call as Written}
 use Rattle.wire_types.specs.declared.Call.TheVariants as written
 use Rattle.wire_types.specs.Said as said
 use Rattle.wire_lines.specs.Text.{lines_of, words_of}
-use Rattle.wire_scripts.specs.Map.{job_at, job_in as job_of}
+use Rattle.wire_scripts.specs.Map.{job_in as job_of}
 use Rattle.wire_scripts.specs.Process.{Process}
-use Rattle.wire_scripts.specs.Scripts.{Scripts, calls_in as calls_of, call_at, text_at}
+use Rattle.wire_scripts.specs.Scripts.{Scripts, calls_in as calls_of, text_at}
 use Rattle.wire_reader.specs.declared.limits.Size.{Size}
 use Rattle.wire_reader.specs.FirstPass.{Name, Started, Declared, nothing, after, judged, is_in_place, is_short, is_known, is_again, has_room, with_call, Judges, JudgesAll, FirstPass}
-use Rattle.wire_reader.specs.Reads.{Reads, ReadsShort, Seen, seen_in, numbered, process_of, scripts_of, second_pass, first_fault, unless_fault}
+use Rattle.wire_reader.specs.Reads.{Seen, seen_in, numbered, process_of, scripts_of, second_pass, first_fault, unless_fault}
 use Rattle.wire_reader.specs.Statements.{Statement, is_skipped, statements_from, statements}
-use Rattle.wire_portable.specs.Spelling.{SaidOfCalls, SpelledSet, CallRows, Nothing, Rank, Job, Call, at_call, calls_in, calls_with, calls_of_text, is_note, is_header, job_after, no_calls, of_job, said_of, said_with, set_in, spelled_sets}
+use Rattle.wire_spelling.specs.Spelling.{SaidOfCalls, SpelledSet, CallRows, Nothing, Rank, Job, Call, calls_in, calls_with, is_note, is_header, job_after, no_calls, of_job, said_of, spelled_sets}
 use Rattle.wire_portable_commands.specs.SpelledCalls.{AreSpelledIn, CallsAreSpelled}
 
 abbrev Row : Type 0

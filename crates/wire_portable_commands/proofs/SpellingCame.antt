@@ -9,8 +9,8 @@ use Rattle.wire_types.specs.Forms.{has_places}
 use Rattle.wire_reader.specs.declared.Size.{Size}
 use Rattle.wire_reader.specs.Limits.{file_bytes}
 use Rattle.wire_reader.specs.Reads.{Reads}
-use Rattle.wire_portable.specs.declared.spelling.Spelt.{Spelt}
-use Rattle.wire_portable.specs.Spelling.{AreSetsNumbered, spelled_sets}
+use Rattle.wire_spelling.specs.declared.spelling.Spelt.{Spelt}
+use Rattle.wire_spelling.specs.Spelling.{AreSetsNumbered, spelled_sets}
 use Rattle.wire_command.specs.Answer.{AreRows, ReadIn}
 use Rattle.wire_command.specs.Read.{Refuses}
 use Rattle.wire_command.proofs.Came.{refuses}

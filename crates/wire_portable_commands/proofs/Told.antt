@@ -1,6 +1,5 @@
 -- From what is found, and the calls by which the plan isn't portable, to what the command tells of libraries.
-use Rattle.std.proofs.Common.{◌≡◌, ◌∙◌, ◌==◌, ◌<◌, sym, refl, ap, subst, ℕ, zero, suc, List, [], ◌∷◌, length, arith, Bool, false, true, not, ◌||◌, Option, Some, Result, Ok, Err, IfOk}
-use Rattle.std.specs.Prelude.{slice_get, if◌then◌else◌}
+use Rattle.std.proofs.Common.{◌≡◌, ◌∙◌, ◌==◌, sym, refl, subst, ℕ, zero, suc, List, [], ◌∷◌, length, arith, Bool, false, true, not, ◌||◌, Option, Result, Ok, Err, IfOk}
 use Rattle.std.proofs.lemmas.Bool.{eqb-true, true≢false}
 use Rattle.std.proofs.lemmas.Option.{none-some, same_Some}
 use Rattle.wire_types.specs.declared.Fault.{Fault}
@@ -19,9 +18,8 @@ use Rattle.wire_portable.specs.declared.libraries.Libraries.{Libraries}
 use Rattle.wire_portable.specs.declared.libraries.Library.{Library}
 use Rattle.wire_portable.specs.declared.libraries.Library.TheVariants.{V4, V5, V7}
 use Rattle.wire_portable.specs.declared.listed.Unportable.{Unportable}
-use Rattle.wire_portable.specs.declared.spelling.Spelt.{Spelt}
+use Rattle.wire_spelling.specs.declared.spelling.Spelt.{Spelt}
 use Rattle.wire_reader.specs.declared.Size.{Size}
-use Rattle.wire_command.specs.Answer.{ReadIn}
 use Rattle.wire_command.specs.declared.ended.Ended.{Ended}
 use Rattle.wire_command.specs.declared.ended.Ended.TheVariants.{Clean, Found}
 use Rattle.wire_portable_commands.specs.CheckPortable.{KeepsRules, KeepsRulesOn, IsVerdictOn, TellsLibraries, IsPortableVerdict, HasOneEndOn, EndsOnLibraries, ended_beside}

@@ -11,15 +11,15 @@ use Rattle.wire_runs.specs.Placings.{IsPlacing}
 use Rattle.wire_library_laws.specs.Library.{Family, Words, Moment, told, completed, IsLibraryRun, IsLibraryEnd}
 use Rattle.wire_library_laws.specs.Promised.{IsByRules}
 use Rattle.wire_portable.specs.Libraries.{family_of, has}
-use Rattle.wire_portable.specs.Spelling.{AreSetsNumbered, spelled_sets}
+use Rattle.wire_spelling.specs.Spelling.{AreSetsNumbered, spelled_sets}
 use Rattle.wire_portable.specs.Unportable.{AreUnportableOn}
 use Rattle.wire_portable.specs.Words.{words_of}
 use Rattle.wire_portable.specs.declared.libraries.Library.{Library}
 use Rattle.wire_portable.specs.declared.listed.Unportable.{Unportable}
-use Rattle.wire_portable.specs.declared.spelling.Spelt.{Spelt}
+use Rattle.wire_spelling.specs.declared.spelling.Spelt.{Spelt}
 use Rattle.wire_reader.specs.declared.Size.{Size}
 use Rattle.wire_command.specs.declared.ended.Ended.{Ended}
-use Rattle.wire_command.specs.declared.ended.Ended.TheVariants.{Clean, Found}
+use Rattle.wire_command.specs.declared.ended.Ended.TheVariants.{Found}
 use Rattle.wire_commands.specs.Check.{IsVerdict}
 use Rattle.wire_commands.specs.CheckAnywhere.{IsVerdictAnywhere}
 use Rattle.wire_command.specs.Read.{ReadAs}

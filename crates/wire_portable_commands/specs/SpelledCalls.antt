@@ -5,7 +5,7 @@ use Rattle.wire_scripts.specs.Map.{job_at}
 use Rattle.wire_scripts.specs.Scripts.{Scripts, call_at, text_at}
 use Rattle.wire_reader.specs.declared.limits.Size.{Size}
 use Rattle.wire_reader.specs.Reads.{Reads}
-use Rattle.wire_portable.specs.Spelling.{SpelledSet, at_call, spelled_sets}
+use Rattle.wire_spelling.specs.Spelling.{SpelledSet, at_call, spelled_sets}
 
 -- each call of a fence spells a set, being one of the caller's job, and no other call does
 pub record AreSpelledIn (s : Scripts) (sets : List (List (Option SpelledSet))) : Type 0 where

@@ -13,7 +13,7 @@ ghost use Rattle.wire_portable_commands.specs.CheckPortable.{EndsOnLibraries, Is
 
 use crate::reading::read_spelled;
 use crate::text::tell_libraries;
-use std::alloc::{AllocError, Global};
+use std::alloc::Global;
 use std::thread::Threads;
 use wire_anywhere::find_anywhere;
 use wire_anywhere::laws::settled_exactly as settled_anywhere_exactly;
@@ -22,13 +22,12 @@ use wire_commands::{answer_findings, answer_found};
 use wire_happens_before::{HappensBefore, MarkedPlan};
 use wire_library_laws::laws::{ends_by_rules, library_one_end, portable_there, refines};
 use wire_plan::Plan;
-use wire_portable::{
-    Spelling, Unportable, UnportableList, find_unportable, find_unportable_anywhere,
-};
+use wire_portable::{UnportableList, find_unportable, find_unportable_anywhere};
 use wire_races::finding_list;
 use wire_races::laws::settled_exactly;
 use wire_report::SourceLines;
 use wire_scripts::Scripts;
+use wire_spelling::Spelling;
 use wire_types::{Fault, Sink, Source};
 
 /// How the command is to work, and whether on every placement of the ranks.
@@ -196,20 +195,6 @@ fn judge_anywhere(
     Ok(Judged { told, lines })
 }
 
-/// The list of these calls.
-fn list_of(alloc: Global, lines: &UnportableList) -> Result<Vec<Unportable>, AllocError>
-    ensures { IfOk result (λ list. list.items ≡ lines.now) }
-{
-    let mut list = Vec::with_capacity(alloc, lines.len())?;
-    for number in 0..lines.len() {
-        let Some(line) = lines.get(number) else {
-            unreachable!();
-        };
-        list.push(line)?;
-    }
-    Ok(list)
-}
-
 /// How the check ends: as that of the findings, or where calls are blamed with so many.
 fn ended_beside(ended: Ended, count: usize) -> Ended
     ensures { result ≡ spec.ended_beside ended count }
@@ -236,14 +221,13 @@ fn tell(
 {
     let Judged { told, lines } = judged;
     let Answer { mut text, ended } = told;
-    let list = list_of(alloc, &lines)?;
-    tell_libraries(alloc, &mut text, scripts, judging.telling, list.as_slice())?;
+    tell_libraries(alloc, &mut text, scripts, judging.telling, lines.as_slice())?;
     refines();
     ends_by_rules();
     library_one_end();
     portable_there();
     Ok(Answer {
         text,
-        ended: ended_beside(ended, list.len()),
+        ended: ended_beside(ended, lines.len()),
     })
 }

@@ -14,9 +14,9 @@ ghost use Rattle.wire_portable_commands.specs.Read.{AreLinesIn};
 use std::alloc::Global;
 use std::thread::Threads;
 use wire_command::{CommandOptions, read_up_to};
-use wire_portable::{Spelling, read_spelling};
 use wire_reader::{Size, read_located_shared, read_shared};
 use wire_scripts::Scripts;
+use wire_spelling::{Spelling, read_spelling};
 use wire_types::{Fault, OutputFormat, Source};
 
 /// The scripts in the bytes of a file, and what an answer in this form tells of the lines of their calls: none in a form

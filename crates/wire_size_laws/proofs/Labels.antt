@@ -130,7 +130,7 @@ key_in_up r stages (Some role) (Some l) leave v =
     let s = stages role l.step l.line leave in
     let a = counted_up r s.first v l.each in
     let b = counted_up r s.second v l.each in
-    λ t. record { one = s.stage; two = a t; three = b t; four = s.place }
+    λ t. record { one = s.stage; two = a t; three = b t; four = s.position }
 
 module _ (pattern : Pattern) (coding : Coding) (cast : Cast) (r role : ℕ) (can : CanGo pattern cast r role) where
   abbrev to : Renaming

@@ -54,12 +54,12 @@ counted ByOther v e = suc e
 counted ByLower v e = suc (if nat_lt v e then v else e)
 counted ByHigher v e = suc (if nat_lt v e then e else v)
 
--- the stage of a line; by which processes the turns of this stage come in order; and the place of the line in a turn
+-- the stage of a line; by which processes the turns of this stage come in order; and the position of the line in a turn
 pub record Stage : Type 0 where
   pub stage : ℕ
   pub first : By
   pub second : By
-  pub place : ℕ
+  pub position : ℕ
 
 -- of each role, step and line its stage, and that of leaving its fence
 abbrev pub Stages : Type 0
@@ -72,7 +72,7 @@ pub record StageKey : Type 0 where
   pub four : ℕ
 
 abbrev pub key_at : Stage → ℕ → ℕ → StageKey
-key_at s v e = record { one = s.stage; two = counted s.first v e; three = counted s.second v e; four = s.place }
+key_at s v e = record { one = s.stage; two = counted s.first v e; three = counted s.second v e; four = s.position }
 
 abbrev pub is_leave : Option Kind → Bool
 is_leave (Some (Leave members)) = true

@@ -29,17 +29,19 @@ def is_made_before_end(
 ) -> bool:
     """Whether a call surely comes before the end of an application: before that of one of its
     processes."""
-    own = [it for it in draft.lines[line.process] if it.is_of_program]
+    own = [each_line for each_line in draft.lines[line.process] if each_line.is_of_program]
     number, name = own.index(line) + 1, line.process.name
     return any(
-        known[it].get(name, 0) >= number for it in known if it.application == application
+        known[process].get(name, 0) >= number
+        for process in known
+        if process.application == application
     )
 
 
 def note_applications(draft: Draft, part: Part, notes: Notes) -> None:
     """Notes the names of a part of a draft that may be gone when another application looks them
     up."""
-    foreign = [them for it in find_uses(part).values() if (them := [*find_foreign(it)])]
+    foreign = [them for uses in find_uses(part).values() if (them := [*find_foreign(uses)])]
     known = find_known_at_end(draft) if foreign else {}
     notes.more_ordered[GONE] += sum(
         not all(

@@ -6,6 +6,13 @@ from typing import ClassVar, Union
 from wire_up_tools.words import VALUE_BYTES, is_word
 
 
+class Luck(enum.Enum):
+    """What is made of ends that another run may have found open."""
+
+    IS_TAKEN = "as ends of each run"
+    IS_LEFT_OUT = "as with --strict"
+
+
 class AnyRank(enum.Enum):
     """What stands in the place of a rank."""
 

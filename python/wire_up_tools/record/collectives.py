@@ -81,7 +81,9 @@ def find_collectives(processes: Processes, communicators: Communicators) -> Coll
     communicator."""
     notes, meetings, left_to_luck = Notes(), [], 0
     for of in find_calls(processes, communicators, notes).values():
-        left_to_luck += sum(it.is_left_to_luck for them in of.calls.values() for it in them)
+        left_to_luck += sum(
+            process.is_left_to_luck for them in of.calls.values() for process in them
+        )
         note_unfit_collectives(of.members, [*of.calls.values()], notes)
         met = join_alike(of, notes)
         meetings += met if len(of.members) > 1 else []
@@ -99,7 +101,7 @@ def find_awaited(own: Communicator, call: Call) -> Sequence[Process]:
         them = own.members[:own.rank]
     else:
         them = [own.peers[rank] for rank in end.sources if rank < len(own.peers)]
-    return [it for it in them if it is not process]
+    return [each_process for each_process in them if each_process is not process]
 
 
 def count_awaited(own: Communicator, call: Call) -> int:

@@ -16,10 +16,11 @@ from wire_up_tools.options import (
     describe,
     say_unusable,
 )
+from wire_up_tools.record.fresh_input import refuse_input
 from wire_up_tools.record.recordings import refuse_recordings
 from wire_up_tools.record.running import BY_SIGNAL, HANDED_ON, NotRun, Stopped
 from wire_up_tools.record.showing.asking import OPTIONS as OF_SHOWING
-from wire_up_tools.record.showing.asking import read_asked, refuse_input
+from wire_up_tools.record.showing.asking import read_asked
 from wire_up_tools.record.sizes.asking import asks_for_sizes, read_sizes_request
 from wire_up_tools.record.tasks import (
     CommandRequest,
@@ -153,8 +154,10 @@ def read_where_request(words: Sequence[str]) -> WhereRequest:
 
 def refuse_alike(output: Output) -> None:
     """Refuses two texts for one file. Raises Unusable."""
-    paths = [it for it in (output.plan, output.answers, output.pattern) if it]
-    files = [os.path.realpath(it) for it in paths if os.path.isfile(it) or not os.path.exists(it)]
+    paths = [text for text in (output.plan, output.answers, output.pattern) if text]
+    files = [
+        os.path.realpath(path) for path in paths if os.path.isfile(path) or not os.path.exists(path)
+    ]
     if len(set(files)) < len(files):
         raise Unusable("-o, --answers and --pattern each need a file of their own")
 
@@ -204,11 +207,11 @@ def read_request(words: Sequence[str]) -> Request:
 def split_runs(words: Sequence[str]) -> Sequence[Sequence[str]]:
     """The files of each run: each begins with `--from`, but for the first."""
     runs: list[list[str]] = [[]]
-    for it in words:
-        if it == FROM:
+    for word in words:
+        if word == FROM:
             runs.append([])
         else:
-            runs[-1].append(it)
+            runs[-1].append(word)
     return runs
 
 
@@ -219,9 +222,9 @@ def stop(number: int, _: FrameType | None) -> None:
 
 def catch_signals() -> None:
     """Lets signals end what is done, but for those that were ignored before."""
-    for it in HANDED_ON:
-        if signal.getsignal(it) != signal.SIG_IGN:
-            signal.signal(it, stop)
+    for signals in HANDED_ON:
+        if signal.getsignal(signals) != signal.SIG_IGN:
+            signal.signal(signals, stop)
 
 
 def main(words: Sequence[str], folder: str) -> int:
@@ -242,6 +245,7 @@ def main(words: Sequence[str], folder: str) -> int:
     except Refused as why:
         say(str(why))
     except Stopped as why:
+        say(f"ended by signal {why.number}")
         return BY_SIGNAL + why.number
     except OSError as why:
         say(explain(why))

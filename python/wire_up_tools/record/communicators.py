@@ -41,7 +41,7 @@ Communicators = Mapping[Process, Mapping[int, Communicator]]
 
 def find_worlds(processes: Processes) -> dict[bytes, dict[int, Process]]:
     """The processes of each job by their ranks in MPI_COMM_WORLD."""
-    worlds: dict[bytes, dict[int, Process]] = {it: {} for it in processes.jobs}
+    worlds: dict[bytes, dict[int, Process]] = {job: {} for job in processes.jobs}
     for process in processes.all:
         world = process.recording.world
         if world:
@@ -69,7 +69,10 @@ def describe(
     """What is the same of a communicator in all its processes, but for which one it is of those
     that are alike: where it comes from and its members, or its two sides."""
     if len(sides) > 1:
-        return ("inter", *sorted(sides, key=lambda them: [it.index for it in them]))
+        return (
+            "inter",
+            *sorted(sides, key=lambda them: [each_process.index for each_process in them]),
+        )
     parent = found.get(recorded.parent)
     return (parent.identity if parent else process.namespace, recorded.which, *sides)
 
@@ -100,4 +103,7 @@ def find_own(
 def find_communicators(processes: Processes) -> Communicators:
     """The communicators of each process by their numbers."""
     worlds, identities = find_worlds(processes), Identities()
-    return {it: find_own(it, worlds[it.namespace], identities) for it in processes.all}
+    return {
+        process: find_own(process, worlds[process.namespace], identities)
+        for process in processes.all
+    }

@@ -13,14 +13,14 @@ SETTLED = "since they can't change a finding"
 
 def has_early_gets(draft: Draft) -> bool:
     """Whether a get in a draft doesn't wait."""
-    return any(it.verb == "get-now" for them in draft.lines.values() for it in them)
+    return any(line.verb == "get-now" for them in draft.lines.values() for line in them)
 
 
 def settle_connecting(processes: Processes, draft: Draft, notes: Notes) -> None:
     """Says of the calls that start, connect or ask about the jobs of a draft that they change no
     finding, if that is so: each start made a job that is recorded; no get asks at once; there is
     one job."""
-    starts = count_starts(it.recording for it in processes.all)
+    starts = count_starts(process.recording for process in processes.all)
     settled = STARTING if starts < len(processes.jobs) else ()
     settled += CONNECTING if not has_early_gets(draft) else ()
     settled += ASKING if len(processes.jobs) == 1 and not starts else ()

@@ -58,12 +58,12 @@ def is_true(value: Value) -> bool:
 
 def has_directive(directives: Directives, *keys: bytes) -> bool:
     """Whether a call has one of the directives, and not as false."""
-    return any(it.key in keys and is_true(it.value) for it in directives)
+    return any(directive.key in keys and is_true(directive.value) for directive in directives)
 
 
 def is_to_wait(lookup: Lookup) -> bool:
     """Whether a lookup is to wait: for as many names as a number says, or for all."""
-    return any(it.key == WAIT and it.value != NO for it in lookup.directives)
+    return any(directive.key == WAIT and directive.value != NO for directive in lookup.directives)
 
 
 def gives_up(action: Action) -> bool:
@@ -74,8 +74,8 @@ def gives_up(action: Action) -> bool:
         return False
     if isinstance(action, Lookup) and not is_to_wait(action):
         return False
-    times = (it.value.seconds for it in action.directives if it.key == TIMEOUT)
-    return any(it is not None and 0 < it < LONG for it in times)
+    times = (directive.value.seconds for directive in action.directives if directive.key == TIMEOUT)
+    return any(time is not None and 0 < time < LONG for time in times)
 
 
 def is_usual_range(action: Action, of: Pair) -> bool:
@@ -110,7 +110,9 @@ def find_persistence(action: Action) -> int | None:
     didn't tell it: then it stays."""
     if not isinstance(action, Publish):
         return None
-    told = next((it.value for it in action.directives if it.key == PERSISTENCE), None)
+    told = next(
+        (directive.value for directive in action.directives if directive.key == PERSISTENCE), None
+    )
     if told is None:
         return OF_APPLICATION
     return UNTIL_UNPUBLISHED if told.kind is ValueKind.TYPE else told.number

@@ -146,7 +146,7 @@ class Draft:
 
 def make_draft(processes: Processes, parts: Sequence[Part]) -> Draft:
     """The draft of parts. Lines with the same `at` stand in the order of the parts."""
-    lines: dict[Process, list[Line]] = {it: [] for it in processes.all}
+    lines: dict[Process, list[Line]] = {process: [] for process in processes.all}
     awaited: dict[Line, Line] = {}
     meetings: dict[Line, Meeting] = {}
     for part in parts:
@@ -155,7 +155,7 @@ def make_draft(processes: Processes, parts: Sequence[Part]) -> Draft:
         awaited.update(part.awaited)
         meetings.update(part.meetings)
     for them in lines.values():
-        them.sort(key=lambda it: it.at)
+        them.sort(key=lambda each_line: each_line.at)
     return Draft(lines, awaited, meetings)
 
 

@@ -42,7 +42,7 @@ def read_file_call(groups: Groups) -> FileCall:
 
 def find_deleted(calls: Sequence[FileCall]) -> set[bytes]:
     """The names of the files that a process deletes."""
-    return {it.name for it in calls if it.how == DELETE}
+    return {call.name for call in calls if call.how == DELETE}
 
 
 def count_file_calls(calls: Sequence[FileCall], files: Files) -> tuple[Counter[str], Counter[str]]:
@@ -53,12 +53,12 @@ def count_file_calls(calls: Sequence[FileCall], files: Files) -> tuple[Counter[s
     others: Counter[str] = Counter()
     opened: set[bytes] = set()
     deleted = find_deleted(calls)
-    for it in calls:
-        is_deleted = files.deleting.get(it.name, 0) > (it.name in deleted)
-        is_new = it.name not in opened and it.changed >= files.start
-        if it.how != CREATE and (is_deleted or is_new):
-            of_luck[f"{FUNCTIONS[it.how]} {OF_ANOTHER}"] += 1
+    for call in calls:
+        is_deleted = files.deleting.get(call.name, 0) > (call.name in deleted)
+        is_new = call.name not in opened and call.changed >= files.start
+        if call.how != CREATE and (is_deleted or is_new):
+            of_luck[f"{FUNCTIONS[call.how]} {OF_ANOTHER}"] += 1
         else:
-            others[FUNCTIONS[it.how]] += 1
-        opened.add(it.name)
+            others[FUNCTIONS[call.how]] += 1
+        opened.add(call.name)
     return of_luck, others

@@ -10,7 +10,7 @@ from wire_up_tools.words import AWAITED
 
 def drop_floating(part: Part) -> None:
     """Takes the lines of such gets away."""
-    part.lines[:] = [it for it in part.lines if not is_floating(it.call)]
+    part.lines[:] = [line for line in part.lines if not is_floating(line.call)]
 
 
 def settle_floating(notes: Notes) -> Notes:

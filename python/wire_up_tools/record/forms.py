@@ -62,7 +62,10 @@ def decode(word: str) -> bytes:
     parts = re.split(r"%([0-9A-F]{2})", word)
     if any("%" in part for part in parts[::2]):
         raise ValueError(word)
-    return b"".join(bytes([int(it, 16)]) if n % 2 else it.encode() for n, it in enumerate(parts))
+    return b"".join(
+        bytes([int(each_part, 16)]) if n % 2 else each_part.encode()
+        for n, each_part in enumerate(parts)
+    )
 
 
 def decode_text(word: str) -> str:
@@ -111,7 +114,7 @@ def read_process_name(text: str) -> ProcessName:
 
 def read_process_names(text: str) -> tuple[ProcessName, ...]:
     """The processes of a list."""
-    return () if text == "none" else tuple(read_process_name(it) for it in text.split(","))
+    return () if text == "none" else tuple(read_process_name(part) for part in text.split(","))
 
 
 def read_ranks(text: str) -> Sequence[int]:
@@ -163,9 +166,9 @@ class Form:
 BEGINS = {
     "put": Form(
         re.compile(rf"put (local|remote|global|internal|other) ({WORD}) ({VALUE})"),
-        lambda it: calls.Put(it[0], decode(it[1]), read_value(it[2])),
+        lambda row: calls.Put(row[0], decode(row[1]), read_value(row[2])),
     ),
-    "commit": Form(re.compile(r"commit"), lambda it: calls.Commit()),
+    "commit": Form(re.compile(r"commit"), lambda item: calls.Commit()),
     "fence": Form(re.compile(rf"fence (blocks|nb|own) ({WORD}) ({WORD})"), read_fence),
     "group": Form(
         re.compile(rf"group (construct|destruct) :({WORD}) ({WORD}) ({WORD})"), read_group
@@ -175,19 +178,19 @@ BEGINS = {
     ),
     "publish": Form(
         re.compile(rf"publish (blocks|nb|own) ({WORD}) ({WORD})"),
-        lambda it: calls.Publish(Ending(it[0]), read_pairs(it[1]), read_pairs(it[2])),
+        lambda row: calls.Publish(Ending(row[0]), read_pairs(row[1]), read_pairs(row[2])),
     ),
     "lookup": Form(
         re.compile(rf"lookup (blocks|nb|own) (-|every|:{WORD}) ({WORD})"),
-        lambda it: calls.Lookup(Ending(it[0]), read_keys(it[1]), read_pairs(it[2])),
+        lambda row: calls.Lookup(Ending(row[0]), read_keys(row[1]), read_pairs(row[2])),
     ),
     "unpublish": Form(
         re.compile(rf"unpublish (blocks|nb|own) (-|every|:{WORD}) ({WORD})"),
-        lambda it: calls.Unpublish(Ending(it[0]), read_keys(it[1]), read_pairs(it[2])),
+        lambda row: calls.Unpublish(Ending(row[0]), read_keys(row[1]), read_pairs(row[2])),
     ),
     "collective": Form(
         re.compile(r"collective (\w+) (\d{1,9})"),
-        lambda it: calls.Collective(it[0], int(it[1])),
+        lambda row: calls.Collective(row[0], int(row[1])),
     ),
 }
 
@@ -205,7 +208,9 @@ MESSAGE_END = re.compile(rf"0 (-?\d{{1,9}}) (-?\d{{1,18}}) (-?\d{{1,18}})(?: {FO
 # No message came: the receive was cancelled, or it failed.
 NO_MESSAGE, FAILED = "1", "2"
 # How a message was found, as a recording says it.
-FINDS: dict[str | None, int] = {it.value: n for n, it in enumerate(FOUND_WAYS) if it}
+FINDS: dict[str | None, int] = {
+    found_by.value: n for n, found_by in enumerate(FOUND_WAYS) if found_by
+}
 
 
 def read_wanted(text: str | None, any_number: int) -> int:

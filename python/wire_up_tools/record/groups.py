@@ -55,7 +55,7 @@ class SortedInbox:
         if self.widened:
             return map(self.find_ask, range(len(self.asked)))
         own = self.own
-        return ((own.peers[it], own.tags[it]) for it in self.asked)
+        return ((own.peers[number], own.tags[number]) for number in self.asked)
 
     def has_other_size(self, stream: int, send: int, number: int) -> bool:
         """Whether a receive got a message of another size than one of a stream has."""
@@ -75,7 +75,7 @@ class SortedInbox:
         messages = self.find_sender(stream).recording.messages
         if messages.has_one_thread or self.streams.counts[stream] == 1:
             return True
-        return len({messages.threads[it] for it in self.sent.of_stream(stream)}) == 1
+        return len({messages.threads[number] for number in self.sent.of_stream(stream)}) == 1
 
 
 class Fit(enum.Enum):
@@ -126,13 +126,13 @@ class Group:
     def message_count(self) -> int:
         """How many messages there are."""
         counts = self.inbox.streams.counts
-        return sum(counts[it] for it in self.streams)
+        return sum(counts[stream] for stream in self.streams)
 
     @property
     def is_certain(self) -> bool:
         """Whether each receive gets the same message in every run: all are of one process."""
         sources = self.inbox.streams.sources
-        return len({sources[it] for it in self.streams}) < 2
+        return len({sources[stream] for stream in self.streams}) < 2
 
     @property
     def source(self) -> Process:
@@ -142,7 +142,7 @@ class Group:
     @property
     def is_from_any(self) -> bool:
         """Whether something was asked of any source."""
-        return any(self.inbox.find_ask(it).source == ANY_RANK for it in self.asked)
+        return any(self.inbox.find_ask(number).source == ANY_RANK for number in self.asked)
 
     @property
     def is_all(self) -> bool:
@@ -154,9 +154,9 @@ class Group:
         """Whether the program may have chosen the peer of a message by one that came before."""
         inbox = self.inbox
         return any(
-            it in chosen
+            stream in chosen
             for chosen in (inbox.chosen_sends, inbox.chosen_receives)
-            for it in (self.streams if chosen else ())
+            for stream in (self.streams if chosen else ())
         )
 
     def is_matched(self, is_cut: bool) -> bool:
@@ -168,7 +168,7 @@ class Group:
     def ends(self) -> Iterator[int]:
         """The lines at which the receives and probes ended."""
         inbox = self.inbox
-        return (inbox.own.ends[inbox.asked[it]] for it in self.asked)
+        return (inbox.own.ends[inbox.asked[number]] for number in self.asked)
 
     def pairs(self) -> Iterator[tuple[int, int]]:
         """The numbers of messages, and of the receives and probes that got them, of a certain
@@ -192,7 +192,7 @@ class Matching:
         self.receive_count = 0
         self.is_foreign, self.has_too_few = False, False
         self.of_other_size: set[int] = set()
-        self.threads = {inbox.own.threads[inbox.asked[it]] for it in asked}
+        self.threads = {inbox.own.threads[inbox.asked[number]] for number in asked}
         for index in asked:
             self.take(index)
 
@@ -234,7 +234,9 @@ class Matching:
     def finish(self, lacks: bool) -> Match:
         """What was found, where `lacks` says whether others that asked got nothing."""
         counts = self.inbox.streams.counts
-        is_any_left = sum(counts[it] for it in self.taken) > self.receive_count and not lacks
+        is_any_left = (
+            sum(counts[number] for number in self.taken) > self.receive_count and not lacks
+        )
         return Match(
             sends=self.sends,
             asked=self.asked,
@@ -246,5 +248,5 @@ class Matching:
 
 def match_pairs(inbox: SortedInbox, asked: Sequence[int]) -> Match:
     """Receives that each have the one message of a stream of their own."""
-    sends = array("I", (inbox.sent.find(inbox.got[it], 0) for it in asked))
+    sends = array("I", (inbox.sent.find(inbox.got[number], 0) for number in asked))
     return Match(sends, asked, len(asked), Fit.SURE, False)

@@ -36,22 +36,22 @@ class Horizon:
         """The groups of which a receive or probe can matter. Notes how many lines the others would
         have."""
         chosen, useless = [], 0
-        for it in groups:
-            if any(self.has_end(it.target, ends) for ends in it.ends()):
-                chosen.append(it)
+        for group in groups:
+            if any(self.has_end(group.target, ends) for ends in group.ends()):
+                chosen.append(group)
             else:
-                useless += len(it.asked)
+                useless += len(group.asked)
         note_useless(useless, notes)
         return chosen
 
     def choose(self, meetings: Sequence[JointCalls], notes: Notes) -> Sequence[JointCalls]:
         """The collectives that can matter. Notes how many lines the others would have."""
         chosen, useless = [], 0
-        for it in meetings:
-            if any(self.has(process, call.begins) for process, call in it.calls.items()):
-                chosen.append(it)
+        for meeting in meetings:
+            if any(self.has(process, call.begins) for process, call in meeting.calls.items()):
+                chosen.append(meeting)
             else:
-                useless += len(it.calls)
+                useless += len(meeting.calls)
         note_useless(useless, notes)
         return chosen
 
@@ -83,7 +83,7 @@ class Links:
     def find_first(self) -> dict[Process, int]:
         """The last line of each process at which it calls what can race, or brings what races."""
         last: dict[Process, int] = {}
-        for line in (it for part in self.program for it in part.lines):
+        for line in (each_line for part in self.program for each_line in part.lines):
             at = max(line.at, line.call.ends or line.at) if line.is_relevant else 0
             last[line.process] = max(last.get(line.process, 0), at)
         return last
@@ -94,8 +94,8 @@ class Links:
             for line, source in part.awaited.items():
                 yield Link(line.process, line.at, source.process, source.at)
             for line, meeting in part.meetings.items():
-                for it in meeting.lines:
-                    yield Link(line.process, line.at, it.process, it.at)
+                for each_line in meeting.lines:
+                    yield Link(line.process, line.at, each_line.process, each_line.at)
 
 
 def extend(last: dict[Process, int], process: Process, at: int) -> bool:
@@ -132,9 +132,9 @@ def extend_by_open_group(last: dict[Process, int], group: Group) -> bool:
 def extend_by_collective(last: dict[Process, int], meeting: JointCalls) -> bool:
     """Takes what processes learn by a collective."""
     calls = meeting.calls
-    if not any(call.begins <= last[it] for it, call in calls.items()):
+    if not any(call.begins <= last[each_call] for each_call, call in calls.items()):
         return False
-    return any([extend(last, it, call.begins) for it, call in calls.items()])
+    return any([extend(last, each_call, call.begins) for each_call, call in calls.items()])
 
 
 def find_horizon(
@@ -144,18 +144,22 @@ def find_horizon(
     open_groups: Sequence[Group],
 ) -> Horizon:
     """Up to where processes do what can matter; everywhere, if that are few calls."""
-    count = sum(it.message_count for them in (certain, open_groups) for it in them)
+    count = sum(group.message_count for them in (certain, open_groups) for group in them)
     count += len(links.collectives)
     if count <= VERSION_1.calls:
         return Horizon()
     last = {**dict.fromkeys(processes, 0), **links.find_first()}
     of_pmix = list(links.links())
     for _ in range(MOST_ROUNDS):
-        further = [extend_by_open_group(last, it) for it in reversed(open_groups)]
-        further += [extend_by_group(last, it) for it in reversed(certain)]
-        further += [extend_by_collective(last, it) for it in reversed(links.collectives)]
+        further = [extend_by_open_group(last, group) for group in reversed(open_groups)]
+        further += [extend_by_group(last, each_group) for each_group in reversed(certain)]
         further += [
-            extend(last, it.source, it.tells) for it in of_pmix if it.learns <= last[it.target]
+            extend_by_collective(last, collective) for collective in reversed(links.collectives)
+        ]
+        further += [
+            extend(last, link.source, link.tells)
+            for link in of_pmix
+            if link.learns <= last[link.target]
         ]
         if not any(further):
             return Horizon(last)

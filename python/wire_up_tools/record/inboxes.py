@@ -71,7 +71,7 @@ class Inbox:
         ask = Ask(messages.peers[number], messages.tags[number])
         if messages.verbs[number] == RECEIVE:
             wide = ask
-            for found in [it for it in self.probed if ask.fits(it)]:
+            for found in [stream for stream in self.probed if ask.fits(stream)]:
                 wide = wide.widen(self.probed.pop(found))
             if wide != ask:
                 self.widened[len(self.asked)] = wide
@@ -87,14 +87,14 @@ class Inbox:
     def sort(self) -> SortedInbox:
         """All of it, by streams."""
         messages, find = self.target.recording.messages, self.streams.find
-        of_receives = {find(*it): number for it, number in self.chosen_receives.items()}
+        of_receives = {find(*receive): number for receive, number in self.chosen_receives.items()}
         return SortedInbox(
             target=self.target,
             peers=self.peers,
             streams=self.streams,
             sent=sort_messages(self.streams, self.stream_of, self.sent),
             asked=self.asked,
-            got=array("i", (self.find_got(messages, it) for it in self.asked)),
+            got=array("i", (self.find_got(messages, each_number) for each_number in self.asked)),
             widened=self.widened,
             chosen_sends=self.chosen_sends,
             chosen_receives=of_receives,

@@ -11,12 +11,12 @@ Latest = Mapping[Process, int]
 
 def merge(them: Sequence[Latest]) -> Latest:
     """The latest of each process in any of the maps."""
-    some = list({id(it): it for it in them if it}.values())
+    some = list({id(latest): latest for latest in them if latest}.values())
     if len(some) < 2:
         return some[0] if some else {}
     found = dict(some[0])
-    for it in some[1:]:
-        for process, at in it.items():
+    for each_id in some[1:]:
+        for process, at in each_id.items():
             if found.get(process, -1) < at:
                 found[process] = at
     return found
@@ -49,7 +49,7 @@ class Knowledge:
         self.draft = draft
         self.heard = find_heard(draft)
         self.versions = dict.fromkeys(draft.lines, 0)
-        self.known: dict[Process, Latest] = {it: {} for it in draft.lines}
+        self.known: dict[Process, Latest] = {line: {} for line in draft.lines}
         self.told: dict[Line, Told] = {}
         self.met: dict[Meeting, Latest] = {}
 
@@ -75,7 +75,11 @@ class Knowledge:
     def learn_in_meeting(self, process: Process, meeting: Meeting) -> bool:
         """Takes what all know who meet. Answers whether any of it is new."""
         met, known = self.meet(meeting), self.known[process]
-        if all(known.get(it, 0) >= version for it, version in met.items() if it is not process):
+        if all(
+            known.get(each_process, 0) >= version
+            for each_process, version in met.items()
+            if each_process is not process
+        ):
             return False
         self.known[process] = met
         return True
@@ -91,7 +95,7 @@ class Knowledge:
     def meet(self, meeting: Meeting) -> Latest:
         """What all know who meet."""
         if meeting not in self.met:
-            told = [self.told[it] for it in meeting.lines]
-            versions = {it.process: it.version for it in told}
-            self.met[meeting] = merge([*(it.known for it in told), versions])
+            told = [self.told[line] for line in meeting.lines]
+            versions = {line.process: line.version for line in told}
+            self.met[meeting] = merge([*(line.known for line in told), versions])
         return self.met[meeting]

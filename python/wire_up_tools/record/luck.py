@@ -38,9 +38,13 @@ def say_of_luck(name: str) -> str:
 def look_at_files(recordings: Sequence[Recording]) -> Files:
     """What is known of the files of all processes."""
     return Files(
-        start=min(it.began for it in recordings),
-        deleting=Counter(name for it in recordings for name in find_deleted(it.files)),
-        are_written=any(WRITING.fullmatch(name) for it in recordings for name in it.others),
+        start=min(recording.began for recording in recordings),
+        deleting=Counter(
+            name for recording in recordings for name in find_deleted(recording.files)
+        ),
+        are_written=any(
+            WRITING.fullmatch(name) for recording in recordings for name in recording.others
+        ),
     )
 
 
@@ -52,10 +56,10 @@ def is_of_luck(name: str, are_written: bool) -> bool:
 
 def count_shared_windows(recording: Recording) -> int:
     """How many windows a process allocates that others share: they may read it as memory."""
-    shared = (it.action for it in recording.calls if isinstance(it.action, Collective))
+    shared = (call.action for call in recording.calls if isinstance(call.action, Collective))
     return sum(
-        it.name == SHARED_WINDOW and count_members(recording, it.communicator) > 1
-        for it in shared
+        action.name == SHARED_WINDOW and count_members(recording, action.communicator) > 1
+        for action in shared
     )
 
 

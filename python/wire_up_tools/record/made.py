@@ -13,8 +13,8 @@ Counts = Mapping[str, int]
 def join(them: Iterable[Counts]) -> Counts:
     """The most of each process in any of the counts."""
     found: dict[str, int] = {}
-    for it in them:
-        for process, count in it.items():
+    for counts in them:
+        for process, count in counts.items():
             found[process] = max(found.get(process, 0), count)
     return found
 
@@ -26,7 +26,7 @@ class Made:
     def __init__(self, draft: Draft) -> None:
         self.draft = draft
         self.heard = find_heard(draft)
-        self.known: dict[Process, Counts] = {it: {} for it in draft.lines}
+        self.known: dict[Process, Counts] = {line: {} for line in draft.lines}
         self.made = dict.fromkeys(draft.lines, 0)
         self.told: dict[Line, Counts] = {}
 
@@ -39,13 +39,15 @@ class Made:
     def leave(self, line: Line) -> None:
         """Takes a line that its process has passed: that knows what the line has waited for."""
         process, sources = line.process, find_sources(self.draft, line)
-        self.known[process] = join([self.known[process], *(self.told[it] for it in sources)])
+        self.known[process] = join(
+            [self.known[process], *(self.told[source] for source in sources)]
+        )
         self.made[process] += line.is_of_program
 
 
 def find_known(draft: Draft) -> Mapping[str, Sequence[Counts]]:
     """What comes before each call of the program in every run of a draft, by processes."""
-    found: dict[str, list[Counts]] = {it.name: [] for it in draft.lines}
+    found: dict[str, list[Counts]] = {each_line.name: [] for each_line in draft.lines}
     made = Made(draft)
     for step, line in walk(draft):
         if step is Step.PASSED:

@@ -33,7 +33,7 @@ def join_calls(
 ) -> Iterator[JointCalls]:
     """The n-th calls of each process that has so many, for each n."""
     for n in range(max(map(len, calls.values()))):
-        yield JointCalls(members, {it: them[n] for it, them in calls.items() if n < len(them)})
+        yield JointCalls(members, {call: them[n] for call, them in calls.items() if n < len(them)})
 
 
 @dataclass
@@ -48,8 +48,8 @@ class Bounds:
         """The lines of the recording of one process, in order, but for those of messages."""
         if process not in self.found:
             every = process.recording.calls
-            calls = [it for it in every if self.of_pmix is None or not it.is_of_pmix]
-            bounds = [it.begins for it in calls] + [it.ends for it in calls if it.ends]
+            calls = [call for call in every if self.of_pmix is None or not call.is_of_pmix]
+            bounds = [call.begins for call in calls] + [call.ends for call in calls if call.ends]
             self.found[process] = sorted([*bounds, *(self.of_pmix or {}).get(process, ())])
         return self.found[process]
 
@@ -63,7 +63,7 @@ class Bounds:
 
     def has_any(self, meeting: JointCalls) -> bool:
         """Whether a process has one while it is in a call that several made."""
-        return any(self.has_inside(it, call) for it, call in meeting.calls.items())
+        return any(self.has_inside(each_call, call) for each_call, call in meeting.calls.items())
 
 
 @dataclass

@@ -25,7 +25,7 @@ from wire_up_tools.record.shortening import shorten
 def meet(them: Sequence[Counts]) -> Counts:
     """The least of each process in all of the counts."""
     names = set(them[0]).intersection(*them[1:])
-    return {name: min(it[name] for it in them) for name in sorted(names)}
+    return {name: min(counts[name] for counts in them) for name in sorted(names)}
 
 
 @dataclass
@@ -59,11 +59,11 @@ class Merged:
         own = line.process.name
         has = self.has.get(own, {})
         wanted = {
-            it: min(count, len(self.shared[it]))
-            for it, count in self.known[own][index].items()
-            if it != own
+            text: min(count, len(self.shared[text]))
+            for text, count in self.known[own][index].items()
+            if text != own
         }
-        for process, count in sorted(wanted.items(), key=lambda it: -it[1]):
+        for process, count in sorted(wanted.items(), key=lambda pair: -pair[1]):
             if count > has.get(process, 0):
                 self.wait(line, self.send(process, count))
                 has = join([has, self.known[process][count - 1], {process: count}])
@@ -81,14 +81,14 @@ class Merged:
         sources = find_sources(self.draft, line)
         own = line.process.name
         has = [self.has.get(own, {})]
-        for it in sources:
-            source, index = it.process.name, index_of[it]
+        for each_source in sources:
+            source, index = each_source.process.name, index_of[each_source]
             has += [self.known[source][index], {source: index}]
         self.has[own] = join(has)
 
     def write(self) -> Draft:
         """The draft of the shared calls."""
-        index_of = {it: n for them in self.shared.values() for n, it in enumerate(them)}
+        index_of = {counts: n for them in self.shared.values() for n, counts in enumerate(them)}
         for them in self.shared.values():
             for index, line in enumerate(them):
                 self.order(line, index)
@@ -100,8 +100,14 @@ class Merged:
                 sent = self.sent.get((process.name, index + 1))
                 own += [*self.waits.get(line, ()), line, *([sent] if sent else [])]
             lines[process] = own
-        awaited = {it: source for it, source in self.draft.awaited.items() if it in index_of}
-        meetings = {it: met for it, met in self.draft.meetings.items() if it in index_of}
+        awaited = {
+            each_line: source
+            for each_line, source in self.draft.awaited.items()
+            if each_line in index_of
+        }
+        meetings = {
+            meeting: met for meeting, met in self.draft.meetings.items() if meeting in index_of
+        }
         return Draft(lines, {**awaited, **self.awaited}, meetings)
 
 
@@ -110,9 +116,9 @@ def refuse_others(runs: Sequence[Run]) -> None:
     first = runs[0].plan.processes
     for run in runs[1:]:
         other = run.plan.processes
-        pairs = {(one.node, it.node) for one, it in zip(first.all, other.all)}
+        pairs = {(one.node, process.node) for one, process in zip(first.all, other.all)}
         nodes = len(first.nodes), len(other.nodes)
-        names = [[it.name for it in them.all] for them in (first, other)]
+        names = [[each_process.name for each_process in them.all] for them in (first, other)]
         if names[0] != names[1] or {len(pairs)} != {*nodes}:
             path = other.all[0].recording.path
             raise Refused(
@@ -124,8 +130,8 @@ def refuse_others(runs: Sequence[Run]) -> None:
 def merge_notes(runs: Sequence[Run], shared: Scripts) -> Notes:
     """What is noted of all runs, and of what they don't share."""
     notes = Notes()
-    for it in runs:
-        notes.add(it.plan.notes)
+    for run in runs:
+        notes.add(run.plan.notes)
     rest = sum(len(them) - len(shared[process]) for process, them in runs[0].scripts.items())
     notes.left_out["calls of the first run after the runs part"] += rest
     notes.otherwise["values that runs have otherwise: they are those of the first"] += (
@@ -136,9 +142,9 @@ def merge_notes(runs: Sequence[Run], shared: Scripts) -> Notes:
 
 def find_known_in_all(runs: Sequence[Run]) -> Mapping[str, Sequence[Counts]]:
     """What comes before each call in all runs, as far as all runs reach it."""
-    known = [find_known(it.plan.draft) for it in runs]
+    known = [find_known(run.plan.draft) for run in runs]
     return {
-        process: [meet(counts) for counts in zip(*(it[process] for it in known))]
+        process: [meet(counts) for counts in zip(*(each_known[process] for each_known in known))]
         for process in known[0]
     }
 
@@ -155,8 +161,8 @@ def merge_plans(runs: Sequence[Run]) -> Plan:
         shortened = shorten(draft)
         draft = shortened.draft
         notes.add(shortened.notes)
-    left_to_luck = sum(it.plan.mpi.left_to_luck for it in runs)
-    partings = [it.write() for it in find_partings(runs)]
+    left_to_luck = sum(run.plan.mpi.left_to_luck for run in runs)
+    partings = [parting.write() for parting in find_partings(runs)]
     mpi = MpiSummary(len(draft.awaited), 0, left_to_luck)
     return replace(
         first, draft=draft, notes=notes, mpi=mpi, run_count=len(runs), partings=partings

@@ -145,7 +145,7 @@ class Messages:
     @property
     def thread_words(self) -> set[str]:
         """The threads that made the calls."""
-        return {self.texts[it] or "" for it in set(self.threads)}
+        return {self.texts[thread] or "" for thread in set(self.threads)}
 
     def is_left_to_luck(self, number: int) -> bool:
         """Whether another run may have found a call open at this place."""

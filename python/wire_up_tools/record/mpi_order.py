@@ -17,7 +17,7 @@ ordered, and the head of the plan says so.
 from collections.abc import Iterable, Iterator, Sequence
 from dataclasses import dataclass, replace
 
-from wire_up_tools.record.calls import Call
+from wire_up_tools.record.calls import Call, Luck
 from wire_up_tools.record.collectives import (
     Collectives,
     count_awaited,
@@ -70,18 +70,20 @@ def order_messages(
     communicators: Communicators,
     links: Links,
     names: MessageNames,
-    is_strict: bool,
+    luck: Luck,
 ) -> MessageOrder:
     """The order of messages, and the groups whose order isn't certain."""
-    unknown = {it for it in processes.all if has_unknown_sends(it.recording)}
-    lacking = {it for it in processes.all if not it.recording.has_finalized} | unknown
+    unknown = {process for process in processes.all if has_unknown_sends(process.recording)}
+    lacking = {
+        process for process in processes.all if not process.recording.has_finalized
+    } | unknown
     inboxes = find_inboxes(processes, communicators)
     certain: list[Group] = []
     open_groups: list[Group] = []
     ordered = Ordered(notes=inboxes.notes)
     note_unseen(processes, ordered.notes)
     for inbox in inboxes.found.values():
-        is_cut = any(it in lacking for it in inbox.peers)
+        is_cut = any(peer in lacking for peer in inbox.peers)
         is_open = not unknown.isdisjoint(inbox.peers)
         sorted_inbox = inbox.sort()
         groups = find_groups(sorted_inbox)
@@ -97,12 +99,12 @@ def order_messages(
                 open_groups.append(group)
     horizon = find_horizon(processes.all, links, certain, open_groups)
     for found in certain:
-        order_pairs(found, horizon, names, is_strict, ordered)
+        order_pairs(found, horizon, names, luck, ordered)
     return MessageOrder(ordered, open_groups, names, horizon)
 
 
 def order_pairs(
-    group: Group, horizon: Horizon, names: MessageNames, is_strict: bool, ordered: Ordered
+    group: Group, horizon: Horizon, names: MessageNames, luck: Luck, ordered: Ordered
 ) -> None:
     """Orders messages and receives that are the same pairs in every run, besides what is ordered.
 
@@ -117,10 +119,10 @@ def order_pairs(
         ordered.left_to_luck += sum(map(own.is_left_to_luck, asked))
         return
     is_all, useless = group.is_all, 0
-    for send, number in choose_pairs(group, is_strict, ordered):
+    for send, number in choose_pairs(group, luck, ordered):
         waits = bool(sent.ends[send] and is_all and own.verbs[number] == RECEIVE)
         ordered.left_to_luck += waits and sent.is_left_to_luck(send)
-        waits = waits and not (is_strict and sent.is_left_to_luck(send))
+        waits = waits and not (luck is Luck.IS_LEFT_OUT and sent.is_left_to_luck(send))
         is_useful = horizon.has_end(target, own.ends[number])
         if not (is_useful or waits and horizon.has_end(source, sent.ends[send])):
             useless += 1
@@ -132,7 +134,7 @@ def order_pairs(
     note_useless(useless, ordered.notes)
 
 
-def choose_pairs(group: Group, is_strict: bool, ordered: Ordered) -> Iterator[tuple[int, int]]:
+def choose_pairs(group: Group, luck: Luck, ordered: Ordered) -> Iterator[tuple[int, int]]:
     """The pairs of a group that order something, and counts them and those left to luck. Behind a
     message whose peer may have been chosen by another all are."""
     inbox, own, is_chosen = group.inbox, group.target.recording.messages, False
@@ -141,7 +143,7 @@ def choose_pairs(group: Group, is_strict: bool, ordered: Ordered) -> Iterator[tu
         is_chosen = is_chosen or inbox.is_chosen(index, send)
         is_luck = is_chosen or own.is_left_to_luck(number)
         ordered.left_to_luck += is_luck
-        if not (is_luck and is_strict):
+        if not (is_luck and luck is Luck.IS_LEFT_OUT):
             ordered.count += 1
             yield send, number
 
@@ -153,7 +155,7 @@ def find_bounds(program: Sequence[Part]) -> Bounds:
     """At which lines of recordings calls begin and end that can race, or that order others: not
     gets that wait."""
     of_pmix: dict[Process, list[int]] = {}
-    for line in (it for part in program for it in part.lines):
+    for line in (each_line for part in program for each_line in part.lines):
         if line.is_of_program and line.verb != "get":
             of_pmix.setdefault(line.process, []).append(line.at)
     return Bounds(of_pmix)
@@ -161,15 +163,14 @@ def find_bounds(program: Sequence[Part]) -> Bounds:
 
 @dataclass(frozen=True)
 class Waiting:
-    """For whom processes waited in collectives, as far as that orders them: with `is_strict` not
-    where the end was left to luck."""
+    """For whom processes waited in collectives, as far as that orders them."""
 
     communicators: Communicators
-    is_strict: bool
+    luck: Luck
 
     def awaits_none(self, call: Call) -> bool:
         """Whether nothing is taken from the end of a collective."""
-        return call.is_left_to_luck and self.is_strict
+        return call.is_left_to_luck and self.luck is Luck.IS_LEFT_OUT
 
     def find(self, process: Process, call: Call) -> Sequence[Process]:
         """The processes for whose data a process waited."""
@@ -179,10 +180,12 @@ class Waiting:
     def is_for_all(self, meeting: JointCalls) -> bool:
         """Whether all processes called a collective, and each that ended waited for all others.
         If none has ended, it must be one in which all wait."""
-        ended = [(it, call) for it, call in meeting.calls.items() if call.end]
+        ended = [(each_call, call) for each_call, call in meeting.calls.items() if call.end]
         if not meeting.is_whole or any(self.awaits_none(call) for _, call in ended):
             return False
-        owns = ((find_communicator(self.communicators, it, call), call) for it, call in ended)
+        owns = (
+            (find_communicator(self.communicators, process, call), call) for process, call in ended
+        )
         if any(count_awaited(own, call) != len(meeting.members) - 1 for own, call in owns):
             return False
         return bool(ended) or find_name(next(iter(meeting.calls.values()))) in BARRIERS
@@ -190,14 +193,14 @@ class Waiting:
 
 def sort_fences(process: Process, fences: Sequence[JointCalls]) -> Sequence[JointCalls]:
     """The fences that a process calls, in its order."""
-    own = (it for it in fences if process in it.calls)
-    return sorted(own, key=lambda it: it.calls[process].begins)
+    own = (fence for fence in fences if process in fence.calls)
+    return sorted(own, key=lambda joint_calls: joint_calls.calls[process].begins)
 
 
 def is_one_order(members: Iterable[Process], fences: Sequence[JointCalls]) -> bool:
     """Whether fences over one set come in the same order in all its processes, as far as each
     calls them."""
-    orders = [sort_fences(it, fences) for it in members]
+    orders = [sort_fences(member, fences) for member in members]
     longest = max(orders, key=len)
     return all(order == longest[:len(order)] for order in orders)
 
@@ -213,10 +216,10 @@ def choose_fences(
         if waiting.is_for_all(meeting) and not bounds.has_any(meeting):
             by_set.setdefault(meeting.members, []).append(meeting)
     return {
-        it
+        joint_calls
         for members, them in by_set.items()
         if is_one_order(members, [*fences.by_set.get(members, ()), *them])
-        for it in them
+        for joint_calls in them
     }
 
 
@@ -243,14 +246,20 @@ def order_by_names(meeting: JointCalls, waiting: Waiting, mark: str, number: int
     if another waits for it, and waits for others when it ends."""
     ordered, calls = Ordered(), meeting.calls
     waits = {
-        process: [it for it in waiting.find(process, call) if it in calls]
+        process: [
+            each_process for each_process in waiting.find(process, call) if each_process in calls
+        ]
         for process, call in calls.items()
     }
     if sum(map(len, waits.values())) > MOST_NAMED * (MOST_NAMED - 1):
         ordered.notes.left_out["collectives that are no fence, among too many processes"] += 1
         return ordered
-    for source in dict.fromkeys(it for them in waits.values() for it in them):
-        targets = {it: calls[it] for it, them in waits.items() if source in them}
+    for source in dict.fromkeys(each_process for them in waits.values() for each_process in them):
+        targets = {
+            other_process: calls[other_process]
+            for other_process, them in waits.items()
+            if source in them
+        }
         name = f"{mark}{source.short_name}.all.{number}"
         ordered.part.add_order(name, source, calls[source], targets)
     ordered.count += any(waits.values())
@@ -272,7 +281,7 @@ def order_collectives(
 
 
 def order_by_mpi(
-    sets: Sets, spelling: Spelling, program: Sequence[Part], fences: PmixFences, is_strict: bool
+    sets: Sets, spelling: Spelling, program: Sequence[Part], fences: PmixFences, luck: Luck
 ) -> MpiOrder:
     """The order that MPI gives to the processes whose calls of PMIx are the parts of `program`,
     fences among them."""
@@ -280,11 +289,11 @@ def order_by_mpi(
     communicators = find_communicators(processes)
     collectives = find_collectives(processes, communicators)
     links = Links(program, collectives.meetings)
-    messages = order_messages(processes, communicators, links, MessageNames(mark), is_strict)
+    messages = order_messages(processes, communicators, links, MessageNames(mark), luck)
     useful = replace(
         collectives, meetings=messages.horizon.choose(collectives.meetings, collectives.notes)
     )
-    waiting, bounds = Waiting(communicators, is_strict), find_bounds(program)
+    waiting, bounds = Waiting(communicators, luck), find_bounds(program)
     chosen = choose_fences(useful.meetings, waiting, fences, bounds)
     ordered = order_collectives(useful, waiting, chosen, sets, mark)
     ordered.count += len(collectives.meetings) - len(useful.meetings)

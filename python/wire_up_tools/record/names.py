@@ -43,12 +43,12 @@ def find_published(action: Action) -> Iterable[bytes]:
 
 def find_words(texts: Iterable[bytes]) -> Words:
     """Words for keys or names, without those that are reserved."""
-    return Words((it for it in texts if not is_reserved_by_pmix(it)), is_fit=is_plain)
+    return Words((text for text in texts if not is_reserved_by_pmix(text)), is_fit=is_plain)
 
 
 def find_mark(word: str, names: Words) -> str:
     """A beginning that no name has."""
-    while any(it.startswith(f"{word}.") for it in names.words.values()):
+    while any(each_word.startswith(f"{word}.") for each_word in names.words.values()):
         word += "_"
     return f"{word}."
 
@@ -86,6 +86,6 @@ def name_set(processes: Processes, caller: Process, members: frozenset[Process])
         return "all"
     items: list[str] = []
     for job in processes.jobs.values():
-        here = [it.name for it in job.processes if it in members]
+        here = [process.name for process in job.processes if process in members]
         items += [f"{job.name}:*"] if here and len(here) == len(job.processes) else here
     return ",".join(items)

@@ -73,7 +73,9 @@ class Notes:
 
     def list_left_out(self, can_hide_race: bool) -> dict[str, int]:
         """What was left out that can hide a race, or else that can't."""
-        return {it: n for it, n in self.left_out.items() if n and can_hide(it) == can_hide_race}
+        return {
+            text: n for text, n in self.left_out.items() if n and can_hide(text) == can_hide_race
+        }
 
 
 def note_recording(recording: Recording, files: Files, notes: Notes) -> None:
@@ -121,14 +123,14 @@ def note_files(recording: Recording, files: Files, notes: Notes) -> None:
 
 def count_starts(recordings: Iterable[Recording]) -> int:
     """How many calls started processes."""
-    return sum(it.others.get(name, 0) for it in recordings for name in STARTING)
+    return sum(recording.others.get(name, 0) for recording in recordings for name in STARTING)
 
 
 def note_missing(processes: Processes, notes: Notes) -> None:
     """Notes processes that were there, and left no recording."""
-    recordings = [it.recording for it in processes.all]
+    recordings = [process.recording for process in processes.all]
     for job in processes.jobs.values():
-        size = max(it.recording.job_size or 0 for it in job.processes)
+        size = max(process.recording.job_size or 0 for process in job.processes)
         notes.more_ordered[
             "processes of a job that left no recording: their calls aren't in the plan"
         ] += max(0, size - len(job.processes))
@@ -150,9 +152,9 @@ def note_directives(call: Call, has_jobs: bool, notes: Notes) -> None:
         "waits for less than a minute at most (pmix.timeout): in the plan they wait for an answer"
     ] += not call.has_failed and gives_up(action)
     if isinstance(action, (Fence, Get, Publish, Lookup, Unpublish)):
-        for it in action.directives:
-            if it.key not in KNOWN:
-                notes.left_out[f"directives {say_directive(action, it, has_jobs)}"] += 1
+        for directive in action.directives:
+            if directive.key not in KNOWN:
+                notes.left_out[f"directives {say_directive(action, directive, has_jobs)}"] += 1
 
 
 def is_floating(call: Call) -> bool:
@@ -165,8 +167,8 @@ def is_floating(call: Call) -> bool:
 def note_unawaited(calls: Sequence[Call], messages: Messages, notes: Notes) -> None:
     """Notes the calls of the program that didn't block, ended, and were followed by others."""
     last = max(calls[-1].begins if calls else 0, messages.begins[-1] if messages.begins else 0)
-    ended = (it for it in calls if it.is_of_pmix and it.ends and it.ends < last)
-    unawaited = [it for it in ended if find_ending(it.action) is Ending.CALLS_PROGRAM]
-    floating = sum(is_floating(it) for it in unawaited)
+    ended = (call for call in calls if call.is_of_pmix and call.ends and call.ends < last)
+    unawaited = [call for call in ended if find_ending(call.action) is Ending.CALLS_PROGRAM]
+    floating = sum(is_floating(call) for call in unawaited)
     notes.more_ordered[FLOATING] += floating
     notes.more_ordered[UNAWAITED] += len(unawaited) - floating

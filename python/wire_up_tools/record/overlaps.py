@@ -40,11 +40,11 @@ class Overlaps:
         self.lines = lines
         self.early = fences.find_early()
         self.fences: dict[Process, list[JointCalls]] = {}
-        for joint in (it for them in fences.by_set.values() for it in them):
+        for joint in (joint_calls for them in fences.by_set.values() for joint_calls in them):
             for process in joint.calls:
                 self.fences.setdefault(process, []).append(joint)
         for process, them in self.fences.items():
-            them.sort(key=lambda it: it.calls[process].begins)
+            them.sort(key=lambda joint_calls: joint_calls.calls[process].begins)
 
     def is_settled(self, process: Process, call: Call) -> bool:
         """Whether a call is a get of what its owner had committed for the last time before a fence
@@ -56,8 +56,10 @@ class Overlaps:
         if not owner or has_directive(get.directives, *AT_ONCE):
             return False
         done = self.lines.puts.find(owner).done.get(get.keys[0], sys.maxsize)
-        fences = (it.calls for it in reversed(self.fences.get(process, ())))
-        passed = (it[owner] for it in fences if owner in it and has_ended(it[process], call))
+        fences = (fence.calls for fence in reversed(self.fences.get(process, ())))
+        passed = (
+            fence[owner] for fence in fences if owner in fence and has_ended(fence[process], call)
+        )
         latest = next(passed, None)
         return latest is not None and done < latest.begins
 
@@ -65,10 +67,10 @@ class Overlaps:
         """How many calls of a process get an order that the program doesn't give them."""
         calls = self.lines.calls[process]
         early = find_early(calls, self.early)
-        begins, count = [it.begins for it in calls] if early else [], 0
+        begins, count = [call.begins for call in calls] if early else [], 0
         for first, last in early:
             meanwhile = range(bisect.bisect(begins, first), bisect.bisect_left(begins, last))
-            count += sum(not self.is_settled(process, calls[it]) for it in meanwhile)
+            count += sum(not self.is_settled(process, calls[number]) for number in meanwhile)
             count += bisect.bisect_left(messages.begins, last)
             count -= bisect.bisect(messages.begins, first)
         return count

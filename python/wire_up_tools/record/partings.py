@@ -25,7 +25,9 @@ class Run:
     def scripts(self) -> Scripts:
         """The lines of the program."""
         lines = self.plan.draft.lines.items()
-        return {process.name: [it for it in them if it.is_of_program] for process, them in lines}
+        return {
+            process.name: [line for line in them if line.is_of_program] for process, them in lines
+        }
 
     def say(self, script: Sequence[Line], index: int) -> str:
         """What this run did at an index of a script, and where in the program."""
@@ -68,11 +70,11 @@ def count_shared(scripts: Sequence[Sequence[Line]]) -> int:
 
 def find_partings(runs: Sequence[Run]) -> Sequence[Parting]:
     """Where runs part: at most one place of each process."""
-    found, scripts = [], [it.scripts for it in runs]
+    found, scripts = [], [each_run.scripts for each_run in runs]
     for process in scripts[0]:
-        own = [it[process] for it in scripts]
+        own = [each_script[process] for each_script in scripts]
         count = count_shared(own)
-        if any(len(it) > count for it in own):
+        if any(len(row) > count for row in own):
             did = [run.say(script, count) for run, script in zip(runs, own)]
             found.append(Parting(process, count, did))
     return found
@@ -82,15 +84,15 @@ def can_be_passed(draft: Draft, line: Line, kept: set[Line]) -> bool:
     """Whether all that a line waits for is among some lines."""
     meeting, source = draft.meetings.get(line), draft.awaited.get(line)
     return (source is None or source in kept) and all(
-        it in kept for it in (meeting.lines if meeting else ())
+        each_line in kept for each_line in (meeting.lines if meeting else ())
     )
 
 
 def find_shared(runs: Sequence[Run]) -> Scripts:
     """The lines of the first run whose calls all runs share, and that wait for no others."""
-    draft, scripts = runs[0].plan.draft, [it.scripts for it in runs]
+    draft, scripts = runs[0].plan.draft, [run.scripts for run in runs]
     found = {
-        process: list(script[:count_shared([it[process] for it in scripts])])
+        process: list(script[:count_shared([each_script[process] for each_script in scripts])])
         for process, script in scripts[0].items()
     }
     is_cut = True
@@ -98,7 +100,12 @@ def find_shared(runs: Sequence[Run]) -> Scripts:
         is_cut, kept = False, {line for them in found.values() for line in them}
         for process, them in found.items():
             passed = next(
-                (n for n, it in enumerate(them) if not can_be_passed(draft, it, kept)), len(them)
+                (
+                    n
+                    for n, each_line in enumerate(them)
+                    if not can_be_passed(draft, each_line, kept)
+                ),
+                len(them),
             )
             is_cut |= passed < len(them)
             del them[passed:]
@@ -107,9 +114,9 @@ def find_shared(runs: Sequence[Run]) -> Scripts:
 
 def count_other_values(runs: Sequence[Run], shared: Scripts) -> int:
     """How many of the shared calls have other values in other runs."""
-    scripts = [it.scripts for it in runs]
+    scripts = [run.scripts for run in runs]
     return sum(
-        len({it[process][n].words for it in scripts}) > 1
+        len({script[process][n].words for script in scripts}) > 1
         for process, them in shared.items()
         for n in range(len(them))
     )

@@ -18,7 +18,7 @@ TOO_FEW = 2
 
 def list_scripts(plan: Plan) -> list[Script]:
     """What each process of a plan calls, with the ranks in the names of MPI's order as indices."""
-    ranks = {it.short_name: it.name for it in plan.draft.lines}
+    ranks = {each_line.short_name: each_line.name for each_line in plan.draft.lines}
 
     def cut(line: Line) -> Sequence[str]:
         words = line.words.split(" ")
@@ -56,11 +56,11 @@ def add_notes(text: str, plan: Plan) -> str:
     lines = [first, *say_luck(plan), *say_own_code(plan)]
     for title, them in list_notes(plan):
         if them and title not in (WRITTEN_OTHERWISE, LEFT_OUT_HARMLESS):
-            lines += [f"# {title}", *(f"#   {it}" for it in them)]
+            lines += [f"# {title}", *(f"#   {each_text}" for each_text in them)]
     return "\n".join([*lines, rest])
 
 
 def holds_in_part(plan: Plan) -> bool:
     """Whether a verdict over a plan holds only in part."""
     noted = (plan.notes.cut_off, plan.notes.more_ordered)
-    return bool(plan.partings) or any(any(it.values()) for it in noted)
+    return bool(plan.partings) or any(any(counter.values()) for counter in noted)

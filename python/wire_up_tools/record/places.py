@@ -36,10 +36,10 @@ class Places:
         frames = recording.list_frames(number)
         if not frames or not self.say(frames[-1]):
             return None
-        own = (it for it in frames[:-1] if is_named(it, frames[0]))
+        own = (frame for frame in frames[:-1] if is_named(frame, frames[0]))
         known = (text for text in map(self.say, own) if text and text.endswith(")"))
         named = INTO.join([*known, self.say(frames[-1]) or ""]).split(INTO)
-        start = max((at for at, it in enumerate(named) if find_function(it) in MAIN), default=0)
+        start = max((at for at, part in enumerate(named) if find_function(part) in MAIN), default=0)
         return INTO.join(named[max(start, len(named) - MOST_NAMED):])
 
     def say(self, place: Place) -> str | None:
@@ -50,7 +50,7 @@ class Places:
 def is_named(place: Place, outermost: Place) -> bool:
     """Whether a place at which a function was called is named: not one in a library that the
     program called."""
-    modules = [it.module for it in (place, outermost) if isinstance(it, Address)]
+    modules = [address.module for address in (place, outermost) if isinstance(address, Address)]
     return len(set(modules)) == 1
 
 
@@ -81,16 +81,20 @@ def read_places(folders: Iterable[str]) -> dict[Address, str]:
     for folder in folders:
         path = os.path.join(folder, FILE)
         if os.path.isfile(path):
-            with open(path, encoding="ascii", errors="replace") as it:
-                found.update(read_entries(path, it.read()))
+            with open(path, encoding="ascii", errors="replace") as file:
+                found.update(read_entries(path, file.read()))
     return found
 
 
 def write_places(places: Places, folder: str) -> None:
     """Keeps what is known in a folder of recordings. Raises OSError."""
     with open(os.path.join(folder, FILE), "x", encoding="ascii", errors="replace") as to:
-        for it in sorted(places.texts, key=lambda it: (it.module, it.offset)):
-            to.write(f"{escape(it.module.encode()) or '%'} {it.offset:x} {places.texts[it]}\n")
+        for text in sorted(
+            places.texts, key=lambda each_text: (each_text.module, each_text.offset)
+        ):
+            to.write(
+                f"{escape(text.module.encode()) or '%'} {text.offset:x} {places.texts[text]}\n"
+            )
 
 
 # --- what modules say ---
@@ -110,7 +114,7 @@ def ask_module(module: str, offsets: Sequence[int]) -> Sequence[str]:
     program = shutil.which("addr2line")
     if not program or not os.path.isfile(module):
         return ()
-    asked = "".join(f"0x{it:x}\n" for it in offsets).encode()
+    asked = "".join(f"0x{offset:x}\n" for offset in offsets).encode()
     words = [program, "-a", "-i", "-f", "-C", "-e", module]
     try:
         ran = subprocess.run(words, input=asked, capture_output=True, check=False)
@@ -129,13 +133,17 @@ def find_lines(module: str, offsets: Sequence[int]) -> Sequence[str | None]:
             answers[-1].append(line)
     if len(answers) != len(offsets):
         return [None] * len(offsets)
-    return [name_lines(it) for it in answers]
+    return [name_lines(answer) for answer in answers]
 
 
 def name_lines(wrote: Sequence[str]) -> str | None:
     """What is written of one address: a function and its line, and then those that hold it."""
     named = [name_line(function, line) for function, line in zip(wrote[::2], wrote[1::2])]
-    return INTO.join(it for it in reversed(named) if it) if named and named[0] else None
+    return (
+        INTO.join(each_line for each_line in reversed(named) if each_line)
+        if named and named[0]
+        else None
+    )
 
 
 def name_address(address: Address) -> str:
@@ -147,20 +155,24 @@ def find_addresses(process: Process, lines: Iterable[Line]) -> Iterator[Address]
     """Where the calls of some lines of a process come from."""
     for number in dict.fromkeys(line.call.place for line in lines):
         frames = process.recording.list_frames(number)
-        yield from (it for it in frames if isinstance(it, Address))
+        yield from (frame for frame in frames if isinstance(frame, Address))
 
 
 def find_places(draft: Draft, kept: Mapping[Address, str]) -> Places:
     """Finds where the calls of a draft come from; what is kept stays so."""
-    wanted = (it for process, lines in draft.lines.items() for it in find_addresses(process, lines))
-    new = [it for it in dict.fromkeys(wanted) if it not in kept]
+    wanted = (
+        address
+        for process, lines in draft.lines.items()
+        for address in find_addresses(process, lines)
+    )
+    new = [address for address in dict.fromkeys(wanted) if address not in kept]
     by_module: dict[str, list[Address]] = {}
-    for it in new:
-        by_module.setdefault(it.module, []).append(it)
-    texts = {**kept, **{it: name_address(it) for it in new}}
+    for address in new:
+        by_module.setdefault(address.module, []).append(address)
+    texts = {**kept, **{address: name_address(address) for address in new}}
     for module, addresses in by_module.items():
-        found = find_lines(module, [it.offset for it in addresses])
-        texts.update((it, text) for it, text in zip(addresses, found) if text)
+        found = find_lines(module, [address.offset for address in addresses])
+        texts.update((each_address, text) for each_address, text in zip(addresses, found) if text)
     return Places(texts)
 
 
@@ -176,6 +188,10 @@ def find_call_place(process: str, number: int, plan: bytes) -> str | None:
         calls = read_calls(plan)
     except LookupError:
         return None
-    found = (it for it in calls if (it.rank.name, it.number) == (process, number))
+    found = (
+        each_call
+        for each_call in calls
+        if (each_call.rank.name, each_call.number) == (process, number)
+    )
     call = next(found, None)
     return (call.place or UNKNOWN_PLACE) if call else None

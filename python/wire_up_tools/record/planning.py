@@ -4,6 +4,7 @@ from dataclasses import dataclass, replace
 
 from wire_up_tools.failures import Refused
 from wire_up_tools.limits import VERSION_1, Limits
+from wire_up_tools.record.calls import Luck
 from wire_up_tools.record.applications import note_applications
 from wire_up_tools.record.connecting import settle_connecting
 from wire_up_tools.record.draft import Draft, Part, Step, make_draft, walk
@@ -32,6 +33,11 @@ class Choices:
     is_strict: bool = False
     most: Limits = VERSION_1
     has_floating: bool = True
+
+    @property
+    def luck(self) -> Luck:
+        """What is made of such ends."""
+        return Luck.IS_LEFT_OUT if self.is_strict else Luck.IS_TAKEN
 
 
 @dataclass(frozen=True)
@@ -98,16 +104,16 @@ def refuse_waiting(draft: Draft) -> None:
 
 
 def order_program(
-    sets: Sets, spelling: Spelling, program: Sequence[Part], fences: PmixFences, is_strict: bool
+    sets: Sets, spelling: Spelling, program: Sequence[Part], fences: PmixFences, luck: Luck
 ) -> MpiOrder:
     """The order that MPI gives to the lines of a program, with that of messages which could have
     come otherwise."""
-    order = order_by_mpi(sets, spelling, program, fences, is_strict)
+    order = order_by_mpi(sets, spelling, program, fences, luck)
     messages = order.messages
     if messages.open_groups:
         known = [*program, messages.ordered.part, order.collectives.part]
         groups = messages.horizon.choose_groups(messages.open_groups, messages.ordered.notes)
-        more = order_open_groups(sets.processes, known, groups, messages.names, is_strict)
+        more = order_open_groups(sets.processes, known, groups, messages.names, luck)
         messages.ordered.add(more)
         messages.ordered.add(note_open_groups(messages.open_groups))
     return order
@@ -145,7 +151,7 @@ def make_whole_plan(recordings: Sequence[Recording], choices: Choices) -> Plan:
     refuse_too_many(parts, choices.most)
     parts.append(find_waits(make_draft(processes, parts)))
     if choices.with_mpi:
-        order = order_program(sets, spelling, parts, fences, choices.is_strict)
+        order = order_program(sets, spelling, parts, fences, choices.luck)
         parts += [order.messages.ordered.part, order.collectives.part]
         notes.add(order.messages.ordered.notes)
         notes.add(order.collectives.notes)

@@ -211,7 +211,11 @@ class ProcessLines:
 
     def is_waiting(self, call: Call, lookup: Lookup, count: int) -> bool:
         """Whether a lookup of so many names is written as one that waits."""
-        waits = [it.value for it in lookup.directives if it.key == WAIT and it.value != NO]
+        waits = [
+            directive.value
+            for directive in lookup.directives
+            if directive.key == WAIT and directive.value != NO
+        ]
         if not waits:
             return False
         is_number = waits[0].kind is ValueKind.NUMBER
@@ -233,7 +237,7 @@ class ProcessLines:
             self.leave_out("lookups that name no key")
             return
         end = call.end
-        found = {it.key: it.value for it in end.found} if isinstance(end, LookupEnd) else {}
+        found = {pair.key: pair.value for pair in end.found} if isinstance(end, LookupEnd) else {}
         self.note_several(lookup, len(lookup.keys))
         waits = "lookup-wait" if self.is_waiting(call, lookup, len(lookup.keys)) else "lookup"
         for key in lookup.keys:
@@ -268,7 +272,7 @@ class ProcessLines:
                 self.leave_out("unpublishes that failed")
             else:
                 self.add(call, f"unpublish {self.spelling.names[key]}")
-                self.published = [it for it in self.published if it != key]
+                self.published = [text for text in self.published if text != key]
 
 
 @dataclass(frozen=True)
@@ -281,7 +285,7 @@ class Uses:
     @property
     def goes_away(self) -> bool:
         """Whether it goes away by itself while others may look it up."""
-        return any(goes_away(it.call.action, len(self.looked_up)) for it in self.published)
+        return any(goes_away(line.call.action, len(self.looked_up)) for line in self.published)
 
 
 def find_uses(part: Part) -> dict[str, Uses]:
@@ -302,10 +306,15 @@ def note_names(part: Part, notes: Notes) -> None:
     uses = find_uses(part).values()
     notes.more_ordered[
         "names that go away by themselves (pmix.persist): in the plan they stay"
-    ] += sum(it.goes_away for it in uses)
+    ] += sum(each_uses.goes_away for each_uses in uses)
     notes.more_ordered[
         "lookups of names that no recorded process published: whoever did isn't in the plan"
-    ] += sum(bool(line.value) for it in uses if not it.published for line in it.looked_up)
+    ] += sum(
+        bool(line.value)
+        for each_uses in uses
+        if not each_uses.published
+        for line in each_uses.looked_up
+    )
 
 
 @dataclass(frozen=True)
@@ -322,8 +331,12 @@ class PmixLines:
 def find_reserved(processes: Processes) -> frozenset[bytes]:
     """The reserved keys that processes put, but for the name of the host, which Open MPI puts: the
     library tells the same."""
-    actions = (call.action for it in processes.all for call in it.recording.calls_of_pmix)
-    keys = {it.key for it in actions if isinstance(it, Put) and is_reserved_by_pmix(it.key)}
+    actions = (call.action for process in processes.all for call in process.recording.calls_of_pmix)
+    keys = {
+        action.key
+        for action in actions
+        if isinstance(action, Put) and is_reserved_by_pmix(action.key)
+    }
     return frozenset(keys - {HOST_NAME})
 
 
@@ -332,7 +345,7 @@ def make_lines(processes: Processes, spelling: Spelling, with_mpi: bool) -> Pmix
     part, notes, puts = Part(), Notes(), PutsByProcess()
     calls: dict[Process, Sequence[Call]] = {}
     reserved = find_reserved(processes)
-    files = look_at_files([it.recording for it in processes.all])
+    files = look_at_files([each_process.recording for each_process in processes.all])
     for process in processes.all:
         recording = process.recording
         note_recording(recording, files, notes)
@@ -342,12 +355,14 @@ def make_lines(processes: Processes, spelling: Spelling, with_mpi: bool) -> Pmix
         for call in of_pmix:
             lines.take(call)
             note_directives(call, len(processes.jobs) > 1, notes)
-        with_lines = {it.call for it in part.lines[first:]}
+        with_lines = {line.call for line in part.lines[first:]}
         noted = recording.calls if with_mpi else of_pmix
         calls[process] = in_plan = [
-            it
-            for it in noted
-            if not it.is_of_pmix or isinstance(it.action, (Fence, Group)) or it in with_lines
+            each_call
+            for each_call in noted
+            if not each_call.is_of_pmix
+            or isinstance(each_call.action, (Fence, Group))
+            or each_call in with_lines
         ]
         note_unawaited(in_plan, recording.messages if with_mpi else Messages(), notes)
     note_names(part, notes)

@@ -40,9 +40,11 @@ class PmixFences:
     def find_early(self) -> set[Call]:
         """The calls that don't block and are fences in the plan: they stand where they were made,
         so that all that follows comes after them."""
-        meetings = (it for them in self.by_set.values() for it in them)
-        every = (call for it in meetings for call in it.calls.values())
-        return {it for it in every if find_ending(it.action) is not Ending.BLOCKS}
+        meetings = (joint_calls for them in self.by_set.values() for joint_calls in them)
+        every = (call for meeting in meetings for call in meeting.calls.values())
+        return {
+            each_call for each_call in every if find_ending(each_call.action) is not Ending.BLOCKS
+        }
 
 
 def is_collecting(call: Call) -> bool:
@@ -75,7 +77,10 @@ class OpenGroups:
         if isinstance(action, Fence):
             return action.names
         assert isinstance(action, Group), "it is a fence or of a group"
-        is_plain = all(it.key in OF_GROUPS for it in action.directives) and not call.has_failed
+        is_plain = (
+            all(directive.key in OF_GROUPS for directive in action.directives)
+            and not call.has_failed
+        )
         before = self.found.pop(action.name, None)
         names = (action.names if action.is_made else before) if is_plain else None
         if names and action.is_made:
@@ -88,10 +93,12 @@ def leave_out_groups(found: CallsBySet, notes: Notes) -> None:
     same in another order."""
     for members, calls in found.items():
         meetings = list(join_calls(members, calls))
-        are_alike = all(len(set(map(say_kind, it.calls.values()))) == 1 for it in meetings)
-        is_whole = all(it.is_whole for it in meetings)
+        are_alike = all(
+            len(set(map(say_kind, meeting.calls.values()))) == 1 for meeting in meetings
+        )
+        is_whole = all(each_meeting.is_whole for each_meeting in meetings)
         for process, them in calls.items():
-            fences = [it for it in them if isinstance(it.action, Fence)]
+            fences = [call for call in them if isinstance(call.action, Fence)]
             if len(fences) < len(them) and not (are_alike and is_whole):
                 notes.left_out[OTHER_GROUPS] += len(them) - len(fences)
                 calls[process] = fences
@@ -147,7 +154,9 @@ def split(meeting: JointCalls, mark: str, number: int) -> Part:
     part = Part()
     for source, call in meeting.calls.items():
         others = meeting.calls.items()
-        targets = {it: other for it, other in others if it is not source and other.end}
+        targets = {
+            process: other for process, other in others if process is not source and other.end
+        }
         part.add_order(f"{mark}{source.short_name}.{number}", source, call, targets)
     return part
 
@@ -175,7 +184,7 @@ def make_fences(sets: Sets, spelling: Spelling) -> PmixFences:
     bounds = Bounds()
     by_set: dict[Members, list[JointCalls]] = {}
     found = find_fences(sets, notes).items()
-    for meeting in (it for members, calls in found for it in join_calls(members, calls)):
+    for meeting in (call for members, calls in found for call in join_calls(members, calls)):
         why, count = why_left_out(meeting), len(meeting.calls)
         if why:
             notes.left_out[why] += count

@@ -46,7 +46,7 @@ def find_waits(draft: Draft) -> Part:
     for lines in draft.lines.values():
         offered.take(lines)
     awaited: dict[Line, Line] = {}
-    for line in (it for lines in draft.lines.values() for it in lines):
+    for line in (each_line for lines in draft.lines.values() for each_line in lines):
         found = offered.find(line)
         if len(found) == 1:
             awaited[line] = found[0]

@@ -58,7 +58,7 @@ class ValueWords:
 
     def say(self, word: str) -> str:
         """The word in a plan of the value that has this one here."""
-        return next((it.word for it, own in self.found.items() if own == word), word)
+        return next((value.word for value, own in self.found.items() if own == word), word)
 
 
 @dataclass(frozen=True)
@@ -96,12 +96,12 @@ def find_said(line: Line, names: Mapping[bytes, str]) -> Value | None:
     if not isinstance(action, Publish):
         return None
     name = line.words.split(" ")[1]
-    return next((it.value for it in action.pairs if names.get(it.key) == name), None)
+    return next((pair.value for pair in action.pairs if names.get(pair.key) == name), None)
 
 
 def write_with(plan: Plan, words: ValueWords) -> bytes:
     """The plan without comments, and with these words for values."""
-    lines = ["rehearsal 1", *(f"node {it}" for it in plan.processes.nodes.values())]
+    lines = ["rehearsal 1", *(f"node {node}" for node in plan.processes.nodes.values())]
     for job in plan.processes.jobs.values():
         lines.append(f"job {job.name}")
         for process in job.processes:
@@ -110,7 +110,7 @@ def write_with(plan: Plan, words: ValueWords) -> bytes:
                 value = find_said(line, plan.spelling.names.words)
                 said = f"{line.words.rpartition(' ')[0]} {words[value]}" if value else line.words
                 lines.append(said)
-    return "".join(f"{it}\n" for it in lines).encode()
+    return "".join(f"{each_line}\n" for each_line in lines).encode()
 
 
 def is_alike(answered: Answered, replayed: str, words: ValueWords) -> bool:
@@ -128,12 +128,12 @@ def compare(
     where the replay is of other calls."""
     count = calls = 0
     first: tuple[Answered, str] | None = None
-    for it in answers:
+    for answer in answers:
         said, calls = next(replayed, ""), calls + 1
-        if not said.startswith(f"{it.line.process.name} {it.number} {it.line.verb} "):
+        if not said.startswith(f"{answer.line.process.name} {answer.number} {answer.line.verb} "):
             raise ValueError(said)
-        if not is_alike(it, said, words):
-            count, first = count + 1, first or (it, said)
+        if not is_alike(answer, said, words):
+            count, first = count + 1, first or (answer, said)
     if not first:
         return None
     status, *value = first[1].split(" ")[3:]
@@ -158,11 +158,13 @@ def compare_answers(checker: Checker, plan: Plan) -> Differing | None:
 def has_notes(notes: Notes) -> bool:
     """Whether it is noted that the plan lacks something by which the program may go, or has an
     order that another run may not have."""
-    if any(any(it.values()) for it in (notes.cut_off, notes.more_ordered, notes.of_luck)):
+    if any(any(counter.values()) for counter in (notes.cut_off, notes.more_ordered, notes.of_luck)):
         return True
     lists = (notes.left_out, notes.otherwise)
     return any(
-        count and not TELLS_NOTHING.fullmatch(what) for it in lists for what, count in it.items()
+        count and not TELLS_NOTHING.fullmatch(what)
+        for counter in lists
+        for what, count in counter.items()
     )
 
 
@@ -178,7 +180,7 @@ def can_tell_more(call: Call) -> bool:
         value = end.value if isinstance(end, GetEnd) else None
         is_of_job = action.owner is not None and action.owner.rank is AnyRank.ALL
         return is_of_job or value is not None and value.kind is ValueKind.LONG_TEXT
-    return any(it.value.kind is ValueKind.LONG_TEXT for it in found)
+    return any(each_value.value.kind is ValueKind.LONG_TEXT for each_value in found)
 
 
 def says_run(call: Call, namespace: bytes) -> bool:
@@ -186,8 +188,8 @@ def says_run(call: Call, namespace: bytes) -> bool:
     MPI_Open_port gives has: in another run it is another."""
     action = call.action
     said = [action.value] if isinstance(action, Put) else []
-    said += [it.value for it in action.pairs] if isinstance(action, Publish) else []
-    return any(it.kind is ValueKind.TEXT and namespace in it.text for it in said)
+    said += [pair.value for pair in action.pairs] if isinstance(action, Publish) else []
+    return any(line.kind is ValueKind.TEXT and namespace in line.text for line in said)
 
 
 def is_seen(process: Process) -> bool:
@@ -195,7 +197,7 @@ def is_seen(process: Process) -> bool:
     library of MPI is seen to call PMIx."""
     recording = process.recording
     return recording.world is not None or not any(
-        find_ending(it.action) is Ending.CALLS_LIBRARY for it in recording.calls_of_pmix
+        find_ending(call.action) is Ending.CALLS_LIBRARY for call in recording.calls_of_pmix
     )
 
 
@@ -204,7 +206,8 @@ def is_told_all(process: Process) -> bool:
     calls say."""
     recording = process.recording
     return is_seen(process) and not any(
-        can_tell_more(it) or says_run(it, recording.namespace) for it in recording.calls_of_pmix
+        can_tell_more(call) or says_run(call, recording.namespace)
+        for call in recording.calls_of_pmix
     )
 
 

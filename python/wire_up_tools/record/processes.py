@@ -61,8 +61,8 @@ class Process:
         if self.recording.application is not None:
             return self.namespace, self.recording.application
         own = (ProcessName(self.namespace, self.rank), ProcessName(b"", self.rank))
-        told = (find_told_number(it, NUMBER_OF_APPLICATION, own) for it in self.recording.calls)
-        return self.namespace, next((it for it in told if it is not None), 0)
+        told = (find_told_number(call, NUMBER_OF_APPLICATION, own) for call in self.recording.calls)
+        return self.namespace, next((number for number in told if number is not None), 0)
 
 
 @dataclass(frozen=True)
@@ -97,12 +97,15 @@ Ranks = Mapping[int, Recording]
 def group_by_job(recordings: Sequence[Recording]) -> dict[bytes, Ranks]:
     """The recordings by their namespaces and ranks. Refuses one rank twice."""
     jobs: dict[bytes, dict[int, Recording]] = {}
-    for it in recordings:
-        ranks = jobs.setdefault(it.namespace, {})
-        if it.rank in ranks:
-            before, who = ranks[it.rank].path, f"rank {it.rank} of {show(it.namespace)}"
-            refuse(it.path, PROCESS_LINE, f"says that it is {who} once more, after {before}")
-        ranks[it.rank] = it
+    for recording in recordings:
+        ranks = jobs.setdefault(recording.namespace, {})
+        if recording.rank in ranks:
+            before, who = (
+                ranks[recording.rank].path,
+                f"rank {recording.rank} of {show(recording.namespace)}",
+            )
+            refuse(recording.path, PROCESS_LINE, f"says that it is {who} once more, after {before}")
+        ranks[recording.rank] = recording
     return {**jobs}
 
 
@@ -132,27 +135,27 @@ class Told(NamedTuple):
 def find_told_ranks(namespace: bytes, recordings: Sequence[Recording]) -> Iterator[Told]:
     """The ranks of a job that recordings tell of: by their heads, by the size of MPI_COMM_WORLD,
     by the job's size that the library told, and by sets of fences."""
-    for it in recordings:
-        if it.namespace == namespace:
-            yield Told(it.rank, it.path, PROCESS_LINE)
-        if it.world and it.namespace == namespace:
-            yield Told(it.world.size - 1, it.path, it.world.line)
-        for call in it.calls_of_pmix:
+    for recording in recordings:
+        if recording.namespace == namespace:
+            yield Told(recording.rank, recording.path, PROCESS_LINE)
+        if recording.world and recording.namespace == namespace:
+            yield Told(recording.world.size - 1, recording.path, recording.world.line)
+        for call in recording.calls_of_pmix:
             ranks: Iterator[int] = iter(())
             if isinstance(call.action, Fence):
                 ranks = find_ranks_in_fence(call, call.action, namespace)
-            elif it.namespace == namespace:
+            elif recording.namespace == namespace:
                 ranks = find_last_rank(call, namespace)
-            yield from (Told(rank, it.path, call.begins) for rank in ranks)
+            yield from (Told(rank, recording.path, call.begins) for rank in ranks)
 
 
 def refuse_missing(
     namespace: bytes, ranks: Ranks, recordings: Sequence[Recording], most: Limits
 ) -> None:
     """Refuses a job of which a rank has no recording."""
-    last = max(find_told_ranks(namespace, recordings), key=lambda it: it.rank)
+    last = max(find_told_ranks(namespace, recordings), key=lambda rank: rank.rank)
     count = last.rank + 1
-    missing = [it for it in range(min(count, 10 * most.processes)) if it not in ranks]
+    missing = [number for number in range(min(count, 10 * most.processes)) if number not in ranks]
     if missing:
         some = ", ".join(map(str, missing[:NAMED])) + (", .." if len(missing) > NAMED else "")
         refuse(
@@ -167,7 +170,7 @@ def name_nodes(jobs: Sequence[Ranks]) -> dict[bytes, str]:
     """Words for the hosts, in the order in which the processes name them."""
     hosts = dict.fromkeys(ranks[rank].host for ranks in jobs for rank in sorted(ranks))
     words = Words(hosts, NOT_IN_NODES)
-    return {it: words[it] for it in hosts}
+    return {host: words[host] for host in hosts}
 
 
 def make_job(name: str, ranks: Ranks, nodes: Mapping[bytes, str], first: int) -> Job:
@@ -201,9 +204,9 @@ def arrange_processes(recordings: Sequence[Recording], most: Limits) -> Processe
     by_job = group_by_job(recordings)
     for namespace, ranks in by_job.items():
         refuse_missing(namespace, ranks, recordings, most)
-    begun = {of: min(it.began for it in ranks.values()) for of, ranks in by_job.items()}
-    order = sorted(by_job, key=lambda it: (begun[it], it))
-    nodes = name_nodes([by_job[it] for it in order])
+    begun = {of: min(rank.began for rank in ranks.values()) for of, ranks in by_job.items()}
+    order = sorted(by_job, key=lambda text: (begun[text], text))
+    nodes = name_nodes([by_job[text] for text in order])
     jobs: dict[bytes, Job] = {}
     processes: list[Process] = []
     for number, namespace in enumerate(order):

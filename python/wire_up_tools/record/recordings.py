@@ -144,12 +144,12 @@ class Recording:
     @cached_property
     def calls_of_pmix(self) -> Sequence[Call]:
         """The calls of PMIx alone."""
-        return [it for it in self.calls if it.is_of_pmix]
+        return [call for call in self.calls if call.is_of_pmix]
 
     @property
     def threads(self) -> set[str]:
         """The threads that made calls."""
-        return {it.thread for it in self.calls} | self.messages.thread_words
+        return {call.thread for call in self.calls} | self.messages.thread_words
 
     def list_frames(self, number: str | None) -> list[Place]:
         """The place of a number and those at which the functions were called, from the outermost
@@ -202,7 +202,7 @@ def read_communicator(groups: Groups) -> RecordedCommunicator:
 
 def read_line(groups: Groups) -> Place:
     """A place that says its line by itself, without its number. Raises ValueError."""
-    file, function = (make_printable(decode_text(it)) for it in (groups[1], groups[3]))
+    file, function = (make_printable(decode_text(group)) for group in (groups[1], groups[3]))
     return f"{function} ({os.path.basename(file)}:{groups[2]})"
 
 
@@ -451,7 +451,7 @@ def read_recording(path: str, data: bytes) -> Recording:
 
 def has_recordings(folder: str) -> bool:
     """Whether there is a recording in a folder. Raises OSError."""
-    return any(it.endswith(ENDING) for it in os.listdir(folder))
+    return any(name.endswith(ENDING) for name in os.listdir(folder))
 
 
 def find_file(path: str) -> str:
@@ -467,8 +467,8 @@ def find_files(paths: Sequence[str]) -> list[str]:
     found: list[str] = []
     for path in paths:
         if os.path.isdir(path):
-            names = [it for it in os.listdir(path) if it.endswith(ENDING)]
-            found += sorted(map(find_file, [os.path.join(path, it) for it in names]))
+            names = [name for name in os.listdir(path) if name.endswith(ENDING)]
+            found += sorted(map(find_file, [os.path.join(path, each_name) for each_name in names]))
         else:
             found.append(path)
     return found
@@ -477,7 +477,7 @@ def find_files(paths: Sequence[str]) -> list[str]:
 def refuse_recordings(texts: Sequence[str | None], runs: Sequence[Sequence[str]]) -> None:
     """Refuses a text for the file of a recording that is read. Raises Unusable, Refused,
     OSError."""
-    read = {os.path.realpath(it) for run in runs for it in find_files(run)}
+    read = {os.path.realpath(file) for run in runs for file in find_files(run)}
     for path in filter(None, texts):
         if os.path.isfile(path) and os.path.realpath(path) in read:
             raise Unusable(f"{path} is a recording that is read")
@@ -503,9 +503,9 @@ def read_recordings(paths: Sequence[str], most: Limits) -> list[Recording]:
     found = []
     for path in files:
         refuse_other(path)
-        with open(path, "rb") as it:
-            found.append(read_recording(path, it.read()))
+        with open(path, "rb") as file:
+            found.append(read_recording(path, file.read()))
     if not found:
-        is_pmi = any(os.path.exists(os.path.join(it, STARTED_BY_PMI)) for it in paths)
+        is_pmi = any(os.path.exists(os.path.join(each_path, STARTED_BY_PMI)) for each_path in paths)
         raise NoRecording(f"there is no recording: {WITHOUT_PMIX if is_pmi else NOT_LOADED}")
     return found

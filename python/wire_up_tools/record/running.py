@@ -65,10 +65,11 @@ def find_libraries(folder: str, with_mpi: bool) -> list[str]:
         raise Refused("there is no recorder: `make record` builds it")
     of_mpi = find_library(folder, OF_MPI) if with_mpi else None
     found = [recorder, of_mpi] if of_mpi else [recorder]
-    for it in found:
-        if re.search(r"[\s:;]", it):
+    for each_recorder in found:
+        if re.search(r"[\s:;]", each_recorder):
             raise Refused(
-                f"{it}: no library can be preloaded from a path with spaces, colons or semicolons"
+                f"{each_recorder}: no library can be preloaded from a path with spaces, colons or"
+                " semicolons"
             )
     return found
 
@@ -77,11 +78,11 @@ def is_made_by_python(name: str) -> bool:
     """Whether Python itself set a variable, as it does with LC_CTYPE where no locale is chosen.
     The program is not to see it."""
     try:
-        with open("/proc/self/environ", "rb") as it:
-            given = it.read().split(b"\0")
+        with open("/proc/self/environ", "rb") as file:
+            given = file.read().split(b"\0")
     except OSError:
         return False
-    return name in os.environ and not any(it.startswith(f"{name}=".encode()) for it in given)
+    return name in os.environ and not any(part.startswith(f"{name}=".encode()) for part in given)
 
 
 def make_folder(path: str, kept: str | None) -> str:

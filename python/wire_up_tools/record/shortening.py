@@ -83,9 +83,15 @@ def shorten(draft: Draft) -> Shortened:
     race: gets that wait for what is surely there, messages whose receiver knows already all that
     its sender knows, and all of MPI's order after the last such call."""
     passed, last = find_candidates(draft)
-    gets = {it.line for it in passed if it.line.is_of_program and it.adds_nothing}
-    of_mpi = [it for it in passed if not it.line.is_of_program]
-    useless = [it.line for it in of_mpi if it.adds_nothing or it.count > last]
+    gets = {
+        candidate.line
+        for candidate in passed
+        if candidate.line.is_of_program and candidate.adds_nothing
+    }
+    of_mpi = [candidate for candidate in passed if not candidate.line.is_of_program]
+    useless = [
+        candidate.line for candidate in of_mpi if candidate.adds_nothing or candidate.count > last
+    ]
     gone = {line for line in useless if line.remark is None}
     gone |= find_useless_fences(draft, (line for line in useless if line.remark is not None))
     notes = Notes()

@@ -132,8 +132,8 @@ def find_root(above: "array[int]", stream: int) -> int:
 def find_joins(streams: Streams, asks: Set[Ask]) -> Iterator[tuple[int, int]]:
     """Pairs of streams for which one could ask together: of one source, of one tag, or any."""
     if Ask(ANY_RANK, ANY_TAG) in asks:
-        yield from ((0, it) for it in range(len(streams)))
-    sources = {it.source for it in asks if it.tag == ANY_TAG}
+        yield from ((0, each_number) for each_number in range(len(streams)))
+    sources = {ask.source for ask in asks if ask.tag == ANY_TAG}
     first: dict[int, int] = {}
     for number, source in enumerate(streams.sources) if sources else ():
         if source in sources:
@@ -146,7 +146,7 @@ def find_joins(streams: Streams, asks: Set[Ask]) -> Iterator[tuple[int, int]]:
 def part_streams(streams: Streams, asks: Iterable[tuple[int, int]]) -> Parts:
     """Parts streams into groups, by all that is asked for: those for which one receive could get
     a message of either are in one."""
-    shared = {it.tag for it in streams.others}
+    shared = {stream.tag for stream in streams.others}
     wide = {
         Ask(source, tag)
         for source, tag in asks

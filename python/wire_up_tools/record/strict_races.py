@@ -26,7 +26,7 @@ def list_strict_races(checker: Checker, plan: Plan, strict: Plan) -> list[str]:
     key_of = dict(list_places(strict.draft))
     places = {place: place_of[key] for place, key in key_of.items() if key in place_of}
     said = (translate(line, places) for line in ask(checker, strict))
-    return [it for it in said if it and it not in known][:NAMED]
+    return [each_line for each_line in said if each_line and each_line not in known][:NAMED]
 
 
 def ask(checker: Checker, plan: Plan) -> list[str]:

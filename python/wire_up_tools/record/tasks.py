@@ -121,8 +121,8 @@ def say(what: str) -> None:
 
 def say_where(asked: WhereRequest) -> int:
     """Writes where a call of a plan comes from. Raises Refused, OSError."""
-    with open(asked.plan, "rb") as it:
-        found = find_call_place(asked.process, asked.number, it.read())
+    with open(asked.plan, "rb") as file:
+        found = find_call_place(asked.process, asked.number, file.read())
     if found is None:
         raise Refused(f"{asked.plan}: has no call {asked.number} of {asked.process}")
     print(found)
@@ -265,7 +265,7 @@ def make_choices(output: Output, path: str | None) -> Choices:
 
 def find_run_places(plan: Plan, recordings: Sequence[Recording]) -> Places:
     """Where the calls of the plan of recordings come from. Raises Refused, OSError."""
-    folders = dict.fromkeys(os.path.dirname(it.path) for it in recordings)
+    folders = dict.fromkeys(os.path.dirname(recording.path) for recording in recordings)
     return find_places(plan.draft, read_places(folders))
 
 
@@ -281,13 +281,15 @@ def merge(output: Output, runs: Sequence[Sequence[str]], folder: str) -> None:
     gc.disable()
     path = output.checker or find_checker(folder)
     choices = make_choices(output, path)
-    recordings = [read_recordings(it, choices.most) for it in runs]
-    made = [make_run(it, choices) for it in recordings]
+    recordings = [read_recordings(each_run, choices.most) for each_run in runs]
+    made = [make_run(recording, choices) for recording in recordings]
     plan = merge_plans(made)
     if path is not None:
         checker = Checker(path, choices.most is LARGE)
         plan = judge_otherwise(
-            plan, lambda other: merge_plans([make_run(it, other) for it in recordings]), checker
+            plan,
+            lambda other: merge_plans([make_run(recording, other) for recording in recordings]),
+            checker,
         )
         plan = replace(plan, tested=test_plan(checker, plan, made))
     text = write_output(plan, made[0].places, output)
@@ -297,7 +299,7 @@ def merge(output: Output, runs: Sequence[Sequence[str]], folder: str) -> None:
     say_tested(plan.tested)
     say_verdicts(plan)
     if path is not None:
-        own = [write_plan(it.plan, it.places) for it in made]
+        own = [write_plan(each_run.plan, each_run.places) for each_run in made]
         for verdict in judge_runs(checker, text, own, bool(plan.partings)):
             say(verdict)
         say_besides(checker, plan, text)
@@ -364,8 +366,8 @@ def find_material(
 def show_of_plan(asked: ShowRequest, folder: str) -> int:
     """Shows races of a plan that is there, and answers 0. Raises Refused, NotRun, OSError."""
     assert asked.asked.of is not None, "there is a plan"
-    with open(asked.asked.of, "rb") as it:
-        data = it.read()
+    with open(asked.asked.of, "rb") as file:
+        data = file.read()
     if not read_plan(data).is_recorded:
         raise Refused(f"{asked.asked.of}: isn't a plan that wire_up-record wrote")
     room = make_folder(asked.output.plan, asked.output.kept)

@@ -45,20 +45,20 @@ def has_unknown_sends(recording: Recording) -> bool:
 def has_all_messages(inbox: SortedInbox) -> bool:
     """Whether recordings have all that was sent to a process in a communicator, and all that it
     received there, unless calls weren't seen."""
-    recordings = [inbox.target.recording, *(it.recording for it in inbox.peers)]
-    return all(it.has_finalized for it in recordings) and not any(
+    recordings = [inbox.target.recording, *(peer.recording for peer in inbox.peers)]
+    return all(recording.has_finalized for recording in recordings) and not any(
         pattern.fullmatch(name)
-        for it in recordings
-        for name in it.others
+        for recording in recordings
+        for name in recording.others
         for pattern in (SENDS, RECEIVES)
     )
 
 
 def note_unfit_messages(inbox: SortedInbox, groups: Sequence[Group], notes: Notes) -> None:
     """Notes where messages to a process, which are in groups, and its receives don't fit."""
-    asked_count = sum(len(it.streams) for it in groups)
+    asked_count = sum(len(group.streams) for group in groups)
     is_any_left = MISSED not in inbox.got and asked_count < len(inbox.streams)
-    is_unfit = is_any_left or any(it.match.is_unfit for it in groups)
+    is_unfit = is_any_left or any(group.match.is_unfit for group in groups)
     if is_unfit and has_all_messages(inbox):
         notes.more_ordered[MISFIT] += 1
 
@@ -70,12 +70,12 @@ def note_unfit_collectives(
     collectives in it that don't fit, or some that may have met none."""
     count = {len(them) for them in calls}
     is_whole = len(calls) == len(members)
-    are_over = all(it.recording.has_finalized for it in members)
+    are_over = all(member.recording.has_finalized for member in members)
     if are_over and (len(count) > 1 or not is_whole):
         notes.more_ordered[UNEQUAL] += 1
     if len(members) > 1:
         notes.more_ordered[FAILED] += sum(
-            it.has_failed or (are_over and is_left(it)) for them in calls for it in them
+            call.has_failed or (are_over and is_left(call)) for them in calls for call in them
         )
 
 

@@ -5,7 +5,7 @@ from collections.abc import Iterator, Mapping, Sequence
 from dataclasses import dataclass, field
 from typing import NamedTuple
 
-from wire_up_tools.record.calls import Call
+from wire_up_tools.record.calls import Call, Luck
 from wire_up_tools.record.communicators import Side
 from wire_up_tools.record.draft import (
     Draft,
@@ -60,12 +60,14 @@ class OpenGroup:
 def open_group(group: Group) -> OpenGroup:
     """A group with a call for each of its messages."""
     inbox, own, streams = group.inbox, group.inbox.own, dict[Stream, Sequence[Call]]()
-    for it in group.streams:
-        make_call = inbox.find_sender(it).recording.messages.make_call
-        streams[inbox.streams.name(it)] = [*map(make_call, inbox.sent.of_stream(it))]
+    for stream in group.streams:
+        make_call = inbox.find_sender(stream).recording.messages.make_call
+        streams[inbox.streams.name(stream)] = [*map(make_call, inbox.sent.of_stream(stream))]
     asked = [
-        PostedReceive(inbox.find_ask(it), own.make_call(inbox.asked[it]), inbox.is_receive(it))
-        for it in group.asked
+        PostedReceive(
+            inbox.find_ask(receive), own.make_call(inbox.asked[receive]), inbox.is_receive(receive)
+        )
+        for receive in group.asked
     ]
     return OpenGroup(streams, asked, group.has_chosen, inbox.target, inbox.peers)
 
@@ -76,12 +78,12 @@ class Taken:
 
     def __init__(self, asked: Sequence[PostedReceive]) -> None:
         self.count = 0
-        self.index_of = {it: n for n, it in enumerate(asked)}
+        self.index_of = {receive: n for n, receive in enumerate(asked)}
         self.waiting: dict[Ask, deque[int]] = {}
-        for n, it in enumerate(asked):
-            if it.is_receive:
-                self.waiting.setdefault(it.ask, deque()).append(n)
-        self.alike = {ask: self.find_alike(ask) for ask in {it.ask for it in asked}}
+        for n, receive in enumerate(asked):
+            if receive.is_receive:
+                self.waiting.setdefault(receive.ask, deque()).append(n)
+        self.alike = {ask: self.find_alike(ask) for ask in {receive.ask for receive in asked}}
 
     def take(self, got: PostedReceive) -> list[Ask]:
         """Adds a receive that ended, and those before it. Answers what the new ones asked for."""
@@ -98,7 +100,7 @@ class Taken:
         """What receives asked for that would have got each message that one of this could."""
         of_any = Ask(ask.source, ANY_TAG), Ask(ANY_RANK, ask.tag), Ask(ANY_RANK, ANY_TAG)
         alike = (ask, *of_any)
-        return [it for it in dict.fromkeys(alike) if it in self.waiting]
+        return [each_ask for each_ask in dict.fromkeys(alike) if each_ask in self.waiting]
 
 
 class PendingSend(NamedTuple):
@@ -126,7 +128,7 @@ class Counted:
         coming = [
             PendingSend(after[send], stream) for stream, sends in streams.items() for send in sends
         ]
-        self.coming = deque(sorted(coming, key=lambda it: it.after))
+        self.coming = deque(sorted(coming, key=lambda pending_send: pending_send.after))
         self.open: set[Stream] = set()
         self.spread = 0
 
@@ -169,21 +171,27 @@ class Counted:
                 self.have[stream] = sure
                 yield self.streams[stream][sure - 1]
         if is_scarce:
-            self.open = {it for it in self.open if self.could[it] > self.have[it]}
-            spreads = (self.could[it] - self.have[it] for it in self.open)
+            self.open = {
+                each_stream
+                for each_stream in self.open
+                if self.could[each_stream] > self.have[each_stream]
+            }
+            spreads = (
+                self.could[each_stream] - self.have[each_stream] for each_stream in self.open
+            )
             self.spread = max(spreads, default=0)
 
 
 def find_orders(
-    group: OpenGroup, after: Mapping[Call, int], is_strict: bool
+    group: OpenGroup, after: Mapping[Call, int], luck: Luck
 ) -> Iterator[tuple[Call, Call]]:
     """What comes before what in every run, where one receive could get messages of several
     processes: each message with the receive or probe that ends after it was sent."""
     taken, counted = Taken(group.asked), Counted(group.streams, after)
-    if is_strict and group.has_chosen:
+    if luck is Luck.IS_LEFT_OUT and group.has_chosen:
         return
-    for got in sorted(group.asked, key=lambda it: it.call.ends or 0):
-        if is_strict and got.call.is_left_to_luck:
+    for got in sorted(group.asked, key=lambda receive: receive.call.ends or 0):
+        if luck is Luck.IS_LEFT_OUT and got.call.is_left_to_luck:
             continue
         asks = taken.take(got)
         counted.come_to(got.call.ends or 0)
@@ -197,17 +205,17 @@ def find_lines_before(
 ) -> dict[Call, int]:
     """For each message of open groups up to which line of its receiver's recording it comes after,
     by what a draft has so far."""
-    receivers = {it.target for it in groups}
+    receivers = {group.target for group in groups}
     message_of = {
-        sent[send]: (send, it.target)
-        for it in groups
-        for sends in it.streams.values()
+        sent[send]: (send, group.target)
+        for group in groups
+        for sends in group.streams.values()
         for send in sends
     }
     found = {send: AFTER_NOTHING for send, _ in message_of.values()}
     heard = find_heard(draft) | message_of.keys()
     told: dict[Line, Latest] = {}
-    known: dict[Process, Latest] = {it: {} for it in draft.lines}
+    known: dict[Process, Latest] = {each_line: {} for each_line in draft.lines}
     for step, line in walk(draft):
         process = line.process
         if step is Step.REACHED and line in heard:
@@ -219,7 +227,7 @@ def find_lines_before(
         elif step is Step.PASSED:
             sources = find_sources(draft, line)
             if sources:
-                known[process] = merge([known[process], *(told[it] for it in sources)])
+                known[process] = merge([known[process], *(told[source] for source in sources)])
     return found
 
 
@@ -232,11 +240,11 @@ def find_sources(draft: Draft, line: Line) -> Sequence[Line]:
 def publish_messages(groups: Sequence[OpenGroup], names: MessageNames) -> dict[Call, Line]:
     """A line for each message of open groups."""
     found: dict[Call, Line] = {}
-    for it in groups:
-        for stream, sends in it.streams.items():
-            source = it.peers[stream.source]
+    for group in groups:
+        for stream, sends in group.streams.items():
+            source = group.peers[stream.source]
             for send in sends:
-                found[send] = make_publish(names.next(source, it.target), source, send)
+                found[send] = make_publish(names.next(source, group.target), source, send)
     return found
 
 
@@ -255,17 +263,17 @@ class Waits:
             self.known.add((line, ended))
             self.part.add_wait(line, target, ended)
 
-    def add_all(self, groups: Sequence[OpenGroup], draft: Draft, is_strict: bool) -> None:
+    def add_all(self, groups: Sequence[OpenGroup], draft: Draft, luck: Luck) -> None:
         """Adds all that holds in every run by what a draft has so far."""
         after = find_lines_before(draft, groups, self.sent)
-        for it in groups:
-            for message, ended in find_orders(it, after, is_strict):
-                self.add(it.target, message, ended)
+        for group in groups:
+            for message, ended in find_orders(group, after, luck):
+                self.add(group.target, message, ended)
 
     def finish(self) -> Part:
         """The lines that wait, and those that send what is waited for."""
         heard = set(self.part.awaited.values())
-        lines = [it for it in self.sent.values() if it in heard]
+        lines = [line for line in self.sent.values() if line in heard]
         return Part([*lines, *self.part.lines], self.part.awaited)
 
 
@@ -274,20 +282,20 @@ def order_open_groups(
     parts: Sequence[Part],
     groups: Sequence[Group],
     names: MessageNames,
-    is_strict: bool,
+    luck: Luck,
 ) -> Ordered:
     """Orders messages that could have come otherwise, by what holds in every run.
 
     What is ordered already, by `parts`, rules messages out: one that is sent after a receive has
     ended can't be the one that it got. So it begins again as long as that brings more.
     """
-    opened = [open_group(it) for it in groups]
+    opened = [open_group(group) for group in groups]
     waits, before, rounds = Waits(publish_messages(opened, names)), -1, 0
     published = Part([*waits.sent.values()])
     while len(waits.known) != before and rounds < MOST_ROUNDS:
         before, rounds = len(waits.known), rounds + 1
         draft = make_draft(processes, [*parts, published, waits.part])
-        waits.add_all(opened, draft, is_strict)
+        waits.add_all(opened, draft, luck)
     return Ordered(waits.finish(), count=len(waits.known))
 
 
@@ -296,12 +304,12 @@ def count_left_to_luck(group: Group) -> int:
     if group.has_chosen:
         return len(group.asked)
     inbox = group.inbox
-    return sum(inbox.own.is_left_to_luck(inbox.asked[it]) for it in group.asked)
+    return sum(inbox.own.is_left_to_luck(inbox.asked[receive]) for receive in group.asked)
 
 
 def note_open_groups(groups: Sequence[Group]) -> Ordered:
     """Notes messages that could have come otherwise, and which of their ends were left to luck."""
-    notes, count = Notes(), sum(it.match.receive_count for it in groups)
+    notes, count = Notes(), sum(group.match.receive_count for group in groups)
     notes.otherwise[
         "receives that could have got messages of several processes: "
         "they order what holds whichever they got"

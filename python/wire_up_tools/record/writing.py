@@ -78,9 +78,9 @@ SUCCESS, WAITING, UNREACHED = STATUSES[0], "waiting", "unreached"
 
 def say_recordings(plan: Plan) -> Iterator[str]:
     """When was recorded, and what the jobs and nodes are."""
-    recordings = [it.recording for it in plan.processes.all]
-    when = datetime.fromtimestamp(min(it.began for it in recordings), timezone.utc)
-    libraries = ", ".join(sorted({make_printable(it.library) for it in recordings}))
+    recordings = [process.recording for process in plan.processes.all]
+    when = datetime.fromtimestamp(min(recording.began for recording in recordings), timezone.utc)
+    libraries = ", ".join(sorted({make_printable(recording.library) for recording in recordings}))
     yield f"# {RECORDED_BY} on {when:%Y-%m-%d}: {len(recordings)} processes, {libraries}"
     for job in plan.processes.jobs.values():
         yield f"# The job {job.name} is the namespace {show(job.namespace)}."
@@ -125,8 +125,8 @@ def say_mpi(plan: Plan) -> Iterator[str]:
     yield from say_luck(plan)
     if mpi.strict_races:
         yield f"# {STRICT_ALONE}"
-        yield from (f"#   {it}" for it in mpi.strict_races)
-    if not choices.with_mpi or not any(it.recording.world for it in plan.processes.all):
+        yield from (f"#   {race}" for race in mpi.strict_races)
+    if not choices.with_mpi or not any(process.recording.world for process in plan.processes.all):
         yield (
             f"# {WITHOUT_MPI}: if MPI orders the calls of a race, it is reported all the same."
         )
@@ -164,7 +164,7 @@ def say_notes(plan: Plan) -> Iterator[str]:
     for title, them in list_notes(plan):
         if them:
             yield f"# {title}"
-            yield from (f"#   {it}" for it in them)
+            yield from (f"#   {text}" for text in them)
 
 
 def say_tested(plan: Plan) -> Iterator[str]:
@@ -177,7 +177,7 @@ def say_tested(plan: Plan) -> Iterator[str]:
     for title, said in lists:
         if said:
             yield f"# {title}"
-            yield from (f"#   {it}" for it in said)
+            yield from (f"#   {line}" for line in said)
 
 
 def say_head(plan: Plan) -> list[str]:
@@ -231,7 +231,7 @@ def write_script(lines: Iterable[Line], texts: dict[str | None, str]) -> Iterato
 
 def write_body(plan: Plan, places: Places | None) -> list[str]:
     """The lines of the plan below its head."""
-    lines = ["rehearsal 1", *(f"node {it}" for it in plan.processes.nodes.values())]
+    lines = ["rehearsal 1", *(f"node {node}" for node in plan.processes.nodes.values())]
     for job in plan.processes.jobs.values():
         lines.append(f"job {job.name}")
         for process in job.processes:
@@ -246,7 +246,7 @@ def join_lines(head: Sequence[str], body: Sequence[str], is_large: bool) -> str:
     size = sum(map(len, head)) + sum(map(len, body)) + len(head) + len(body)
     more = ["# Larger than the plain limits: `wire_up check --large` reads it."]
     is_past = is_large or size > VERSION_1.plan_bytes
-    return "".join(f"{it}\n" for it in [*head, *(more if is_past else []), *body])
+    return "".join(f"{word}\n" for word in [*head, *(more if is_past else []), *body])
 
 
 def write_plan(plan: Plan, places: Places | None = None) -> str:
@@ -260,7 +260,7 @@ def write_plan(plan: Plan, places: Places | None = None) -> str:
     head, body = say_head(plan), write_body(plan, places)
     text = join_lines(head, body, is_large)
     if len(text) > (most if is_large else VERSION_1).plan_bytes:
-        body = [it for it in body if not it.startswith(LEFT_AWAY)]
+        body = [each_text for each_text in body if not each_text.startswith(LEFT_AWAY)]
         text = join_lines(head, body, is_large)
     refuse_past(most.plan_bytes, "bytes", len(text))
     return text
@@ -308,7 +308,7 @@ def list_answers(plan: Plan) -> Iterator[Answered]:
 def write_answers(plan: Plan) -> str:
     """How the calls of a plan ended, in the form of a report."""
     answers, waiting = [], 0
-    for it in list_answers(plan):
-        answers.append(it.write(it.value.word if it.value else ""))
-        waiting += it.status == WAITING
-    return "".join(f"{it}\n" for it in [*answers, f"waiting {waiting}"])
+    for answer in list_answers(plan):
+        answers.append(answer.write(answer.value.word if answer.value else ""))
+        waiting += answer.status == WAITING
+    return "".join(f"{answer}\n" for answer in [*answers, f"waiting {waiting}"])

@@ -48,9 +48,9 @@ def find_arrow_lines(layout: Layout) -> list[Way]:
 
 def list_taken(layout: Layout) -> list[Taken]:
     """What arrows must not go over: labels, and the marks of other calls."""
-    points = ((it, layout.find_point(it)) for it in layout.diagram.items)
-    marks = [(it, widen(Box(at, at), AROUND_CALL)) for it, at in points]
-    return [*marks, *((None, widen(it.box, AROUND_LABEL)) for it in list_labels(layout))]
+    points = ((item, layout.find_point(item)) for item in layout.diagram.items)
+    marks = [(item, widen(Box(at, at), AROUND_CALL)) for item, at in points]
+    return [*marks, *((None, widen(label.box, AROUND_LABEL)) for label in list_labels(layout))]
 
 
 def find_bent(
@@ -60,9 +60,9 @@ def find_bent(
     None where there is none."""
     bent = sorted(list_bent(layout, arrow), key=measure)[:MOST_WAYS]
     ways = itertools.chain(bent, list_ways(layout, arrow))
-    free = [it for it in ways if is_free(it, taken)]
+    free = [row for row in ways if is_free(row, taken)]
     for near in (FAR, NEAR):
-        apart = (way for way in free if not any(share(way, it, near) for it in others))
+        apart = (way for way in free if not any(share(way, row, near) for row in others))
         found = next(apart, None)
         if found:
             return found
@@ -77,7 +77,7 @@ def list_bent(layout: Layout, arrow: Link) -> Iterator[Way]:
     top, bottom = sorted((one.y, other.y))
     across = [x - by for x in layout.lanes if left <= x <= right for by in BESIDE_LANE]
     edges = {y + by for y in layout.rows.values() for by in (EDGE, -EDGE)}
-    down = [it for it in edges if top < it < bottom]
+    down = [edge for edge in edges if top < edge < bottom]
     end = other.y - EDGE if other.y > one.y else other.y + EDGE
     for x, y in itertools.product(across, down):
         yield one, Point(x, y), other
@@ -101,7 +101,7 @@ def share(one: Way, other: Way, near: float) -> bool:
 def list_upright(way: Way) -> list[Box]:
     """The parts of a way that go straight down or up."""
     return [
-        Box(min(a, b, key=lambda it: it.y), max(a, b, key=lambda it: it.y))
+        Box(min(a, b, key=lambda point: point.y), max(a, b, key=lambda each_point: each_point.y))
         for a, b in zip(way, way[1:])
         if a.x == b.x
     ]

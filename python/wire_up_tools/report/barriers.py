@@ -29,7 +29,7 @@ WAITING = ("get", "lookup-wait", "fence")
 def is_of_mpi(plan: Plan) -> bool:
     """Whether the ranks of a recorded plan are known to have a communicator of MPI."""
     head = plan.declared.head
-    return plan.is_recorded and not any(it.startswith(words.WITHOUT_MPI) for it in head)
+    return plan.is_recorded and not any(text.startswith(words.WITHOUT_MPI) for text in head)
 
 
 # --- a barrier that is there ---
@@ -57,9 +57,9 @@ class Move:
 
 def find_move(order: Order, finding: Finding, leader: Call) -> Move | None:
     """The shortest move by which one call of a race comes first; None where there is none."""
-    found = (find_move_past(order, finding, leader, it) for it in order.plan.meetings)
-    moves = [it for it in found if it]
-    return min(moves, key=lambda it: it.distance) if moves else None
+    found = (find_move_past(order, finding, leader, meeting) for meeting in order.plan.meetings)
+    moves = [move for move in found if move]
+    return min(moves, key=lambda move: move.distance) if moves else None
 
 
 def find_move_past(
@@ -71,7 +71,7 @@ def find_move_past(
     if not meeting.is_whole or None in both:
         return None
     ranks = (leader.rank.name, other.rank.name)
-    own, others = (order.plan.find_call(it, numbers[it]) for it in ranks)
+    own, others = (order.plan.find_call(rank, numbers[rank]) for rank in ranks)
     if is_of_mpi(order.plan) and not own.remark:
         return None
     is_after = own.number > leader.number and others.number > other.number
@@ -89,8 +89,8 @@ def can_come_after(order: Order, finding: Finding, call: Call, fence: Call) -> b
     calls = order.plan.calls_of[call.rank.name]
     after = calls[fence.number] if fence.number < len(calls) else None
     changes = list_changes(order, finding)
-    return all(order.is_before(it, fence) or (after and order.is_before(after, it))
-               for it in changes)
+    return all(order.is_before(change, fence) or (after and order.is_before(after, change))
+               for change in changes)
 
 
 def list_changes(order: Order, finding: Finding) -> Iterator[Call]:
@@ -107,7 +107,7 @@ def can_come_before(order: Order, call: Call, fence: Call) -> bool:
     between = order.plan.calls_of[call.rank.name][fence.number:call.number - 1]
     is_once = len(order.uses.publishes.get(call.about, ())) == 1
     is_kept = call.verb == "publish" and is_once and call.about not in order.uses.unpublished
-    return is_kept and not any(it.verb in WAITING for it in between)
+    return is_kept and not any(each_call.verb in WAITING for each_call in between)
 
 
 # --- a new barrier ---
@@ -119,10 +119,10 @@ def say_turns(order: Order, first: Call, later: Sequence[Call]) -> str:
     is_last = passed[first.rank] == first.number
     own = f"after {tell_own(plan, first)}" if is_last else say_spot(plan, first.rank, passed)
     spots = {first.rank: own}
-    for it in later:
-        told, is_free = tell_own(plan, it), passed[it.rank] == it.number
-        moved = f"{say_spot(plan, it.rank, passed)} and moves {told} behind it"
-        spots[it.rank] = f"before {told}" if is_free else moved
+    for call in later:
+        told, is_free = tell_own(plan, call), passed[call.rank] == call.number
+        moved = f"{say_spot(plan, call.rank, passed)} and moves {told} behind it"
+        spots[call.rank] = f"before {told}" if is_free else moved
     if is_of_all(plan, first, later[0]):
         for rank in plan.ranks:
             if rank.job == first.rank.job and rank not in spots:
@@ -176,17 +176,17 @@ def choose_passed(order: Order, calls: Sequence[Call]) -> Mapping[Rank, int]:
     if not is_of_all(order.plan, *calls[:2]):
         return passed
     one_line = find_passed(order, [*calls, *list_alike(order.plan, calls, passed)])
-    return one_line if all(one_line[it.rank] == it.number for it in calls) else passed
+    return one_line if all(one_line[call.rank] == call.number for call in calls) else passed
 
 
 def list_alike(plan: Plan, calls: Sequence[Call], passed: Mapping[Rank, int]) -> list[Call]:
     """Of each other rank of the job the first call at the place of the first of these that isn't
     too early."""
-    first, ranks, found = calls[0], [it.rank for it in calls], []
+    first, ranks, found = calls[0], [call.rank for call in calls], []
     for rank in plan.ranks:
         if rank.job == first.rank.job and rank not in ranks:
             later = plan.calls_of[rank.name][max(passed.get(rank, 0) - 1, 0):]
-            found += list(itertools.islice((it for it in later if is_alike(it, first)), 1))
+            found += list(itertools.islice((call for call in later if is_alike(call, first)), 1))
     return found
 
 
@@ -205,8 +205,8 @@ def find_passed(order: Order, calls: Sequence[Call]) -> Mapping[Rank, int]:
         for rank, reach in order.find_earlier(waiting.pop()).items():
             new = order.plan.calls_of[rank.name][passed[rank]:reach.number]
             passed[rank] = max(passed[rank], reach.number)
-            parts = {number for it in new for number in find_number(it)}
-            waiting += [part for it in parts for part in collectives.pop(it, ())]
+            parts = {number for call in new for number in find_number(call)}
+            waiting += [part for each_part in parts for part in collectives.pop(each_part, ())]
     return passed
 
 

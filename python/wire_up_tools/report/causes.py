@@ -38,12 +38,12 @@ class Cause:
     @property
     def count(self) -> int:
         """How many findings it has."""
-        return sum(it.count for it in self.groups)
+        return sum(group.count for group in self.groups)
 
     @property
     def abouts(self) -> Sequence[str]:
         """The keys or names that its findings are about."""
-        return list(dict.fromkeys(it.first.about for it in self.groups))
+        return list(dict.fromkeys(group.first.about for group in self.groups))
 
 
 def find_causes(groups: Iterable[Group]) -> list[Cause]:
@@ -51,12 +51,12 @@ def find_causes(groups: Iterable[Group]) -> list[Cause]:
     found: dict[Hashable, list[Group]] = collections.defaultdict(list)
     for group in groups:
         found[name_cause(group.first)].append(group)
-    causes = sorted(map(Cause, found.values()), key=lambda it: -it.count)
+    causes = sorted(map(Cause, found.values()), key=lambda each_cause: -each_cause.count)
     by_kind: dict[Hashable, list[Cause]] = collections.defaultdict(list)
     for cause in causes:
         by_kind[describe_kind(cause.first)].append(cause)
     in_turn = itertools.zip_longest(*by_kind.values())
-    return [it for causes_in_turn in in_turn for it in causes_in_turn if it]
+    return [each_cause for causes_in_turn in in_turn for each_cause in causes_in_turn if each_cause]
 
 
 def describe_kind(finding: Finding) -> Hashable:
@@ -68,12 +68,12 @@ def name_cause(finding: Finding) -> Hashable:
     """What findings of one cause have alike."""
     kind, calls = describe_kind(finding), finding.calls
     if finding.kind is Kind.KEY:
-        bringer = next(it for it in calls if it.verb == finding.bringer)
+        bringer = next(call for call in calls if call.verb == finding.bringer)
         return kind, find_own(bringer) or bringer.name
-    sweep = next((it.name for it in calls if it.about == EVERY_NAME), None)
+    sweep = next((call.name for call in calls if call.about == EVERY_NAME), None)
     if sweep:
         return kind, sweep
-    places = tuple(name_place(it) for it in calls)
+    places = tuple(name_place(call) for call in calls)
     if finding.kind is Kind.REWRITE:
         return kind, finding.owner, *places
     return kind, re.sub(r"\d+", "#", finding.about), *sorted(places)

@@ -15,6 +15,6 @@ def find_chain(asker: Asker, plan: Plan, first: Call, second: Call) -> Sequence[
     if said.get("before") != "first":
         return []
     try:
-        return [plan.find_call(it["proc"], it["call"]) for it in said["chain"]]
+        return [plan.find_call(line["proc"], line["call"]) for line in said["chain"]]
     except (LookupError, TypeError):
         raise asker.refuse("chain") from None

@@ -138,7 +138,7 @@ class Report:
     def left_out(self) -> Sequence[str]:
         """What a recorded plan leaves out: first what can hide a race."""
         titles = (words.LEFT_OUT, words.LEFT_OUT_HARMLESS)
-        return [it for title in titles for it in self.plan.list_in_head(title)]
+        return [text for title in titles for text in self.plan.list_in_head(title)]
 
 
 def make_report(path: str, asker: Asker) -> Report:
@@ -156,7 +156,7 @@ def make_report(path: str, asker: Asker) -> Report:
     report = replace(report, is_past_limits=is_past_limits(asker))
     if not causes:
         return replace(report, wire_up=find_wire_up(asker, order))
-    return replace(report, details=[find_detail(search, order, it) for it in causes[:CAUSES]])
+    return replace(report, details=[find_detail(search, order, cause) for cause in causes[:CAUSES]])
 
 
 def is_past_limits(asker: Asker) -> bool:
@@ -200,5 +200,7 @@ def find_stuck(asker: Asker, waits: Sequence[Wait]) -> tuple[Sequence[str], Sequ
     them; where it doesn't, as the calls that wait tell."""
     told = find_standstill(asker) if waits else None
     if told:
-        return [it.rank for it in told.circle], [it.rank for it in told.never]
-    return find_circle(waits), [it.call.rank.name for it in waits if not it.ranks]
+        return [standing.rank for standing in told.circle], [
+            standing.rank for standing in told.never
+        ]
+    return find_circle(waits), [wait.call.rank.name for wait in waits if not wait.ranks]

@@ -118,7 +118,7 @@ class Diagram:
     @property
     def rows(self) -> list[Row]:
         """Its rows, from the top."""
-        return sorted({it.row for it in self.items} | {it.row for it in self.bars})
+        return sorted({item.row for item in self.items} | {bar.row for bar in self.bars})
 
     @property
     def links(self) -> list[Link]:
@@ -129,16 +129,16 @@ class Diagram:
     def lines(self) -> set[int]:
         """The lines of the plan that it names."""
         marks = (mark.line for bar in self.bars for mark in bar.marks.values())
-        return {line for line in (*(it.line for it in self.items), *marks) if line}
+        return {line for line in (*(item.line for item in self.items), *marks) if line}
 
     def list_spots(self, lane: int) -> list[Spot]:
         """What stands in a lane, from the top."""
-        spots = {Spot(it.row, it.first, it.last) for it in self.items if it.lane == lane}
+        spots = {Spot(item.row, item.first, item.last) for item in self.items if item.lane == lane}
         for bar in self.bars:
             if lane in bar.marks:
                 mark = bar.marks[lane]
                 spots.add(Spot(bar.row, mark.number, max(mark.number, mark.last)))
-        return sorted(spots, key=lambda it: (it.row, it.last))
+        return sorted(spots, key=lambda spot: (spot.row, spot.last))
 
 
 def row_of(order: Order, call: Call) -> Row:
@@ -161,24 +161,26 @@ def label_call(call: Call) -> str:
 
 def make_bars(order: Order, lanes: Mapping[str, int], meetings: Iterable[Meeting]) -> list[Bar]:
     """The bars of fences over the lanes of their members, by the names of the ranks."""
-    rows = {row_of_meeting(order, it): it for it in meetings}
+    rows = {row_of_meeting(order, meeting): meeting for meeting in meetings}
     in_rows: list[list[Meeting]] = []
     for row in sorted(rows):
         if in_rows and is_next(in_rows[-1][-1], rows[row], lanes):
             in_rows[-1].append(rows[row])
         else:
             in_rows.append([rows[row]])
-    bars = [Bar(row_of_meeting(order, it[0]), make_marks(it, lanes)) for it in in_rows]
-    return [it for it in bars if it.marks]
+    bars = [
+        Bar(row_of_meeting(order, each_row[0]), make_marks(each_row, lanes)) for each_row in in_rows
+    ]
+    return [bar for bar in bars if bar.marks]
 
 
 def is_next(one: Meeting, other: Meeting, lanes: Mapping[str, int]) -> bool:
     """Whether in each lane a fence comes right after another of the same name."""
-    calls = {it.rank.name: it for it in one.calls if it.rank.name in lanes}
-    after = {it.rank.name: it for it in other.calls if it.rank.name in lanes}
+    calls = {call.rank.name: call for call in one.calls if call.rank.name in lanes}
+    after = {call.rank.name: call for call in other.calls if call.rank.name in lanes}
     return calls.keys() == after.keys() and all(
-        it.number + 1 == after[name].number and name_call(it) == name_call(after[name])
-        for name, it in calls.items()
+        call.number + 1 == after[name].number and name_call(call) == name_call(after[name])
+        for name, call in calls.items()
     )
 
 
@@ -204,9 +206,10 @@ def label_fences(call: Call, more: int) -> str:
 def leave_out_implied(diagram: Diagram) -> Diagram:
     """Leaves out the arrows between calls that a fence of the diagram orders: its bar says it."""
     kept = [
-        it
-        for it in diagram.arrows
-        if it.target.style is Style.WAITING or not any(is_said(bar, it) for bar in diagram.bars)
+        arrow
+        for arrow in diagram.arrows
+        if arrow.target.style is Style.WAITING
+        or not any(is_said(bar, arrow) for bar in diagram.bars)
     ]
     return dataclasses.replace(diagram, arrows=kept)
 

@@ -46,13 +46,13 @@ def draw_svg(layout: Layout, about: str) -> str:
     diagram = layout.diagram
     parts = [draw_lane(layout, lane) for lane in range(len(diagram.lanes))]
     items = len(diagram.items)
-    bars = ((number, it) for number, it in enumerate(diagram.bars, items) if it.marks)
-    parts += [group(f"at {name_part(number)}", draw_bar(layout, it)) for number, it in bars]
+    bars = ((number, bar) for number, bar in enumerate(diagram.bars, items) if bar.marks)
+    parts += [group(f"at {name_part(number)}", draw_bar(layout, bar)) for number, bar in bars]
     arrows = enumerate(zip(diagram.arrows, find_arrow_lines(layout)))
-    parts += [group(f"way {name_arrow(number)}", draw_arrow(*it)) for number, it in arrows]
+    parts += [group(f"way {name_arrow(number)}", draw_arrow(*pair)) for number, pair in arrows]
     parts += [draw_race(layout, diagram.race)] if diagram.race else []
     calls = enumerate(diagram.items)
-    parts += [group(f"at {name_part(number)}", draw_item(layout, it)) for number, it in calls]
+    parts += [group(f"at {name_part(number)}", draw_item(layout, item)) for number, item in calls]
     width, height = f"{layout.width:.0f}", f"{layout.height:.0f}"
     size = f'width="{width}" height="{height}" viewBox="0 0 {width} {height}"'
     kind = ' class="broad"' if layout.width > BROAD else ""
@@ -70,8 +70,8 @@ def draw_lane(layout: Layout, lane: int) -> str:
     """A lane: its names, its line, and what isn't drawn beside it."""
     x, bottom = layout.lanes[lane], f"{layout.height - 6:.0f}"
     line = f'x1="{x:.1f}" x2="{x:.1f}" y1="{HEAD_HEIGHT - 8}" y2="{bottom}"'
-    names = [draw_label(it) for it in label_lane(layout, lane)]
-    gaps = [draw_label(label_gap(layout, it)) for it in layout.gaps if it.lane == lane]
+    names = [draw_label(label) for label in label_lane(layout, lane)]
+    gaps = [draw_label(label_gap(layout, gap)) for gap in layout.gaps if gap.lane == lane]
     return "\n".join([*names, f'<line class="lane" {line}/>', *gaps])
 
 
@@ -92,7 +92,7 @@ def split_bar(layout: Layout, bar: Bar) -> list[tuple[float, float]]:
     """The left and the right end of each part of a bar."""
     first, last = min(bar.marks), max(bar.marks)
     past = 6 if len(bar.marks) > 1 else 14
-    others = [layout.lanes[it] for it in range(first, last) if it not in bar.marks]
+    others = [layout.lanes[number] for number in range(first, last) if number not in bar.marks]
     left = [layout.lanes[first] - past, *(x + 10 for x in others)]
     right = [*(x - 10 for x in others), layout.lanes[last] + past]
     return list(zip(left, right))
@@ -122,7 +122,7 @@ def draw_way(line: Way, kind: str) -> str:
 
 def write_points(points: Iterable[Point]) -> str:
     """Points as SVG takes them."""
-    return " ".join(f"{it.x:.1f},{it.y:.1f}" for it in points)
+    return " ".join(f"{point.x:.1f},{point.y:.1f}" for point in points)
 
 
 def draw_race(layout: Layout, link: Link) -> str:
@@ -166,8 +166,8 @@ NEVER = f'<line class="arrow never" x1="1" y1="6" x2="22" y2="6"/>{TIP}'
 
 def draw_legend(diagram: Diagram) -> str:
     """What the marks mean that a diagram has, and what is said below it."""
-    styles = {it.style for it in diagram.items}
-    sources = {it.source.style for it in diagram.arrows}
+    styles = {item.style for item in diagram.items}
+    sources = {arrow.source.style for arrow in diagram.arrows}
     is_rewrite = Style.RACING in styles and not diagram.race
     entries = (
         (True, CALL, "a call; what is lower in a lane comes later"),
@@ -180,7 +180,7 @@ def draw_legend(diagram: Diagram) -> str:
         (Style.UNREACHED in sources, NEVER, "waits for what never comes"),
     )
     shown = [draw_swatch(mark, meaning) for is_there, mark, meaning in entries if is_there]
-    return "".join([*shown, *(f"<span>{escape(it)}</span>" for it in diagram.notes)])
+    return "".join([*shown, *(f"<span>{escape(note)}</span>" for note in diagram.notes)])
 
 
 def draw_swatch(mark: str, meaning: str) -> str:

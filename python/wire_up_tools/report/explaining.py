@@ -135,7 +135,7 @@ def say_what(finding: Finding, abouts: Sequence[str]) -> str:
     noun = "name" if finding.kind is Kind.NAME else "key"
     if len(abouts) < 2:
         return f"the {noun} {quote(finding, finding.about)}"
-    some = [quote(finding, it) for it in abouts[:SHOWN]]
+    some = [quote(finding, text) for text in abouts[:SHOWN]]
     shown = ", ".join([*some, *([".."] if len(abouts) > SHOWN else [])])
     return f"{len(abouts):,} {noun}s ({shown})"
 
@@ -157,20 +157,20 @@ def explain(finding: Finding, order: Order) -> str:
 def say_poll(finding: Finding, order: Order) -> str:
     """What it means that a program asks for a name again and again where a lookup of a race comes
     from; nothing where it asks once."""
-    lookup = next((it for it in finding.calls if it.verb == "lookup"), None)
+    lookup = next((call for call in finding.calls if call.verb == "lookup"), None)
     if not lookup or not lookup.place or not choose_wait(finding, order):
         return ""
     same = [
-        it
-        for it in order.plan.calls_of[lookup.rank.name]
-        if (it.verb, it.about, it.place) == (lookup.verb, lookup.about, lookup.place)
+        call
+        for call in order.plan.calls_of[lookup.rank.name]
+        if (call.verb, call.about, call.place) == (lookup.verb, lookup.about, lookup.place)
     ]
     return say(MEANING_OF_POLL, finding, count=f"{len(same)}") if len(same) > 1 else ""
 
 
 def explain_rewrite(finding: Finding, order: Order) -> str:
     """What it means that a key is put twice."""
-    spots = [name_shown(order.plan, it) for it in finding.calls]
+    spots = [name_shown(order.plan, call) for call in finding.calls]
     one, other = map(order.uses.find_commit, finding.calls)
     puts = f"{finding.owner} puts it at {spots[0]} and again at {spots[1]}"
     if not other:
@@ -243,7 +243,7 @@ def say_by_mpi(finding: Finding, order: Order, is_named: bool) -> str:
 def choose_wait(finding: Finding, order: Order) -> str | None:
     """The fix by which the call waits that doesn't; None where that orders nothing."""
     if finding.kind is Kind.KEY:
-        is_open = any(it.endswith(NOT_WAITED) for it in order.plan.declared.head)
+        is_open = any(text.endswith(NOT_WAITED) for text in order.plan.declared.head)
         return "{use_get}" + BY_LIBRARY * is_open
     is_open = "lookup" in finding.verbs and finding.about not in order.uses.unpublished
     return FIX_BY_WAITING if is_open and is_published_once(finding, order) else None
@@ -259,15 +259,22 @@ def is_taken_later(finding: Finding, order: Order) -> bool:
     run: then a lookup that waits always finds it, though the checker has no order from that."""
     lookup = finding.find_other(finding.leader or finding.first)
     changes = list_changes(order, finding)
-    return is_published_once(finding, order) and all(order.is_before(lookup, it) for it in changes)
+    return is_published_once(finding, order) and all(
+        order.is_before(lookup, change) for change in changes
+    )
 
 
 def list_rewrite_fixes(finding: Finding, order: Order) -> list[str]:
     """How it is mended that a key is put twice."""
     commit = order.uses.find_commit(finding.second)
     either = find_readers(order, finding).either
-    gets = list({it.rank: it for it in reversed(either)}.values())
-    if not commit or not gets or order.plan.declared.keeps or any(it.verb != "get" for it in gets):
+    gets = list({call.rank: call for call in reversed(either)}.values())
+    if (
+        not commit
+        or not gets
+        or order.plan.declared.keeps
+        or any(call.verb != "get" for call in gets)
+    ):
         return [*FIXES_OF_REWRITE]
     barrier = name_barrier(order.plan, commit, gets[0])
     turns = say_turns(order, commit, [*reversed(gets)])

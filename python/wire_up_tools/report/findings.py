@@ -45,7 +45,7 @@ class Kind(enum.Enum):
     NAME = "name"
 
 
-KINDS = {it.value: it for it in Kind}
+KINDS = {kind.value: kind for kind in Kind}
 LOOKUPS = ("lookup", "lookup-wait")
 
 
@@ -85,11 +85,11 @@ class Finding:
         """The call that a fix lets come first: what brings a key, a publish before a lookup, and a
         lookup before an unpublish. None where neither order is the better one."""
         if self.kind is Kind.KEY:
-            return next(it for it in self.calls if it.verb != "get-now")
-        lookup = next((it for it in self.calls if it.verb in LOOKUPS), None)
+            return next(call for call in self.calls if call.verb != "get-now")
+        lookup = next((call for call in self.calls if call.verb in LOOKUPS), None)
         if self.kind is Kind.REWRITE or not lookup:
             return None
-        return next((it for it in self.calls if it.verb == "publish"), lookup)
+        return next((call for call in self.calls if call.verb == "publish"), lookup)
 
     def find_other(self, call: Call) -> Call:
         """The other of its two calls."""
@@ -167,14 +167,16 @@ def read_groups(plan: Plan, said: Any) -> list[Group]:
 
     Raises ValueError, LookupError or TypeError for what has another form.
     """
-    findings = [read_finding(plan, it) for it in said["findings"]]
+    findings = [read_finding(plan, line) for line in said["findings"]]
     tallies = tally_up(findings)
-    return [tallies[findings[it["first"]].mistake].close(it["count"]) for it in said["groups"]]
+    return [
+        tallies[findings[line["first"]].mistake].close(line["count"]) for line in said["groups"]
+    ]
 
 
 def read_finding(plan: Plan, said: Any) -> Finding:
     """A finding that the checker wrote as JSON."""
-    first, second = (plan.find_call(it["proc"], it["call"]) for it in said["calls"])
+    first, second = (plan.find_call(line["proc"], line["call"]) for line in said["calls"])
     return add_subject(said["finding"], first, second)
 
 
@@ -203,20 +205,20 @@ def read_counted(plan: Plan, said: Sequence[str]) -> tuple[list[Group], int]:
 
     Raises ValueError or LookupError for what has another form.
     """
-    groups = [read_counted_group(plan, *it) for it in zip(said[::2], said[1::2])]
+    groups = [read_counted_group(plan, *pair) for pair in zip(said[::2], said[1::2])]
     if len(groups) >= MOST_GROUPS:
-        return groups, sum(it.count for it in groups)
+        return groups, sum(group.count for group in groups)
     return groups, int(read_form(LAST, said[-1] if said else "")[1])
 
 
 def read_counted_group(plan: Plan, one: str, other: str) -> Group:
     """A group by its two lines."""
     found, note = read_form(COUNTED, one), read_form(NOTE, other)
-    first, second = (plan.find_call(it["rank"], int(it["call"])) for it in (found, note))
+    first, second = (plan.find_call(hit["rank"], int(hit["call"])) for hit in (found, note))
     kind = KINDS[found["kind"]] if found["kind"] else Kind.REWRITE
     owner = first.rank.name if kind is Kind.REWRITE else None
     if kind is Kind.KEY:
-        owner = next(it.target for it in (first, second) if it.verb == "get-now")
+        owner = next(call.target for call in (first, second) if call.verb == "get-now")
     finding = Finding(kind, found["about"], owner, first, second)
     return Group(finding, (), int(found["count"]), None)
 
@@ -232,9 +234,14 @@ def read_form(form: "re.Pattern[str]", line: str) -> "re.Match[str]":
 def add_pairs(asker: Asker, plan: Plan, groups: Sequence[Group]) -> list[Group]:
     """The groups with those of their pairs that are among the first findings."""
     with contextlib.closing(stream_lines(asker, "check")) as lines:
-        first = [it for it in itertools.islice(lines, PAIRED) if not it.startswith("findings ")]
-    tallies = tally_up(read_line(plan, it) for it in first)
-    return [dataclasses.replace(it, others=tallies[it.first.mistake].shown[1:]) for it in groups]
+        first = [
+            line for line in itertools.islice(lines, PAIRED) if not line.startswith("findings ")
+        ]
+    tallies = tally_up(read_line(plan, text) for text in first)
+    return [
+        dataclasses.replace(group, others=tallies[group.first.mistake].shown[1:])
+        for group in groups
+    ]
 
 
 def read_line(plan: Plan, line: str) -> Finding:

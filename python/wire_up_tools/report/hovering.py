@@ -13,7 +13,7 @@ POINTED = ":is(:hover,:focus-within)"
 
 def has_chains(diagram: Diagram) -> bool:
     """Whether a chain can be shown: each item is a call of a rank, and there are a few."""
-    is_of_calls = all(it.first for it in diagram.items)
+    is_of_calls = all(item.first for item in diagram.items)
     return is_of_calls and len(diagram.items) + len(diagram.bars) <= MOST
 
 
@@ -21,12 +21,12 @@ def find_chains(diagram: Diagram) -> list[set[int]]:
     """What comes before each item and each bar, with itself: by their numbers, of which the items
     have the first."""
     before = find_before(diagram)
-    return [follow(it, before) for it in range(len(before))]
+    return [follow(number, before) for number in range(len(before))]
 
 
 def find_before(diagram: Diagram) -> list[set[int]]:
     """What comes right before each: what stands above it in a lane, and what it waits for."""
-    number_of = {it: number for number, it in enumerate(diagram.items)}
+    number_of = {item: number for number, item in enumerate(diagram.items)}
     found: list[set[int]] = [set() for _ in range(len(diagram.items) + len(diagram.bars))]
     for lane in range(len(diagram.lanes)):
         column = list_lane(diagram, lane)
@@ -39,9 +39,9 @@ def find_before(diagram: Diagram) -> list[set[int]]:
 
 def list_lane(diagram: Diagram, lane: int) -> list[int]:
     """The numbers of what stands in a lane, from the top."""
-    rows = [(it.row, number) for number, it in enumerate(diagram.items) if it.lane == lane]
+    rows = [(item.row, number) for number, item in enumerate(diagram.items) if item.lane == lane]
     bars = enumerate(diagram.bars, len(diagram.items))
-    rows += [(it.row, number) for number, it in bars if lane in it.marks]
+    rows += [(bar.row, number) for number, bar in bars if lane in bar.marks]
     return [number for _, number in sorted(rows)]
 
 
@@ -70,11 +70,15 @@ def write_rules(diagram: Diagram, figure: str) -> str:
     none."""
     if not has_chains(diagram):
         return ""
-    number_of = {it: number for number, it in enumerate(diagram.items)}
+    number_of = {item: number for number, item in enumerate(diagram.items)}
     rules = []
     for number, chain in enumerate(find_chains(diagram)):
-        arrows = (at for at, it in enumerate(diagram.arrows) if number_of[it.target] in chain)
-        lit = [f".{name_part(it)}" for it in sorted(chain)]
-        lit += [f".{name_arrow(it)}" for it in arrows]
+        arrows = (
+            at
+            for at, each_arrow in enumerate(diagram.arrows)
+            if number_of[each_arrow.target] in chain
+        )
+        lit = [f".{name_part(each_number)}" for each_number in sorted(chain)]
+        lit += [f".{name_arrow(arrow)}" for arrow in arrows]
         rules.append(f"#{figure}:has(.{name_part(number)}{POINTED}) :is({','.join(lit)})")
     return f"<style>{','.join(rules)}{{opacity:1}}</style>" if rules else ""

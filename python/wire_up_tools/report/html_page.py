@@ -61,11 +61,13 @@ def write_page(report: Report) -> str:
     elsewhere = report.elsewhere
     parts = [write_header(report)]
     parts += [write_strict(report)] if strict.has_more(report.plan) else []
-    parts += [write_detail(report, number, it) for number, it in enumerate(report.details, 1)]
+    parts += [
+        write_detail(report, number, detail) for number, detail in enumerate(report.details, 1)
+    ]
     parts += [write_others(report)] if report.others else []
     parts += [write_wire_up(report.plan, report.wire_up)] if report.wire_up else []
     placed = enumerate(elsewhere.placed if elsewhere else (), 1)
-    parts += [write_placed(report, number, it) for number, it in placed]
+    parts += [write_placed(report, number, each_placed) for number, each_placed in placed]
     judged = report.judged
     parts += [write_library(judged, report.plan)] if judged and judged.found else []
     parts += [*write_pattern_of(report), write_plan(report)]
@@ -91,7 +93,7 @@ def write_header(report: Report) -> str:
     ]
     if report.verdicts:
         parts.append(f"<p>The recorder's verdicts: {escape(report.verdicts)}.</p>")
-    parts += [f'<p class="part">{escape(it)}</p>' for it in verdict.say_besides(report)]
+    parts += [f'<p class="part">{escape(text)}</p>' for text in verdict.say_besides(report)]
     parts += [write_recording(report)] if report.plan.is_recorded else []
     parts += [write_contents(report)] if len(report.causes) > 1 else []
     return "\n".join([*parts, "</header>"])
@@ -100,7 +102,7 @@ def write_header(report: Report) -> str:
 def choose_badge(report: Report) -> tuple[str, str]:
     """The kind of the verdict, and its words."""
     if report.causes:
-        has_race = any(it.first.kind is not Kind.REWRITE for it in report.causes)
+        has_race = any(cause.first.kind is not Kind.REWRITE for cause in report.causes)
         return "found", "races found" if has_race else "key put twice"
     if report.reasons:
         return "partly", "in part"
@@ -146,7 +148,7 @@ def write_detail(report: Report, number: int, detail: Detail) -> str:
     """A cause that is told in full."""
     cause, one = detail.cause, detail.cause.first
     title = f"{number}. {write_title(report, cause)} {write_count(verdict.say_count(cause))}"
-    calls = " and ".join(f"{it.name} {name_kind(it)}" for it in one.calls)
+    calls = " and ".join(f"{call.name} {name_kind(call)}" for call in one.calls)
     figure = draw_figure(detail.diagram, f"Diagram: {calls}", f"diagram-{number}")
     parts = [
         f'<section id="cause-{number}" class="found"><h2>{title}</h2>',
@@ -198,10 +200,10 @@ def write_strict(report: Report) -> str:
 
 def write_fix(report: Report, finding: Finding) -> str:
     """How a finding is mended: one way, or a list of them."""
-    ways = [f"{it[0].upper()}{it[1:]}." for it in explaining.list_fixes(finding, report.order)]
+    ways = [f"{fix[0].upper()}{fix[1:]}." for fix in explaining.list_fixes(finding, report.order)]
     if len(ways) == 1:
         return f'<p class="fix"><strong>Fix:</strong> {escape(ways[0])}</p>'
-    rows = "".join(f"<li>{escape(it)}</li>" for it in ways)
+    rows = "".join(f"<li>{escape(text)}</li>" for text in ways)
     return f'<div class="fix"><strong>Fix:</strong> one of these<ul>{rows}</ul></div>'
 
 
@@ -213,19 +215,19 @@ def write_late(report: Report, finding: Finding) -> list[str]:
 
 def write_calls(report: Report, finding: Finding, calls: Sequence[Call]) -> str:
     """Calls that are told of a finding, with their lines and places."""
-    has_places = any(it.place for it in calls)
+    has_places = any(each_call.place for each_call in calls)
     in_plan = f"line in the {'recorded ' * report.plan.is_recorded}plan"
     in_pattern = ["line in the pattern"] * bool(report.pattern_lines)
     heads = ["rank", "call", *["in the program"] * has_places, in_plan, *in_pattern]
-    rows = ["".join(f"<th>{it}</th>" for it in heads)]
+    rows = ["".join(f"<th>{head}</th>" for head in heads)]
     for call in calls:
         role = write_beside([explaining.role(finding, call)])
         cells = [escape(call.rank.name), escape(f"{call.number} {name_kind(call)}") + role]
         cells += [write_place(report, call)] if has_places else []
         cells.append(link_to_call(call, f"{report.plan_name}:{call.line}"))
         cells += link_to_pattern(report, call)
-        rows.append("".join(f"<td>{it}</td>" for it in cells))
-    table = "".join(f"<tr>{it}</tr>" for it in rows)
+        rows.append("".join(f"<td>{cell}</td>" for cell in cells))
+    table = "".join(f"<tr>{row}</tr>" for row in rows)
     return f'<div class="wide" tabindex="0"><table>{table}</table></div>'
 
 
@@ -237,7 +239,7 @@ def write_place(report: Report, call: Call) -> str:
 
 def write_beside(said: Sequence[str]) -> str:
     """What stands below the first line of a cell."""
-    return "".join(f'<span class="around">{escape(it)}</span>' for it in said if it)
+    return "".join(f'<span class="around">{escape(line)}</span>' for line in said if line)
 
 
 def link_to_call(call: Call, said: str) -> str:
@@ -254,8 +256,8 @@ def link_to_pattern(report: Report, call: Call) -> list[str]:
 
 def write_pattern_of(report: Report) -> list[str]:
     """The pattern of which the plan is the counterexample, with the lines of the races."""
-    calls = [call for it in report.causes for call in it.first.calls]
-    named = {report.pattern_lines.get(it, 0) for it in calls}
+    calls = [call for cause in report.causes for call in cause.first.calls]
+    named = {report.pattern_lines.get(each_call, 0) for each_call in calls}
     return [write_pattern(report.pattern, named, OF_PATTERN)] if report.pattern else []
 
 
@@ -284,8 +286,8 @@ def write_ends(run: Run) -> list[str]:
     call = run.starts_with
     title = f"If the {escape(name_kind(call))} ({escape(call.name)}) comes first"
     ends = [
-        f"<dd class=mono>{escape(it.call)} {escape(it.verb)}: {write_end(it.said)}</dd>"
-        for it in run.ends[:ENDINGS]
+        f"<dd class=mono>{escape(end.call)} {escape(end.verb)}: {write_end(end.said)}</dd>"
+        for end in run.ends[:ENDINGS]
     ]
     return [f"<dt>{title}</dt>", *ends]
 
@@ -311,12 +313,14 @@ def write_steps(report: Report, finding: Finding, which: str, run: Run) -> str:
 
 def write_pairs(plan: Plan, group: Group) -> str:
     """The pairs of a group after the first."""
-    pairs = [" and ".join(link_with_place(plan, it) for it in one.calls) for one in group.others]
+    pairs = [
+        " and ".join(link_with_place(plan, call) for call in one.calls) for one in group.others
+    ]
     rest = group.count - 1 - len(pairs)
     more = f"<p>{rest:,} more: {LISTS_ALL}</p>" if rest else ""
     ranks = f", {count_of(group.rank_count, 'rank')} in all" if group.rank_count else ""
     title = f"{count_of(group.count - 1, 'other pair')}{ranks}"
-    rows = "".join(f"<li>{it}</li>" for it in pairs)
+    rows = "".join(f"<li>{pair}</li>" for pair in pairs)
     return f'<details><summary>{title}</summary><ul class="mono">{rows}</ul>{more}</details>'
 
 
@@ -324,8 +328,9 @@ def write_alike(cause: Cause) -> str:
     """The groups of a cause after the first: what they are about, and their first calls."""
     noun = "name" if cause.first.kind is Kind.NAME else "key"
     rows = [
-        f"<li>{escape(it.first.about)} {write_count(f'{it.count:,}')}: {link_to_calls(it)}</li>"
-        for it in itertools.islice(cause.groups, 1, PAIRS + 1)
+        f"<li>{escape(group.first.about)} {write_count(f'{group.count:,}')}: "
+        f"{link_to_calls(group)}</li>"
+        for group in itertools.islice(cause.groups, 1, PAIRS + 1)
     ]
     rest = len(cause.groups) - 1 - len(rows)
     more = f"<p>{rest:,} more: {LISTS_ALL}</p>" if rest else ""
@@ -336,15 +341,15 @@ def write_alike(cause: Cause) -> str:
 
 def link_to_calls(group: Group) -> str:
     """Links to the calls of the first finding of a group."""
-    return " and ".join(link_to_call(it, it.name) for it in group.first.calls)
+    return " and ".join(link_to_call(call, call.name) for call in group.first.calls)
 
 
 def write_others(report: Report) -> str:
     """The causes that aren't told in full."""
     rows = [
-        f"<li>{write_title(report, it)} {write_count(f'{it.count:,}')}: "
-        f"{link_to_calls(it.group)}</li>"
-        for it in report.others[:MORE_CAUSES]
+        f"<li>{write_title(report, cause)} {write_count(f'{cause.count:,}')}: "
+        f"{link_to_calls(cause.group)}</li>"
+        for cause in report.others[:MORE_CAUSES]
     ]
     rest = len(report.others) - len(rows)
     more = f"<p>And {count_of(rest, 'other mistake')}: {LISTS_ALL}</p>" if rest else ""
@@ -370,7 +375,7 @@ def write_failures(plan: Plan, wire_up: WireUp) -> str:
     """The calls that fail, with their replies."""
     title = count_of(wire_up.failed, "call fails", "calls fail")
     shown = wire_up.failures
-    said = ((link_with_place(plan, it.call), escape(it.reply)) for it in shown)
+    said = ((link_with_place(plan, failure.call), escape(failure.reply)) for failure in shown)
     rows = "".join(f"<li>{call}: {reply}</li>" for call, reply in said)
     rest = wire_up.failed - len(shown)
     more = f"<p>And {count_of(rest, 'other call')}.</p>" if rest else ""
@@ -382,7 +387,7 @@ def write_waits(plan: Plan, wire_up: WireUp) -> str:
     count = len(wire_up.waits)
     title = f"{count_of(count, 'rank waits', 'ranks wait')} for ever"
     shown = wire_up.waits[:PAIRS]
-    said = ((link_with_place(plan, it.call), escape(it.reason)) for it in shown)
+    said = ((link_with_place(plan, wait.call), escape(wait.reason)) for wait in shown)
     rows = "".join(f"<li>{call}: {reason}</li>" for call, reason in said)
     more = f"<p>And {count_of(count - PAIRS, 'other rank')}.</p>" if count > PAIRS else ""
     parts = [f"<section><h2>{title}</h2>"]
@@ -393,8 +398,8 @@ def write_waits(plan: Plan, wire_up: WireUp) -> str:
 
 def write_circle(plan: Plan, wire_up: WireUp) -> list[str]:
     """The ranks that wait in a circle: in words, and drawn."""
-    call_of = {it.call.rank.name: it.call for it in wire_up.waits}
-    calls = [call_of[it] for it in wire_up.circle]
-    ranks = [Label(it.rank.name, label_call(it), it.line) for it in calls]
+    call_of = {wait.call.rank.name: wait.call for wait in wire_up.waits}
+    calls = [call_of[text] for text in wire_up.circle]
+    ranks = [Label(call.rank.name, label_call(call), call.line) for call in calls]
     title, circle = say_circle(len(ranks)), describe_circle(wire_up.circle)
     return [f'<p class="part">{escape(f"{title}. {circle}.")}</p>', draw_ring(ranks)]

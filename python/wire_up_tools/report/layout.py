@@ -120,10 +120,10 @@ def find_gaps(diagram: Diagram) -> list[Gap]:
 def measure_lane(diagram: Diagram, lane: int, gaps: Sequence[Gap]) -> float:
     """How wide a lane is: there is room for what stands beside it."""
     texts = [diagram.lanes[lane].name, diagram.lanes[lane].below]
-    texts += [it.label for it in diagram.items if it.lane == lane]
-    texts += [it.marks[lane].label for it in diagram.bars if lane in it.marks]
-    texts += [it.label for it in gaps if it.lane == lane]
-    return max(len(cut(it, LABEL_WIDTH)) for it in texts) * CHARACTER + LANE_GAP
+    texts += [item.label for item in diagram.items if item.lane == lane]
+    texts += [bar.marks[lane].label for bar in diagram.bars if lane in bar.marks]
+    texts += [gap.label for gap in gaps if gap.lane == lane]
+    return max(len(cut(text, LABEL_WIDTH)) for text in texts) * CHARACTER + LANE_GAP
 
 
 def place_rows(diagram: Diagram, gaps: Sequence[Gap]) -> tuple[dict[Row, float], float]:
@@ -148,8 +148,8 @@ def list_labels(layout: Layout) -> Iterator[Label]:
         yield from label_lane(layout, lane)
     for bar in diagram.bars:
         yield from (label_mark(layout, bar, lane) for lane in bar.marks)
-    yield from (label_gap(layout, it) for it in layout.gaps)
-    yield from (label_item(layout, it) for it in diagram.items)
+    yield from (label_gap(layout, gap) for gap in layout.gaps)
+    yield from (label_item(layout, item) for item in diagram.items)
 
 
 def label_lane(layout: Layout, lane: int) -> list[Label]:
@@ -186,12 +186,12 @@ def label_item(layout: Layout, item: Item) -> Label:
 def choose_side(layout: Layout, item: Item) -> int:
     """How far below the middle of an item its label stands: aside of a line to the right."""
     links = layout.diagram.links
-    others = [it.target for it in links if it.source is item]
-    others += [it.source for it in links if it.target is item]
-    right = [it for it in others if it.lane > item.lane]
+    others = [link.target for link in links if link.source is item]
+    others += [link.source for link in links if link.target is item]
+    right = [each_item for each_item in others if each_item.lane > item.lane]
     if not right:
         return BESIDE
-    leads_down = any(layout.rows[it.row] > layout.rows[item.row] for it in right)
+    leads_down = any(layout.rows[each_item.row] > layout.rows[item.row] for each_item in right)
     return ABOVE if leads_down else BELOW
 
 
@@ -200,8 +200,8 @@ def find_room(layout: Layout, x: float, lane: int, row: Row | None = None) -> in
     row, or to the edge. What stands in no row has room up to the next lane."""
     diagram, beside = layout.diagram, set(range(len(layout.lanes)))
     if row is not None:
-        items = {it.lane for it in diagram.items if it.row == row}
+        items = {item.lane for item in diagram.items if item.row == row}
         beside = items.union(*(bar.marks for bar in diagram.bars if bar.row == row))
-    right = [layout.lanes[it] for it in beside if it > lane]
+    right = [layout.lanes[item] for item in beside if item > lane]
     edge = min(right) - MARGIN if right else layout.width - NAME_LEFT
     return max(LABEL_WIDTH, int((edge - x) / CHARACTER))

@@ -38,15 +38,15 @@ def say_otherwise(judged: Judged) -> str:
 
 def list_shown(judged: Judged, plan: Plan) -> list[tuple[Call, Predicted]]:
     """The calls that are listed."""
-    places = ((it.difference.place, it) for it in judged.found[:PAIRS])
-    return [(plan.find_call(place.rank, place.number), it) for place, it in places]
+    places = ((predicted.difference.place, predicted) for predicted in judged.found[:PAIRS])
+    return [(plan.find_call(place.rank, place.number), predicted) for place, predicted in places]
 
 
 def describe(judged: Judged, predicted: Predicted) -> str:
     """How the library answers a call, and by which of its rules."""
-    it = predicted.difference
-    rules, library = cut(it.rules, VALUE_WIDTH), cut(it.library, VALUE_WIDTH)
-    timed = ", if not otherwise by luck" if it.place in judged.timed else ""
+    difference = predicted.difference
+    rules, library = cut(difference.rules, VALUE_WIDTH), cut(difference.library, VALUE_WIDTH)
+    timed = ", if not otherwise by luck" if difference.place in judged.timed else ""
     return f"by the rules {rules}, by the library {library}{timed} ({name_rules(predicted)})"
 
 
@@ -54,10 +54,10 @@ def write_library(judged: Judged, plan: Plan) -> str:
     """The calls that the library answers otherwise, as a section of a page."""
     rows = [
         f'<li><a href="#line-{call.line}">{escape(f"{call.name} {name_kind(call)}")}</a>: '
-        f"{escape(describe(judged, it))}</li>"
-        for call, it in list_shown(judged, plan)
+        f"{escape(describe(judged, predicted))}</li>"
+        for call, predicted in list_shown(judged, plan)
     ]
-    rules = [f"<li>{it.label}: {escape(it.value)}</li>" for it in judged.rules]
+    rules = [f"<li>{rule.label}: {escape(rule.value)}</li>" for rule in judged.rules]
     title = f"{say_library(judged)}: {count_of(len(judged.found), 'call')} answered otherwise"
     parts = [f"<section><h2>{escape(title)}</h2><ul>{''.join(rows)}</ul>"]
     rest = len(judged.found) - len(rows)
@@ -68,7 +68,10 @@ def write_library(judged: Judged, plan: Plan) -> str:
 def write_library_text(judged: Judged, plan: Plan) -> list[str]:
     """The same as lines."""
     shown = list_shown(judged, plan)
-    lines = [f"   {call.name} {name_kind(call)}: {describe(judged, it)}" for call, it in shown]
+    lines = [
+        f"   {call.name} {name_kind(call)}: {describe(judged, predicted)}"
+        for call, predicted in shown
+    ]
     rest = len(judged.found) - len(lines)
     lines += [f"   And {count_of(rest, 'other call')}."] if rest else []
-    return [*lines, *(f"   {it.label}: {it.value}" for it in judged.rules)]
+    return [*lines, *(f"   {rule.label}: {rule.value}" for rule in judged.rules)]

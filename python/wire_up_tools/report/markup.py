@@ -10,7 +10,7 @@ REFUSED = "\x7f\ufffe\uffff"
 
 def escape(text: str) -> str:
     """A text as HTML takes it, in an attribute too."""
-    shown = (it if is_allowed(it) else REPLACEMENT for it in text)
+    shown = (letter if is_allowed(letter) else REPLACEMENT for letter in text)
     return html.escape("".join(shown), quote=True)
 
 

@@ -35,9 +35,20 @@ def find_late(order: Order, finding: Finding) -> Late | None:
         return None
     for one in [finding.leader] if finding.leader else finding.calls:
         other = finding.find_other(one)
-        received = {it.about: it for it in list_later(order.plan, other) if find_message(it)}
-        sent = (it for it in list_later(order.plan, one) if it.verb == "publish")
-        found = next((it for it in sent if find_message(it) and it.about in received), None)
+        received = {
+            call.about: call for call in list_later(order.plan, other) if find_message(call)
+        }
+        sent = (
+            each_call for each_call in list_later(order.plan, one) if each_call.verb == "publish"
+        )
+        found = next(
+            (
+                other_call
+                for other_call in sent
+                if find_message(other_call) and other_call.about in received
+            ),
+            None,
+        )
         if found and not order.is_before(other, found):
             return Late(one, found, received[found.about], other)
     return None
@@ -92,10 +103,10 @@ def find_early(plan: Plan, finding: Finding) -> Call | None:
         return None
     other = finding.find_other(leader)
     earlier = itertools.islice(plan.calls_of[other.rank.name], other.number - 1)
-    received = {it.about for it in earlier if is_receive(it)}
+    received = {call.about for call in earlier if is_receive(call)}
     calls = reversed(plan.calls_of[leader.rank.name][: leader.number - 1])
-    passed = itertools.takewhile(lambda it: it.verb in FREE, calls)
-    sent = next((it for it in passed if find_message(it)), None)
+    passed = itertools.takewhile(lambda call: call.verb in FREE, calls)
+    sent = next((call for call in passed if find_message(call)), None)
     return sent if sent and is_remarked(sent, "send") and sent.about in received else None
 
 
@@ -105,8 +116,12 @@ def may_receive(plan: Plan, call: Call) -> bool:
     received."""
     left_out = [*plan.list_in_head(LEFT_OUT), *plan.list_in_head(LEFT_OUT_HARMLESS)]
     is_left_out = any(map(MAY_RECEIVE.fullmatch, left_out))
-    is_polled = any(LEFT_TO_LUCK in it for it in plan.declared.head)
-    return is_left_out or is_polled or any(is_from_any(it) for it in list_later(plan, call))
+    is_polled = any(LEFT_TO_LUCK in text for text in plan.declared.head)
+    return (
+        is_left_out
+        or is_polled
+        or any(is_from_any(each_call) for each_call in list_later(plan, call))
+    )
 
 
 def is_receive(call: Call) -> bool:

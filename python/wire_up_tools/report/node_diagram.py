@@ -32,19 +32,19 @@ TOP = Row(-1, Part.CALL)
 def make_node_diagram(order: Order) -> Diagram:
     """The diagram of the nodes of a plan."""
     ranks_on = collections.Counter(rank.node for rank in order.plan.ranks)
-    nodes = [it for it in order.plan.declared.nodes if it in ranks_on]
+    nodes = [each_node for each_node in order.plan.declared.nodes if each_node in ranks_on]
     drawn = nodes[: LANES - (len(nodes) > LANES)]
     lanes = {node: lane for lane, node in enumerate(drawn)}
-    whole = [it for it in order.plan.meetings if it.is_whole]
-    whole.sort(key=lambda it: row_of_meeting(order, it))
+    whole = [meeting for meeting in order.plan.meetings if meeting.is_whole]
+    whole.sort(key=lambda part: row_of_meeting(order, part))
     later = whole[FIRST_FENCES:]
     kept = whole[:FIRST_FENCES] + later[-LAST_FENCES:]
     left_out = len(whole) - len(kept)
     note = f"{count_of(left_out, 'fence')} in the middle left out."
     return Diagram(
-        lanes=[Lane(it, count_of(ranks_on[it], "rank")) for it in drawn],
-        items=make_items(order, lanes, [row_of_meeting(order, it) for it in kept]),
-        bars=[make_bar(order, lanes, it) for it in kept],
+        lanes=[Lane(each_node, count_of(ranks_on[each_node], "rank")) for each_node in drawn],
+        items=make_items(order, lanes, [row_of_meeting(order, part) for part in kept]),
+        bars=[make_bar(order, lanes, part) for part in kept],
         notes=[*say_not_drawn(len(nodes) - len(drawn), "other node"), *[note] * bool(left_out)],
     )
 
@@ -53,7 +53,7 @@ def make_items(order: Order, lanes: dict[str, int], fences: Sequence[Row]) -> li
     """How many calls of each verb the ranks of each lane make, by the last fence above them."""
     depths = [row.depth for row in fences]
     verbs: dict[tuple[int, int], collections.Counter[str]] = {}
-    entries = (it for rank in order.plan.ranks for it in order.plan.list_outline(rank))
+    entries = (call for rank in order.plan.ranks for call in order.plan.list_outline(rank))
     for entry in entries:
         if entry.verb != "fence" and entry.rank.node in lanes:
             first, count = find_first(entry)
@@ -80,7 +80,7 @@ def list_verbs(count: "collections.Counter[str]") -> str:
 
 def make_bar(order: Order, lanes: dict[str, int], meeting: Meeting) -> Bar:
     """The bar of a fence, which says of each lane how many calls meet there."""
-    count = collections.Counter(it.rank.node for it in meeting.calls if it.rank.node in lanes)
-    verb = name_kind(meeting.calls[0]) + " collect" * all(it.collects for it in meeting.calls)
+    count = collections.Counter(call.rank.node for call in meeting.calls if call.rank.node in lanes)
+    verb = name_kind(meeting.calls[0]) + " collect" * all(call.collects for call in meeting.calls)
     marks = {lanes[node]: Mark(f"{many} {verb}") for node, many in count.items()}
     return Bar(row_of_meeting(order, meeting), marks)

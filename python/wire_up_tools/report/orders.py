@@ -53,7 +53,7 @@ class Order:
     def depth_of(self, call: Call) -> int:
         """How deep a call stands; a fence by the arrival at it."""
         stops = self.stops[call.rank]
-        at = bisect.bisect_left(stops, call.number, key=lambda it: it.number)
+        at = bisect.bisect_left(stops, call.number, key=lambda stop: stop.number)
         if at < len(stops) and stops[at].number == call.number and not stops[at].meeting:
             return self.depths[call.rank][at]
         number, depth = (stops[at - 1].number, self.depths[call.rank][at - 1]) if at else (0, -1)
@@ -105,15 +105,15 @@ class Backwards:
     def look(self, rank: Rank, start: Reach, end: Reach) -> None:
         """Looks for what a rank waited on its way from one call to another."""
         stops = self.order.stops[rank]
-        at = bisect.bisect_left(stops, start.number, key=lambda it: it.number)
+        at = bisect.bisect_left(stops, start.number, key=lambda each_stop: each_stop.number)
         while at < len(stops) and stops[at].number <= end.number:
             stop = stops[at]
             has_left = stop.number < end.number or end.has_left
             if stop.awaited:
                 self.reach(stop.awaited.rank, Reach(stop.awaited.number, True))
             elif stop.meeting and has_left:
-                for it in stop.meeting.calls:
-                    self.reach(it.rank, Reach(it.number, False))
+                for call in stop.meeting.calls:
+                    self.reach(call.rank, Reach(call.number, False))
             at += 1
 
 
@@ -153,7 +153,7 @@ def list_awaited(uses: Uses, entry: Entry) -> Iterable[tuple[int, Call]]:
     if entry.verb != "get":
         return []
     found = (uses.find_bringer(target, entry.about) for target in entry.targets)
-    return [(number, it) for number, it in enumerate(found, entry.first) if it]
+    return [(number, stop) for number, stop in enumerate(found, entry.first) if stop]
 
 
 class Known:
@@ -170,7 +170,9 @@ class Known:
 
     def find_arrival(self, name: str) -> int:
         """The number of the call at which a rank came to the last fence that both have left."""
-        met = (it.numbers[name] for it in reversed(self.meetings) if name in it.numbers)
+        met = (
+            meeting.numbers[name] for meeting in reversed(self.meetings) if name in meeting.numbers
+        )
         return next(met, 0)
 
     def reach(self, call: Call) -> bool:
@@ -214,7 +216,11 @@ class Sweep:
         while True:
             while self.ready:
                 self.serve(self.ready.popleft())
-            stuck = [it for it in self.plan.ranks if len(self.depths[it]) < len(self.stops[it])]
+            stuck = [
+                each_rank
+                for each_rank in self.plan.ranks
+                if len(self.depths[each_rank]) < len(self.stops[each_rank])
+            ]
             if not stuck:
                 return
             for rank in stuck:
@@ -255,7 +261,7 @@ class Sweep:
         awaited = stop.awaited
         assert awaited
         other, stops = awaited.rank, self.stops[awaited.rank]
-        needed = bisect.bisect_left(stops, awaited.number, key=lambda it: it.number)
+        needed = bisect.bisect_left(stops, awaited.number, key=lambda each_stop: each_stop.number)
         if len(self.depths[other]) < needed:
             self.waiting[other].append(rank)
             return None
@@ -271,7 +277,7 @@ class Sweep:
             self.arrived[number] += 1
             self.meeting_depths[number] = max(self.meeting_depths[number], own + 1)
             if self.arrived[number] == len(meeting.calls):
-                self.ready.extend(it.rank for it in meeting.calls if it.rank is not rank)
+                self.ready.extend(call.rank for call in meeting.calls if call.rank is not rank)
         if self.arrived[number] < len(meeting.calls):
             return None
         return self.meeting_depths[number] + 1

@@ -22,20 +22,20 @@ def find_reasons(plan: Plan) -> list[str]:
     head = plan.declared.head
     reasons = [say_answered(plan), say_parted(head), *say_turned(plan), *find_hidden(head)]
     reasons.append(say_timed(plan))
-    return [it for it in reasons if it]
+    return [reason for reason in reasons if reason]
 
 
 def find_in_head(head: Sequence[str]) -> list[str]:
     """Why the verdict on a pattern holds only in part, by the head that the recorder wrote."""
-    return [it for it in [say_parted(head), *find_hidden(head)] if it]
+    return [text for text in [say_parted(head), *find_hidden(head)] if text]
 
 
 def find_hidden(head: Sequence[str]) -> list[str]:
     """What a head says that can hide a race in one run."""
     cut_off, left_out = say_cut_off(head), say_left_out(head)
-    ordered = [say_counted(it) for it in list_below(head, words.MORE_ORDERED)]
+    ordered = [say_counted(text) for text in list_below(head, words.MORE_ORDERED)]
     reasons = [cut_off, say_polled(head), *ordered, say_received(head), left_out]
-    return [it for it in reasons if it]
+    return [reason for reason in reasons if reason]
 
 
 def find_verdicts(plan: Plan) -> str | None:
@@ -46,8 +46,8 @@ def find_verdicts(plan: Plan) -> str | None:
 
 def find_both(head: Sequence[str]) -> str | None:
     """The verdicts with and without the order of polls that a head has."""
-    said = (it for it in head if it.startswith(words.VERDICTS))
-    return next((it.removeprefix(words.VERDICTS) for it in said), None)
+    said = (text for text in head if text.startswith(words.VERDICTS))
+    return next((line.removeprefix(words.VERDICTS) for line in said), None)
 
 
 def is_of_each_run(plan: Plan) -> bool:
@@ -87,7 +87,7 @@ def say_polled(head: Sequence[str]) -> str | None:
 
 def say_received(head: Sequence[str]) -> str | None:
     """What could have come otherwise, so that another run may do something else."""
-    listed = [say_counted(it) for it in list_below(head, words.OTHERWISE_AFTER)]
+    listed = [say_counted(text) for text in list_below(head, words.OTHERWISE_AFTER)]
     return f"another run may do otherwise after {list_names(listed)}" if listed else None
 
 
@@ -99,7 +99,7 @@ def is_by_mpi_alone(head: Sequence[str]) -> bool:
 def say_awaited(plan: Plan) -> str | None:
     """On what the order rests that gets have which don't block; None where there are none, or that
     order is said to hide what another lacks."""
-    if not any(it.endswith(words.AWAITED) for it in plan.list_in_head(words.WRITTEN_OTHERWISE)):
+    if not any(text.endswith(words.AWAITED) for text in plan.list_in_head(words.WRITTEN_OTHERWISE)):
         return None
     return (
         "Gets that don't block stand where they ended, as if the program waited for them. If it "
@@ -112,7 +112,7 @@ def say_own_code(plan: Plan) -> str | None:
     decides nothing, or can lead to one."""
     if not is_by_mpi_alone(plan.declared.head):
         return None
-    listed = [say_counted(it) for it in plan.list_in_head(words.OTHERWISE_ALONE)]
+    listed = [say_counted(text) for text in plan.list_in_head(words.OTHERWISE_ALONE)]
     of_luck = list_names(listed) if listed else "requests that it may find open"
     return (
         f"Another run may do otherwise after {of_luck}, but makes no call of PMIx by that. "
@@ -129,9 +129,9 @@ def say_parted(head: Sequence[str]) -> str | None:
 def say_cut_off(head: Sequence[str]) -> str | None:
     """How many recordings were cut off."""
     titles = (words.CUT_OFF, words.LEFT_OUT, words.WRITTEN_OTHERWISE)
-    listed = [it for title in titles for it in list_below(head, title)]
-    found = (CUT_OFF.fullmatch(it) for it in listed)
-    count = max((int(it[1]) for it in found if it), default=0)
+    listed = [text for title in titles for text in list_below(head, title)]
+    found = (CUT_OFF.fullmatch(text) for text in listed)
+    count = max((int(hit[1]) for hit in found if hit), default=0)
     if not count:
         return None
     said = count_of(count, "recording ends", "recordings end")
@@ -146,7 +146,7 @@ def hides_race(plan: Plan) -> bool:
 
 def say_left_out(head: Sequence[str]) -> str | None:
     """What was left out that can hide a race."""
-    counted = (it.partition(" ") for it in list_below(head, words.LEFT_OUT))
+    counted = (text.partition(" ") for text in list_below(head, words.LEFT_OUT))
     found = [f"{count} {what}" for count, _, what in counted if can_hide(what)]
-    found = [say_counted(it) for it in found if not CUT_OFF.fullmatch(it)]
+    found = [say_counted(text) for text in found if not CUT_OFF.fullmatch(text)]
     return f"not in the plan: {list_names(found)}" if found else None

@@ -9,9 +9,9 @@ from wire_up_tools.report.phrases import count_of, name_all
 EVERYWHERE = "for every number of ranks on every placement"
 NOTHING = f"findings 0 {EVERYWHERE}"
 ANSWERED = "every call is answered for every number of ranks"
-UP_TO = re.compile(
-    r"every call is answered for up to ([1-9]\d*) ranks of each group, not known for more"
-)
+# Of a pattern without groups.
+JUDGED = "every call is answered for the instances that are judged, not known for others"
+UP_TO = re.compile(r"every call is answered for up to (\S.*), not known for more")
 LATER = re.compile(r"later ([1-9]\d*) (\S+) ([1-9]\d*) (\S+)")
 LEAST = re.compile(r"at least ([1-9]\d*) (\S+)")
 WAITS = re.compile(r"waits (\S+) ([1-9]\d*) (\S+)")
@@ -49,9 +49,9 @@ class Failing:
 class Settled:
     """What is said of a pattern without findings: how many ranks a group has at least, where that
     is more than none; whether every call is answered at every size; up to how many ranks of each
-    group it is, where no more is known; the calls that wait for ever in plans that were judged, and
-    those that fail there; those that wait in larger plans first, and with how many ranks of each
-    group; and whether each call is said to succeed in all of these."""
+    group it is, in words, where no more is known; the calls that wait for ever in plans that were
+    judged, and those that fail there; those that wait in larger plans first, and with how many
+    ranks of each group; and whether each call is said to succeed in all of these."""
 
     is_complete: bool
     least: list[tuple[int, str]] = field(default_factory=list)
@@ -60,7 +60,7 @@ class Settled:
     fails: list[Failing] = field(default_factory=list)
     later: list[CallLine] = field(default_factory=list)
     later_size: int = 0
-    up_to: int = 0
+    up_to: str = ""
 
     def take(self, line: str) -> bool:
         """Takes a line of the answer. Answers whether it has one of the forms."""
@@ -76,7 +76,7 @@ class Settled:
             self.waits.append(CallLine(waits[1], int(waits[2]), waits[3]))
         elif answers:
             self.add_statuses(CallLine(answers[1], int(answers[2]), answers[3]), answers[4])
-        return line == ANSWERED or bool(least or waits or answers)
+        return line in (ANSWERED, JUDGED) or bool(least or waits or answers)
 
     def take_of_size(self, line: str) -> bool:
         """Takes a line about plans of a larger size. Answers whether it is one."""
@@ -85,7 +85,7 @@ class Settled:
             self.later_size = int(later[1])
             self.later.append(CallLine(later[2], int(later[3]), later[4]))
         elif up_to:
-            self.up_to = int(up_to[1])
+            self.up_to = up_to[1]
         return bool(later or up_to)
 
     def add_statuses(self, call: CallLine, said: str) -> None:
@@ -97,14 +97,14 @@ class Settled:
     @property
     def named(self) -> list[CallLine]:
         """The calls that wait for ever or fail."""
-        return [*self.waits, *self.later, *(it.call for it in self.fails)]
+        return [*self.waits, *self.later, *(failing.call for failing in self.fails)]
 
 
 def read_settled(lines: Sequence[str], is_complete: bool) -> Settled | None:
     """What an answer says whose first line is that nothing is found; None for one of another form.
     `is_complete`: whether each call is said to succeed."""
     said = Settled(is_complete)
-    if lines[:1] != [NOTHING] or not all([said.take(it) for it in lines[1:]]):
+    if lines[:1] != [NOTHING] or not all([said.take(line) for line in lines[1:]]):
         return None
     return said
 
@@ -120,15 +120,17 @@ def say_settled(said: Settled) -> str:
     parts = [f"no race, {say_where(said)}"]
     if said.waits:
         what = count_of(len(said.waits), "call waits", "calls wait")
-        names = ", ".join(it.name for it in said.waits)
+        names = ", ".join(call_line.name for call_line in said.waits)
         parts.append(f"{what} for ever in some of its plans: {names}")
     if said.later:
         what = count_of(len(said.later), "call waits", "calls wait")
-        names = ", ".join(it.name for it in said.later)
+        names = ", ".join(call_line.name for call_line in said.later)
         parts.append(f"with {said.later_size} ranks of each group {what} for ever: {names}")
     if said.fails:
         what = count_of(len(said.fails), "call fails", "calls fail")
-        parts.append(f"{what} in some of its plans: {', '.join(it.call.name for it in said.fails)}")
+        parts.append(
+            f"{what} in some of its plans: {', '.join(failing.call.name for failing in said.fails)}"
+        )
     elif said.is_answered and not said.is_complete:
         parts.append("a call fails in some of its plans")
     if said.is_answered:
@@ -156,11 +158,10 @@ def explain_settled(said: Settled) -> str:
         )
     elif said.up_to:
         parts.append(
-            f"No call waits for ever with up to {said.up_to} ranks of each group; that none does "
-            "with more isn't known."
+            f"No call waits for ever with up to {said.up_to}; that none does with more isn't known."
         )
     else:
-        parts.append("That no call waits for ever is known of its small plans alone.")
+        parts.append("That no call waits for ever is known of the plans that were judged alone.")
     if said.fails:
         parts.append("In some plans a call ends there with an error.")
     elif said.is_answered and not said.is_complete:

@@ -42,13 +42,13 @@ def find_lines(text: str, numbers: Sequence[int], plan: Plan) -> Lines:
     or too many sizes of groups are possible. `numbers` are the lines of the calls in the file."""
     roles = read_pattern(text)
     ways = itertools.islice(list_sizes(roles, plan), MOST_WAYS)
-    matched = (match_plan(roles, numbers, Instance(roles, it), plan) for it in ways)
-    return next((it for it in matched if it), {})
+    matched = (match_plan(roles, numbers, Instance(roles, table), plan) for table in ways)
+    return next((each_plan for each_plan in matched if each_plan), {})
 
 
 def list_sizes(roles: Sequence[ReadRole], plan: Plan) -> Iterator[Mapping[str, int]]:
     """The ways to give groups their sizes, by the ranks that each job of a plan has."""
-    jobs = list(dict.fromkeys(it.job for it in roles))
+    jobs = list(dict.fromkeys(role.job for role in roles))
     of_jobs = [list(share_out(roles, job, plan)) for job in jobs]
     for chosen in itertools.product(*of_jobs):
         yield {name: size for sizes in chosen for name, size in sizes.items()}
@@ -56,9 +56,9 @@ def list_sizes(roles: Sequence[ReadRole], plan: Plan) -> Iterator[Mapping[str, i
 
 def share_out(roles: Sequence[ReadRole], job: str, plan: Plan) -> Iterator[Mapping[str, int]]:
     """The ways to give the groups of one job all its ranks that aren't of single roles."""
-    of_job = [it for it in roles if it.job == job]
-    groups = [it.name for it in of_job if it.is_group]
-    count = sum(it.job == job for it in plan.ranks) - len(of_job) + len(groups)
+    of_job = [role for role in roles if role.job == job]
+    groups = [read_role.name for read_role in of_job if read_role.is_group]
+    count = sum(rank.job == job for rank in plan.ranks) - len(of_job) + len(groups)
     ways = itertools.product(range(count + 1), repeat=max(len(groups) - 1, 0))
     for some in itertools.islice(ways, MOST_WAYS):
         sizes = [*some, count - sum(some)] if groups else []
@@ -73,12 +73,12 @@ def match_plan(
     found: dict[Call, int] = {}
     left = iter(numbers)
     for role in roles:
-        own = [list(itertools.islice(left, len(list_lines(it)))) for it in role.items]
+        own = [list(itertools.islice(left, len(list_lines(item)))) for item in role.items]
         for rank in instance.ranks[role.name]:
             calls = plan.calls_of[rank]
-            parts = (list_turns(instance, rank, *it) for it in zip(role.items, own))
-            said = [say_planned(instance, it) for it in calls]
-            lines = match_turns([it for part in parts for it in part], said)
+            parts = (list_turns(instance, rank, *pair) for pair in zip(role.items, own))
+            said = [say_planned(instance, call) for call in calls]
+            lines = match_turns([turn for part in parts for turn in part], said)
             if lines is None:
                 return {}
             found.update(zip(calls, lines))
@@ -97,7 +97,7 @@ def list_turns(
     if not isinstance(item, ReadLoop):
         return [Turn([say(instance, rank, item)], numbers)]
     return [
-        Turn([say(instance, rank, it, each) for it in item.lines], numbers, item.is_some)
+        Turn([say(instance, rank, line, each) for line in item.lines], numbers, item.is_some)
         for each in instance.find_turns(item, rank, None)
     ]
 
@@ -130,8 +130,8 @@ def say_planned(instance: Instance, call: Call) -> Said:
     if call.verb != "fence":
         return list(call.words)
     members = set[str]()
-    for it in call.target.split(","):
-        job = call.rank.job if it == ALL else it.removesuffix(":*")
-        is_job = it == ALL or it.endswith(":*")
-        members.update(instance.of_job.get(job, ()) if is_job else [it])
+    for part in call.target.split(","):
+        job = call.rank.job if part == ALL else part.removesuffix(":*")
+        is_job = part == ALL or part.endswith(":*")
+        members.update(instance.of_job.get(job, ()) if is_job else [part])
     return [call.verb, members, *call.words[2:]]

@@ -67,14 +67,22 @@ def say_sized(sized: Sized) -> str:
     return f"Who waits for ever with {count_of(sized.ranks, 'rank')}{of}"
 
 
+def say_not_taken(sized: Sized) -> list[str]:
+    """The turns that this plan leaves out, if any."""
+    return [f"Turns not taken: {'; '.join(sized.not_taken)}"] if sized.not_taken else []
+
+
 def write_sized(found: CleanPattern) -> list[str]:
     """Who waits for ever in the smallest plan in which a rank does."""
     if not found.sized:
         return []
     stuck = found.sized.standstill
     parts = [f"<section><h2>{escape(say_sized(found.sized))}</h2>"]
+    parts += [f'<p class="part">{escape(turns)}.</p>' for turns in say_not_taken(found.sized)]
     if stuck.circle:
-        ranks = [Label(it.rank, f"{it.number} {it.verb}") for it in stuck.circle]
+        ranks = [
+            Label(standing.rank, f"{standing.number} {standing.verb}") for standing in stuck.circle
+        ]
         parts += [f'<p class="part">{escape(say_circle(len(ranks)))}.</p>', draw_ring(ranks)]
     parts += list_standing(stuck.circle)
     if stuck.never:
@@ -84,22 +92,26 @@ def write_sized(found: CleanPattern) -> list[str]:
 
 def list_standing(ranks: Sequence[Standing]) -> list[str]:
     """The calls at which ranks wait, and what for."""
-    rows = [f"<li>{escape(it)}</li>" for it in describe_standing(ranks)]
+    rows = [f"<li>{escape(text)}</li>" for text in describe_standing(ranks)]
     return [f"<ul>{''.join(rows)}</ul>"] if rows else []
 
 
 def describe_standing(ranks: Sequence[Standing]) -> list[str]:
     """The first of the calls at which ranks wait, what for, and how many more there are."""
-    rows = [f"{it.rank} {it.number} {it.verb} waits for {it.waits_for}" for it in ranks[:SHOWN]]
+    rows = [
+        f"{rank.rank} {rank.number} {rank.verb} waits for {rank.waits_for}"
+        for rank in ranks[:SHOWN]
+    ]
     rest = len(ranks) - len(rows)
     return [*rows, f"and {count_of(rest, 'other rank')}"] if rest else rows
 
 
 def write_ends(found: CleanPattern) -> list[str]:
     """The calls that wait for ever in some plan, and those that fail."""
-    waits = [write_call(found, it) for it in found.said.waits]
+    waits = [write_call(found, call_line) for call_line in found.said.waits]
     fails = [
-        f"{write_call(found, it.call)}: {escape(', '.join(it.statuses))}" for it in found.said.fails
+        f"{write_call(found, failing.call)}: {escape(', '.join(failing.statuses))}"
+        for failing in found.said.fails
     ]
     titles = (
         count_of(len(waits), "call waits for ever", "calls wait for ever"),
@@ -107,7 +119,7 @@ def write_ends(found: CleanPattern) -> list[str]:
     )
     return [
         f"<section><h2>{title} in some plans</h2><ul>"
-        f"{''.join(f'<li>{it}</li>' for it in rows)}</ul></section>"
+        f"{''.join(f'<li>{row}</li>' for row in rows)}</ul></section>"
         for title, rows in zip(titles, (waits, fails))
         if rows
     ]
@@ -122,8 +134,8 @@ def write_call(found: CleanPattern, call: CallLine) -> str:
 
 def find_named(found: CleanPattern) -> set[int]:
     """The lines of the calls that wait for ever or fail."""
-    lines = (found.find_line(it) for it in found.said.named)
-    return {it for it in lines if it}
+    lines = (found.find_line(call_line) for call_line in found.said.named)
+    return {line for line in lines if line}
 
 
 def write_pattern_text(found: CleanPattern) -> str:
@@ -131,22 +143,23 @@ def write_pattern_text(found: CleanPattern) -> str:
     lines = [
         say_title(found), explain(found), f"checked by wire_up {found.version}"
     ]
-    lines += [describe_call(found, it) for it in found.said.waits]
+    lines += [describe_call(found, call_line) for call_line in found.said.waits]
     lines += describe_sized(found.sized) if found.sized else []
-    for it in found.said.fails:
-        lines.append(f"{describe_call(found, it.call)}, {', '.join(it.statuses)}")
+    for failing in found.said.fails:
+        lines.append(f"{describe_call(found, failing.call)}, {', '.join(failing.statuses)}")
     return write_lines(lines)
 
 
 def describe_sized(sized: Sized) -> list[str]:
     """Who waits for ever in the smallest plan in which a rank does, as lines."""
     stuck, lines = sized.standstill, ["", f"{say_sized(sized)}:"]
+    lines += [f"   {turns}." for turns in say_not_taken(sized)]
     if stuck.circle:
         lines.append(f"   {say_circle(len(stuck.circle))}:")
-        lines += [f"      {it}" for it in describe_standing(stuck.circle)]
+        lines += [f"      {text}" for text in describe_standing(stuck.circle)]
     if stuck.never:
         lines += ["   For what never comes:"]
-        lines += [f"      {it}" for it in describe_standing(stuck.never)]
+        lines += [f"      {text}" for text in describe_standing(stuck.never)]
     return lines
 
 

@@ -57,7 +57,7 @@ class Pattern:
     def head(self) -> Sequence[str]:
         """The comments above the header."""
         comments = itertools.takewhile(lambda line: line.startswith("#"), self.lines)
-        return [it[1:].removeprefix(" ") for it in comments]
+        return [comment[1:].removeprefix(" ") for comment in comments]
 
 
 @dataclass(frozen=True, eq=False)
@@ -73,7 +73,9 @@ class CleanPattern:
     def find_line(self, line: CallLine) -> int | None:
         """The line of the file where a call stands, if it is found there."""
         calls = list_calls(self.pattern)
-        return next((it for role, number, it in calls if line.is_at(role, number)), None)
+        return next(
+            (each_number for role, number, each_number in calls if line.is_at(role, number)), None
+        )
 
     @property
     def has_calls(self) -> bool:
@@ -142,7 +144,7 @@ def list_calls(pattern: Pattern) -> Iterator[tuple[str, int, int]]:
         elif said[0] == FOR:
             looped, times = [], count_roles(said)
         elif said[0] == END:
-            yield from ((role, next(numbers), it) for it in looped * times)
+            yield from ((role, next(numbers), time) for time in looped * times)
             looped, times = [], 0
         elif times:
             looped.append(number)
@@ -152,24 +154,26 @@ def list_calls(pattern: Pattern) -> Iterator[tuple[str, int, int]]:
 
 def count_roles(words: Sequence[str]) -> int:
     """How many roles a loop is over, by the words of its first line."""
-    return max(it.count(",") for it in words) + 1
+    return max(word.count(",") for word in words) + 1
 
 
 def list_groups(pattern: Pattern) -> list[str]:
     """The names of the groups of a pattern."""
     said = (line.split() for line in pattern.lines)
-    return [it[1] for it in said if len(it) > 1 and it[0] == MANY]
+    return [each_line[1] for each_line in said if len(each_line) > 1 and each_line[0] == MANY]
 
 
 def find_groups(pattern: Pattern) -> list[str]:
     """The names of the groups of a pattern that may be empty: no line says a least number."""
     said = (line.split() for line in pattern.lines)
-    return [it[1] for it in said if len(it) == 2 and it[0] == MANY]
+    return [each_line[1] for each_line in said if len(each_line) == 2 and each_line[0] == MANY]
 
 
 def locate_calls(pattern: Pattern, plan: Plan) -> Lines:
     """From which line of a pattern each call of its counterexample comes."""
-    return find_lines("\n".join(pattern.lines), [it for _, _, it in list_calls(pattern)], plan)
+    return find_lines(
+        "\n".join(pattern.lines), [number for _, _, number in list_calls(pattern)], plan
+    )
 
 
 def is_counterexample(plan: Plan) -> bool:

@@ -66,10 +66,13 @@ def find_elsewhere(search: Search, order: Order, written: Iterable[Cause]) -> El
         raise asker.refuse("finding") from None
     known = {group.first.mistake for cause in written for group in cause.groups}
     tallies = tally_up(found).items()
-    groups = [it.close(it.count) for mistake, it in tallies if mistake not in known]
+    groups = [tally.close(tally.count) for mistake, tally in tallies if mistake not in known]
     causes = find_causes(groups)
-    placed = [find_placed(search, order, it, found[it.first]) for it in causes[:DRAWN]]
-    return Elsewhere(causes, [it for it in placed if it])
+    placed = [
+        find_placed(search, order, each_cause, found[each_cause.first])
+        for each_cause in causes[:DRAWN]
+    ]
+    return Elsewhere(causes, [each_placed for each_placed in placed if each_placed])
 
 
 def read_placed(plan: Plan, said: Iterable[str]) -> Mapping[Finding, Sequence[str]]:
@@ -97,11 +100,11 @@ def find_placed(
     there = dataclasses.replace(search, asker=asker)
     diagram = make_race_diagram(cause.first, there, order)
     node_of = find_nodes(asker)
-    lanes = [Lane(it.name, f"on {node_of[it.name]}") for it in diagram.lanes]
+    lanes = [Lane(lane.name, f"on {node_of[lane.name]}") for lane in diagram.lanes]
     runs = find_runs(there, cause.first)
     return Placed(cause, ranks, dataclasses.replace(diagram, lanes=lanes), runs)
 
 
 def find_nodes(asker: Asker) -> Mapping[str, str]:
     """The node of each rank of a plan, by the rank's name."""
-    return {it.name: it.node for it in read_plan(asker.data).ranks}
+    return {rank.name: rank.node for rank in read_plan(asker.data).ranks}

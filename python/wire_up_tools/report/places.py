@@ -82,8 +82,8 @@ def list_places(plan: Plan, call: Call) -> list[str]:
         return [UNKNOWN_PLACE]
     if len(frames) > 1:
         at = len(frames) - 1 - is_helper(plan, call)
-        below = [f"in {it}" for it in frames[at + 1:]]
-        return [frames[at], *below, *(f"called from {it}" for it in reversed(frames[:at]))]
+        below = [f"in {frame}" for frame in frames[at + 1:]]
+        return [frames[at], *below, *(f"called from {frame}" for frame in reversed(frames[:at]))]
     around = say_around(plan, call)
     return [around, f"in {frames[0]}"] if around else frames
 
@@ -97,8 +97,12 @@ def say_around(plan: Plan, call: Call) -> str:
     if find_function(call) in MAIN:
         return ""
     earlier = list(itertools.islice(plan.calls_of[call.rank.name], call.number - 1))
-    before = next((it for it in reversed(earlier) if is_elsewhere(it, call)), None)
-    after = next((it for it in list_later(plan, call) if is_elsewhere(it, call)), None)
+    before = next(
+        (each_call for each_call in reversed(earlier) if is_elsewhere(each_call, call)), None
+    )
+    after = next(
+        (each_call for each_call in list_later(plan, call) if is_elsewhere(each_call, call)), None
+    )
     if before and after:
         return f"between {name_line(before)} and {name_line(after)}"
     if before:
@@ -125,9 +129,11 @@ def is_alone(plan: Plan, call: Call) -> bool:
     """Whether a call is the only one that its function makes when it is called: puts with their
     commit count as one."""
     calls, at = plan.calls_of[call.rank.name], call.number - 1
-    before = itertools.takewhile(lambda it: is_within(it, call), reversed(calls[:at]))
-    after = itertools.takewhile(lambda it: is_within(it, call), calls[at + 1:])
-    return {it.verb for it in (*before, *after)} <= SHARING.get(call.verb, frozenset())
+    before = itertools.takewhile(lambda each_call: is_within(each_call, call), reversed(calls[:at]))
+    after = itertools.takewhile(lambda each_call: is_within(each_call, call), calls[at + 1:])
+    return {each_call.verb for each_call in (*before, *after)} <= SHARING.get(
+        call.verb, frozenset()
+    )
 
 
 def is_within(one: Call, other: Call) -> bool:
@@ -141,7 +147,7 @@ def is_within(one: Call, other: Call) -> bool:
 def find_shared(plan: Plan) -> frozenset[str]:
     """The places that make calls in functions which are called from several places."""
     outer: dict[str, set[Sequence[str]]] = collections.defaultdict(set)
-    for place in {it.place for it in plan.list_single() if it.place}:
+    for place in {call.place for call in plan.list_single() if call.place}:
         frames = place.split(INTO)
         outer[frames[-1]].add(tuple(frames[:-1]))
     return frozenset(place for place, called in outer.items() if len(called) > 1)

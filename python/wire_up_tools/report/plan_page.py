@@ -32,29 +32,33 @@ def write_plan(report: Report) -> str:
 
 def find_named(report: Report) -> set[int]:
     """The lines of the plan to which the page has links."""
-    calls = [it.call for it in report.waits[:PAIRS]]
-    calls += [it.call for it in (report.wire_up.failures if report.wire_up else ())]
+    calls = [wait.call for wait in report.waits[:PAIRS]]
+    calls += [failure.call for failure in (report.wire_up.failures if report.wire_up else ())]
     found = set(report.wire_up.diagram.lines if report.wire_up else ())
     for detail in report.details:
         found |= detail.diagram.lines
         group, alike = detail.cause.group, detail.cause.groups[: PAIRS + 1]
-        findings = (*(it.first for it in alike), *group.others)
-        calls += (call for it in findings for call in it.calls)
+        findings = (*(each_group.first for each_group in alike), *group.others)
+        calls += (call for finding in findings for call in finding.calls)
     for placed in report.elsewhere.placed if report.elsewhere else ():
         calls += placed.cause.first.calls
         found |= placed.diagram.lines
-    calls += (call for it in report.strict for call in it.calls)
-    calls += (call for it in report.others[:MORE_CAUSES] for call in it.first.calls)
-    calls += (it for it, _ in list_shown(report.judged, report.plan)) if report.judged else ()
-    return found.union(it.line for it in calls)
+    calls += (call for finding in report.strict for call in finding.calls)
+    calls += (call for cause in report.others[:MORE_CAUSES] for call in cause.first.calls)
+    calls += (
+        (each_call for each_call, _ in list_shown(report.judged, report.plan))
+        if report.judged
+        else ()
+    )
+    return found.union(each_call.line for each_call in calls)
 
 
 def choose_lines(count: int, named: Iterable[int]) -> Sequence[int]:
     """The lines to show of so many: all of a short plan."""
     if count <= WHOLE_PLAN:
         return range(1, count + 1)
-    near = {it for line in named for it in range(line - AROUND, line + AROUND + 1)}
-    return sorted(it for it in near if 1 <= it <= count)
+    near = {number for line in named for number in range(line - AROUND, line + AROUND + 1)}
+    return sorted(number for number in near if 1 <= number <= count)
 
 
 def write_left_out(count: int) -> list[str]:

@@ -35,7 +35,7 @@ class PlanPart:
     def find_number(self, rank: str, number: int) -> int | None:
         """The number in the plan of a call of the part; None where another part tells of it."""
         of_rank = self.stretches[rank]
-        found = of_rank[bisect.bisect_right(of_rank, number, key=lambda it: it.first) - 1]
+        found = of_rank[bisect.bisect_right(of_rank, number, key=lambda stretch: stretch.first) - 1]
         return found.number + number - found.first if found.is_told else None
 
 
@@ -43,7 +43,7 @@ def list_parts(plan: Plan, data: bytes) -> Iterator[PlanPart]:
     """The parts of a plan in these bytes: a plan that isn't large is one."""
     count = 1 if plan.declared.keeps else -(-count_bytes(plan) // PART_BYTES)
     if count < 2:
-        yield PlanPart(data, {it.name: [Stretch(1, 1, True)] for it in plan.ranks})
+        yield PlanPart(data, {rank.name: [Stretch(1, 1, True)] for rank in plan.ranks})
         return
     for number in range(count):
         yield make_part(plan, number, count)
@@ -52,18 +52,22 @@ def list_parts(plan: Plan, data: bytes) -> Iterator[PlanPart]:
 def count_bytes(plan: Plan) -> int:
     """How many bytes of the plan are gets that parts can leave out."""
     entries = (entry for rank in plan.ranks for entry in plan.list_outline(rank))
-    return sum(len(it.data) for it in entries if isinstance(it, Series) and it.verb == AT_ONCE)
+    return sum(
+        len(each_entry.data)
+        for each_entry in entries
+        if isinstance(each_entry, Series) and each_entry.verb == AT_ONCE
+    )
 
 
 def make_part(plan: Plan, number: int, count: int) -> PlanPart:
     """A part by its number from 0, of so many."""
     said = (line for line in plan.lines if line.split() and not line.lstrip().startswith("#"))
-    text = [f"{next(said)}\n", *(f"node {it}\n" for it in plan.declared.nodes)]
+    text = [f"{next(said)}\n", *(f"node {node}\n" for node in plan.declared.nodes)]
     pieces = ["".join(text).encode()]
     stretches: dict[str, Sequence[Stretch]] = {}
     for job in plan.declared.jobs:
         pieces.append(f"job {job}\n".encode())
-        for rank in (it for it in plan.ranks if it.job == job):
+        for rank in (each_rank for each_rank in plan.ranks if each_rank.job == job):
             pieces.append(f"rank {rank.node}\n".encode())
             script = Script(pieces, [], number, count)
             script.write(plan, rank)
@@ -94,7 +98,7 @@ class Script:
     def add_cut(self, series: Series) -> None:
         """Writes the gets of a series that belong to this part."""
         text = bytes(series.data)
-        start, end = (self.find_cut(text, it) for it in (self.number, self.number + 1))
+        start, end = (self.find_cut(text, number) for number in (self.number, self.number + 1))
         before = text.count(b"\n", 0, start)
         self.add(series.first + before, text.count(b"\n", start, end), True, text[start:end])
 

@@ -36,13 +36,13 @@ READERS, PUBLISHES = 2, 2
 def make_race_diagram(finding: Finding, search: Search, order: Order) -> Diagram:
     """The diagram of a finding."""
     calls = choose_fitting(list_calls(finding, search, order))
-    ranks = sorted({it.rank for it in calls}, key=lambda rank: rank.index)
+    ranks = sorted({call.rank for call in calls}, key=lambda rank: rank.index)
     lanes = {rank.name: lane for lane, rank in enumerate(ranks)}
     items = make_items(finding, order, calls, lanes)
     race = Link(items[finding.first], items[finding.second])
-    meetings = {order.plan.meeting_of[it] for it in calls if it in order.plan.meeting_of}
+    meetings = {order.plan.meeting_of[call] for call in calls if call in order.plan.meeting_of}
     diagram = Diagram(
-        lanes=[Lane(it.name, f"on {it.node}") for it in ranks],
+        lanes=[Lane(each_rank.name, f"on {each_rank.node}") for each_rank in ranks],
         items=list(items.values()),
         bars=make_bars(order, lanes, meetings),
         arrows=make_arrows(order, items),
@@ -85,9 +85,9 @@ def list_around_race(finding: Finding, search: Search, order: Order) -> list[Cal
 def list_around_rewrite(finding: Finding, order: Order) -> list[Call]:
     """The commits after two puts of one key, and the first gets of it: first those that may give
     either value."""
-    commits = [order.uses.find_commit(it) for it in finding.calls]
+    commits = [order.uses.find_commit(call) for call in finding.calls]
     gets = find_readers(order, finding).calls[:READERS]
-    return [*(it for it in commits if it), *gets]
+    return [*(commit for commit in commits if commit), *gets]
 
 
 def list_around_key(finding: Finding, order: Order) -> list[Call]:
@@ -99,8 +99,8 @@ def list_around_key(finding: Finding, order: Order) -> list[Call]:
         fence, reader = reader, fence
     meeting = order.plan.meeting_of.get(fence)
     calls = meeting.calls if meeting else ()
-    commits = [it for it in map(order.uses.find_commit, puts[:1]) if it]
-    near = [it for it in calls if it.rank.node == reader.rank.node]
+    commits = [commit for commit in map(order.uses.find_commit, puts[:1]) if commit]
+    near = [call for call in calls if call.rank.node == reader.rank.node]
     return [*puts[:1], *commits, *near[:1]]
 
 
@@ -151,5 +151,9 @@ def label_item(call: Call) -> str:
 
 def make_arrows(order: Order, items: Mapping[Call, Item]) -> list[Link]:
     """The arrows to calls from those for which they wait."""
-    awaited = ((it, order.uses.find_awaited(it)) for it in items)
-    return [Link(items[it], items[call]) for call, it in awaited if it and it in items]
+    awaited = ((each_call, order.uses.find_awaited(each_call)) for each_call in items)
+    return [
+        Link(items[each_call], items[call])
+        for call, each_call in awaited
+        if each_call and each_call in items
+    ]

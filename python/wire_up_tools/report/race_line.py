@@ -25,12 +25,12 @@ def find_race_line(layout: Layout, race: Link) -> Way:
 def list_taken(layout: Layout, race: Link) -> list[Box]:
     """What the line must not go over: labels, and the marks of other calls."""
     diagram = layout.diagram
-    others = [it for it in diagram.items if it not in (race.source, race.target)]
-    marks = [layout.find_point(it) for it in others]
+    others = [item for item in diagram.items if item not in (race.source, race.target)]
+    marks = [layout.find_point(item) for item in others]
     for bar in diagram.bars:
         marks += [Point(layout.lanes[lane], layout.rows[bar.row]) for lane in bar.marks]
-    calls = [widen(Box(it, it), AROUND_CALL) for it in marks]
-    return calls + [widen(it.box, AROUND_LABEL) for it in list_labels(layout)]
+    calls = [widen(Box(mark, mark), AROUND_CALL) for mark in marks]
+    return calls + [widen(label.box, AROUND_LABEL) for label in list_labels(layout)]
 
 
 def widen(box: Box, by: float) -> Box:

@@ -30,15 +30,15 @@ class Readers:
 def find_readers(order: Order, finding: Finding) -> Readers:
     """Who reads the key of a finding that is put again."""
     owner = finding.owner or ""
-    gets = (it for it in list_gets(order.plan, owner, finding.about) if it.rank.name != owner)
+    gets = (call for call in list_gets(order.plan, owner, finding.about) if call.rank.name != owner)
     calls = list(itertools.islice(gets, MOST))
-    one, other = (order.uses.find_commit(it) for it in finding.calls)
+    one, other = (order.uses.find_commit(call) for call in finding.calls)
     if not other or one is other:
         return Readers([], calls)
     earlier = order.find_earlier(other)
-    later = [it for it in calls if earlier.get(it.rank, START).number < it.number]
-    either = [it for it in later if not order.is_before(other, it)]
-    return Readers(either, [it for it in calls if it not in either])
+    later = [call for call in calls if earlier.get(call.rank, START).number < call.number]
+    either = [call for call in later if not order.is_before(other, call)]
+    return Readers(either, [call for call in calls if call not in either])
 
 
 def list_gets(plan: Plan, owner: str, key: str) -> Iterator[Call]:
@@ -48,7 +48,7 @@ def list_gets(plan: Plan, owner: str, key: str) -> Iterator[Call]:
             if entry.verb not in ("get", "get-now") or entry.about != key:
                 continue
             calls = entry.list_calls() if isinstance(entry, Series) else [entry]
-            yield from (it for it in calls if it.target == owner)
+            yield from (call for call in calls if call.target == owner)
 
 
 def list_told(order: Order, finding: Finding) -> Sequence[Call]:
@@ -74,12 +74,12 @@ def say_readers(plan: Plan, readers: Readers) -> str:
 
 def say_who(plan: Plan, calls: Sequence[Call]) -> str:
     """Which ranks get the key, and where in the program."""
-    spots = list(dict.fromkeys(name_shown(plan, it) for it in calls if it.place))
+    spots = list(dict.fromkeys(name_shown(plan, call) for call in calls if call.place))
     where = f" at {name_all(spots)}" if spots else ""
-    is_one = len({it.rank for it in calls})
+    is_one = len({call.rank for call in calls})
     return f"{name_readers(calls)} {pick(is_one, 'gets', 'get')} it{where}"
 
 
 def name_readers(calls: Sequence[Call]) -> str:
     """The ranks that make some calls."""
-    return name_all(list(dict.fromkeys(it.rank.name for it in calls)))
+    return name_all(list(dict.fromkeys(call.rank.name for call in calls)))

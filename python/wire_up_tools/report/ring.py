@@ -42,7 +42,7 @@ def draw_ring(ranks: Sequence[Label]) -> str:
     labels = list_labels(ranks)
     points = find_points(labels)
     width, height = find_size(labels)
-    parts = [draw_arrow(*it) for it in zip(points, [*points[1:], points[0]])]
+    parts = [draw_arrow(*pair) for pair in zip(points, [*points[1:], points[0]])]
     middle = Point(width / 2, height / 2)
     parts += [draw_mark(at, label, middle) for at, label in zip(points, labels)]
     size = f'width="{width:.0f}" height="{height:.0f}" viewBox="0 0 {width:.0f} {height:.0f}"'
@@ -56,7 +56,7 @@ def draw_ring(ranks: Sequence[Label]) -> str:
 def list_labels(ranks: Sequence[Label]) -> list[Label]:
     """The labels of the marks: of many ranks the last mark stands for those that aren't drawn."""
     shown = ranks if len(ranks) <= DRAWN else ranks[: DRAWN - 1]
-    labels = [Label(it.rank, cut(it.call, LABEL_WIDTH), it.line) for it in shown]
+    labels = [Label(rank.rank, cut(rank.call, LABEL_WIDTH), rank.line) for rank in shown]
     rest = len(ranks) - len(shown)
     return [*labels, Label(f"… {count_of(rest, 'other rank')}", "")] if rest else labels
 
@@ -66,9 +66,9 @@ def find_points(labels: Sequence[Label]) -> list[Point]:
     count = len(labels)
     radius = find_radius(labels)
     left = find_side(labels) + radius
-    angles = [2 * math.pi * it / count - math.pi / 2 for it in range(count)]
-    turned = [Point(math.cos(it), 1 + math.sin(it)) for it in angles]
-    return [Point(left + radius * it.x, EDGE + radius * it.y) for it in turned]
+    angles = [2 * math.pi * number / count - math.pi / 2 for number in range(count)]
+    turned = [Point(math.cos(angle), 1 + math.sin(angle)) for angle in angles]
+    return [Point(left + radius * point.x, EDGE + radius * point.y) for point in turned]
 
 
 def find_size(labels: Sequence[Label]) -> tuple[float, float]:
@@ -84,7 +84,7 @@ def find_radius(labels: Sequence[Label]) -> float:
 
 def find_side(labels: Sequence[Label]) -> float:
     """How much room a label takes beside a ring."""
-    return BESIDE + CHARACTER * max(max(len(it.rank), len(it.call)) for it in labels)
+    return BESIDE + CHARACTER * max(max(len(label.rank), len(label.call)) for label in labels)
 
 
 def draw_arrow(start: Point, end: Point) -> str:

@@ -107,14 +107,14 @@ def find_runs(search: Search, finding: Finding) -> Runs:
 def read_runs(asker: Asker, finding: Finding, said: Any) -> list[Run]:
     """The two runs that the checker wrote: of their ends, first that of the call it names."""
     shown = f"{said['shown']['proc']} {said['shown']['call']}"
-    orders = [said[it]["order"] for it in ("first", "second")]
+    orders = [said[word]["order"] for word in ("first", "second")]
     recorded, verb = finding.first.rank.is_recorded, said["shown"]["verb"]
     ends = [follow(asker, order, recorded) for order in orders]
     differing = [call for call in list_differing(*ends) if call != shown]
     verb = name_verb(verb, recorded)
-    told = [describe_end(said[it], recorded) for it in ("first", "second")]
+    told = [describe_end(said[word], recorded) for word in ("first", "second")]
     return [
-        Run(call, order, [End(shown, verb, end), *(of_run[it] for it in differing)])
+        Run(call, order, [End(shown, verb, end), *(of_run[each_call] for each_call in differing)])
         for call, order, end, of_run in zip(finding.calls, orders, told, ends)
     ]
 
@@ -138,7 +138,7 @@ def follow(asker: Asker, order: Sequence[str], is_recorded: bool) -> dict[str, E
         for number, call in enumerate(rank["calls"], 1)
         for name in [f"{rank['proc']} {number}"]
     )
-    return {it.call: it for it in calls}
+    return {each_call.call: each_call for each_call in calls}
 
 
 def describe_end(said: Any, is_recorded: bool) -> str:

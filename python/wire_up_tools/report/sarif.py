@@ -67,7 +67,7 @@ class Location:
 def write_sarif(report: Report, folder: str | None) -> str:
     """The whole text. `folder` is that of the files that places name, if it is known."""
     source = Source(folder, find_files(folder) if folder else {})
-    results = [make_result(report, it, source) for it in report.causes]
+    results = [make_result(report, cause, source) for cause in report.causes]
     return write_results(report.version, results, folder, describe_verdict(report))
 
 
@@ -92,7 +92,7 @@ def write_results(
     properties: Mapping[str, Any] | None = None,
 ) -> str:
     """The whole text, by its results, the version of the checker, and what else is told."""
-    rules = [{"id": it, "shortDescription": {"text": said}} for it, said in RULES.items()]
+    rules = [{"id": rule, "shortDescription": {"text": said}} for rule, said in RULES.items()]
     driver = {"name": "wire_up", "version": version, "rules": rules}
     run: dict[str, Any] = {"tool": {"driver": driver}, "results": results}
     if properties:
@@ -107,7 +107,7 @@ def find_files(folder: str) -> Paths:
     """The files below a folder. Hidden folders are left out."""
     found = collections.defaultdict(list)
     for path, folders, names in os.walk(folder):
-        folders[:] = [it for it in folders if not it.startswith(".")]
+        folders[:] = [each_folder for each_folder in folders if not each_folder.startswith(".")]
         for name in names:
             found[name].append(os.path.relpath(os.path.join(path, name), folder))
     return found
@@ -116,7 +116,7 @@ def find_files(folder: str) -> Paths:
 def make_result(report: Report, cause: Cause, source: Source) -> dict[str, Any]:
     """The result of a cause: its first finding, with its calls in the program and in the plan."""
     one, rule = cause.first, choose_rule(cause.first)
-    names = {it: f"{it.name} {name_kind(it)}" for it in one.calls}
+    names = {call: f"{call.name} {name_kind(call)}" for call in one.calls}
     fix = explaining.fix(one, report.order)
     title = explaining.title(one, cause.abouts, report.order)
     meaning = f"({count_of(cause.count, 'finding')}). {explaining.explain(one, report.order)}"
@@ -124,13 +124,15 @@ def make_result(report: Report, cause: Cause, source: Source) -> dict[str, Any]:
     in_plan = [
         {
             "id": number,
-            **make_location(source, locate_in_plan(report, it, source), f"{names[it]} in {plan}"),
+            **make_location(
+                source, locate_in_plan(report, call, source), f"{names[call]} in {plan}"
+            ),
         }
-        for number, it in enumerate(one.calls, 1)
+        for number, call in enumerate(one.calls, 1)
     ]
     in_program = [
-        make_location(source, locate(report, it, source), say_call(report.plan, it))
-        for it in one.calls
+        make_location(source, locate(report, call, source), say_call(report.plan, call))
+        for call in one.calls
     ]
     tried = find_tried(report.plan, one)
     properties = {"tried": tried.word, "outcome": tried.said} if tried else None

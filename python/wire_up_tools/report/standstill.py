@@ -46,11 +46,13 @@ class Standstill:
 
 @dataclass(frozen=True)
 class Sized:
-    """Who waits for ever in the plan of a pattern with so many ranks of each group."""
+    """Who waits for ever in the plan of a pattern with so many ranks of each group, without some
+    turns of its loops, in words."""
 
     sizes: Sequence[tuple[str, int]]
     ranks: int
     standstill: Standstill
+    not_taken: Sequence[str] = ()
 
     @property
     def words(self) -> str:
@@ -85,8 +87,8 @@ def read_lines(said: str) -> Standstill | None:
         return None
     circle, _, never = said.partition(NEVER)
     read = (
-        [Standing(rank, int(call), verb, what) for rank, call, verb, what in LINE.findall(it)]
-        for it in (circle, never)
+        [Standing(rank, int(call), verb, what) for rank, call, verb, what in LINE.findall(text)]
+        for text in (circle, never)
     )
     return Standstill(*read)
 
@@ -104,8 +106,8 @@ def find_sized(asker: Asker, groups: Sequence[str], said: Settled) -> Sized | No
     if judged:
         return judged
     sizes = list_sizes(groups, said) if said.waits else list_later_sizes(groups, said)
-    for it in itertools.islice(sizes, SIZES):
-        found = look_at_size(asker, it)
+    for size in itertools.islice(sizes, SIZES):
+        found = look_at_size(asker, size)
         if found is None or not found.standstill.is_empty:
             return found
     return None
@@ -118,15 +120,16 @@ def find_judged(asker: Asker) -> Sized | None:
     if not where:
         return None
     ranks, *groups = where["with"].split(", ")
-    sizes = [(name, int(count)) for name, _, count in (it.rpartition("=") for it in groups)]
-    return Sized(sizes, int(ranks.split(" ")[0]), read_members(where))
+    sizes = [(name, int(count)) for name, _, count in (group.rpartition("=") for group in groups)]
+    left = where.get("not_taken", [])
+    return Sized(sizes, int(ranks.split(" ")[0]), read_members(where), left)
 
 
 def list_sizes(groups: Sequence[str], said: Settled) -> Iterator[list[tuple[str, int]]]:
     """The sizes of the groups that are judged, those with the fewest ranks first."""
     least = {name: count for count, name in said.least}
-    ranges = [range(least.get(it, 0), max(LARGEST, least.get(it, 0)) + 1) for it in groups]
-    for counts in sorted(itertools.product(*ranges), key=lambda it: (sum(it), it)):
+    ranges = [range(least.get(group, 0), max(LARGEST, least.get(group, 0)) + 1) for group in groups]
+    for counts in sorted(itertools.product(*ranges), key=lambda row: (sum(row), row)):
         yield [*zip(groups, counts)]
 
 
@@ -134,7 +137,7 @@ def list_later_sizes(groups: Sequence[str], said: Settled) -> Iterator[list[tupl
     """Larger sizes: as many ranks of each group."""
     first = max([LARGEST, *(count for count, _ in said.least)]) + 1
     for size in range(first, LATER + 1) if groups else ():
-        yield [(it, size) for it in groups]
+        yield [(group, size) for group in groups]
 
 
 def look_at_size(asker: Asker, sizes: Sequence[tuple[str, int]]) -> Sized | None:

@@ -24,8 +24,8 @@ SHOWS = "Then these show each such race with its two runs:"
 def has_more(plan: Plan) -> bool:
     """Whether something else is found with --strict, and the plan was made without it."""
     head = plan.declared.head
-    is_taken = any(it.endswith(f"{words.TAKEN}.") for it in head)
-    return is_taken and any(it.startswith(words.VERDICTS) for it in head)
+    is_taken = any(text.endswith(f"{words.TAKEN}.") for text in head)
+    return is_taken and any(text.startswith(words.VERDICTS) for text in head)
 
 
 def find_strict(plan: Plan) -> Sequence[Finding]:

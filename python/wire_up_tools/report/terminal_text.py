@@ -56,7 +56,7 @@ def write_text(report: Report) -> str:
 def write_lines(lines: Iterable[str]) -> str:
     """Lines, of which long ones are folded."""
     folded = (part for line in lines for part in fold(line))
-    return "".join(f"{make_printable(it)}\n" for it in folded)
+    return "".join(f"{make_printable(each_part)}\n" for each_part in folded)
 
 
 def write_detail(report: Report, number: int, detail: Detail) -> list[str]:
@@ -66,7 +66,7 @@ def write_detail(report: Report, number: int, detail: Detail) -> list[str]:
     late = find_late(report.order, one)
     return [
         f"{number}. {explaining.title(one, cause.abouts, report.order)} ({count})",
-        *(f"   {describe_told(report, one, it)}" for it in list_told(report.order, one)),
+        *(f"   {describe_told(report, one, call)}" for call in list_told(report.order, one)),
         "",
         f"   {explaining.explain(one, report.order)}",
         *([f"   {explain_late(report.plan, late)}"] if late else []),
@@ -85,11 +85,15 @@ def write_strict(report: Report) -> list[str]:
     for one in report.strict:
         lines += [
             f"   {explaining.title(one, (), report.order)}",
-            *(f"   {describe_call(report, it)}" for it in one.calls),
+            *(f"   {describe_call(report, call)}" for call in one.calls),
             f"   Fix: {explaining.fix(one, report.order)}",
         ]
     lines += [f"   {strict.MEANING}"] if report.strict else []
-    return [*lines, f"   {strict.KEEP} {strict.SHOWS}", *(f"      {it}" for it in strict.COMMANDS)]
+    return [
+        *lines,
+        f"   {strict.KEEP} {strict.SHOWS}",
+        *(f"      {command}" for command in strict.COMMANDS),
+    ]
 
 
 def write_placed(report: Report, placed: Placed) -> list[str]:
@@ -98,7 +102,7 @@ def write_placed(report: Report, placed: Placed) -> list[str]:
     title = f"{explaining.title(one, cause.abouts, report.order)} ({verdict.say_count(cause)})"
     return [
         f"{verdict.say_ranks(placed)}: {title}",
-        *(f"   {describe_call(report, it)}" for it in one.calls),
+        *(f"   {describe_call(report, call)}" for call in one.calls),
         f"   Fix: {explaining.fix(one, report.order)}",
         "",
         *draw_lines(placed.diagram),
@@ -133,7 +137,7 @@ def write_run(run: Run) -> list[str]:
     """How the calls end in a run that end otherwise in the other."""
     call = run.starts_with
     ends = [
-        f"      {it.call} {it.verb}: {cut(it.said, VALUE_WIDTH)}" for it in run.ends[:ENDINGS]
+        f"      {end.call} {end.verb}: {cut(end.said, VALUE_WIDTH)}" for end in run.ends[:ENDINGS]
     ]
     return [f"   If the {name_kind(call)} ({call.name}) comes first:", *ends]
 
@@ -146,7 +150,7 @@ def write_wire_up(report: Report, wire_up: WireUp) -> list[str]:
     if count:
         lines += ["", f"{count_of(count, 'rank waits', 'ranks wait')} for ever:"]
     shown = wire_up.waits[:PAIRS]
-    lines += [f"   {describe_call(report, it.call)}: {it.reason}" for it in shown]
+    lines += [f"   {describe_call(report, wait.call)}: {wait.reason}" for wait in shown]
     lines += [f"   And {count_of(count - PAIRS, 'other rank')}."] if count > PAIRS else []
     circle, never = wire_up.circle, wire_up.never
     lines += [f"   {say_circle(len(circle))}. {describe_circle(circle)}."] if circle else []
@@ -157,7 +161,9 @@ def write_failures(report: Report, wire_up: WireUp) -> list[str]:
     """The calls that fail."""
     if not wire_up.failed:
         return []
-    calls = [f"   {describe_call(report, it.call)}: {it.reply}" for it in wire_up.failures]
+    calls = [
+        f"   {describe_call(report, failure.call)}: {failure.reply}" for failure in wire_up.failures
+    ]
     rest = wire_up.failed - len(calls)
     more = [f"   And {count_of(rest, 'other call')}."] if rest else []
     return ["", f"{count_of(wire_up.failed, 'call fails', 'calls fail')}:", *calls, *more]
@@ -165,7 +171,7 @@ def write_failures(report: Report, wire_up: WireUp) -> list[str]:
 
 def make_printable(text: str) -> str:
     """A text without what a terminal could take for a command."""
-    return "".join(it if it.isprintable() else REPLACEMENT for it in text)
+    return "".join(letter if letter.isprintable() else REPLACEMENT for letter in text)
 
 
 def fold(line: str) -> list[str]:

@@ -34,14 +34,17 @@ def draw_lines(diagram: Diagram) -> list[str]:
     """The lines of a diagram, with its legend and its notes below it."""
     marks = draw_marks(diagram)
     widths = [measure_lane(diagram, lane, marks) for lane in range(len(diagram.lanes))]
-    names = [[it.name for it in diagram.lanes], [it.below for it in diagram.lanes]]
-    lines = [fill([cut(*it) for it in zip(texts, widths)], widths) for texts in names]
+    names = [
+        [each_lane.name for each_lane in diagram.lanes],
+        [each_lane.below for each_lane in diagram.lanes],
+    ]
+    lines = [fill([cut(*pair) for pair in zip(texts, widths)], widths) for texts in names]
     for row in diagram.rows:
         texts = [marks.get(Cell(lane, row), EMPTY) for lane in range(len(widths))]
         lines.append(fill(texts, widths))
-    legend = [f"{sign} {it}" for sign, it in MEANINGS.items() if has_sign(sign, lines)]
-    drawn = [f"{INDENT}{it.rstrip()}" for it in lines]
-    return [*drawn, "", INDENT + "; ".join(legend), *(f"{INDENT}{it}" for it in diagram.notes)]
+    legend = [f"{sign} {meaning}" for sign, meaning in MEANINGS.items() if has_sign(sign, lines)]
+    drawn = [f"{INDENT}{line.rstrip()}" for line in lines]
+    return [*drawn, "", INDENT + "; ".join(legend), *(f"{INDENT}{note}" for note in diagram.notes)]
 
 
 def draw_marks(diagram: Diagram) -> dict[Cell, str]:
@@ -49,8 +52,10 @@ def draw_marks(diagram: Diagram) -> dict[Cell, str]:
     width = LABEL_WIDTH if len(diagram.lanes) <= FEW_LANES else SHORT_LABEL
     links = draw_links(diagram)
     marks = {
-        Cell(it.lane, it.row): f"{SIGNS[it.style]} {cut(it.label, width)}{links.get(it, '')}"
-        for it in diagram.items
+        Cell(
+            item.lane, item.row
+        ): f"{SIGNS[item.style]} {cut(item.label, width)}{links.get(item, '')}"
+        for item in diagram.items
     }
     for bar in diagram.bars:
         for lane, mark in bar.marks.items():
@@ -62,8 +67,8 @@ def draw_links(diagram: Diagram) -> dict[Item, str]:
     """What is said beside an item of that for which it waits, or with which it races."""
     lanes = diagram.lanes
     links = {
-        it.target: f" {SIGN_OF_WAIT} {lanes[it.source.lane].name}"
-        for it in reversed(diagram.arrows)
+        arrow.target: f" {SIGN_OF_WAIT} {lanes[arrow.source.lane].name}"
+        for arrow in reversed(diagram.arrows)
     }
     if diagram.race:
         one, other = diagram.race.source, diagram.race.target
@@ -75,7 +80,7 @@ def draw_links(diagram: Diagram) -> dict[Item, str]:
 def measure_lane(diagram: Diagram, lane: int, marks: dict[Cell, str]) -> int:
     """The width of a lane in characters, with what stands between it and the next."""
     names = diagram.lanes[lane]
-    texts = [names.name, names.below, *(it for at, it in marks.items() if at.lane == lane)]
+    texts = [names.name, names.below, *(mark for at, mark in marks.items() if at.lane == lane)]
     return max(map(len, texts)) + 2
 
 

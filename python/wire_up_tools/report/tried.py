@@ -64,16 +64,16 @@ class Tried:
 
 def find_tried(plan: Plan, finding: Finding) -> Tried | None:
     """What came of a finding that was tried; None where it wasn't."""
-    names = {it.name for it in finding.calls}
-    for it in map(TRIED.fullmatch, plan.declared.head if plan.is_recorded else ()):
-        if it and {it[3], it[4]} == names:
-            return Tried(WORDS[it[1]], it[2], it[5], (it[3], it[4]))
+    names = {call.name for call in finding.calls}
+    for hit in map(TRIED.fullmatch, plan.declared.head if plan.is_recorded else ()):
+        if hit and {hit[3], hit[4]} == names:
+            return Tried(WORDS[hit[1]], hit[2], hit[5], (hit[3], hit[4]))
     return None
 
 
 def find_command(plan: Plan, finding: Finding) -> str | None:
     """The command that tries a finding again: it stands below what came of that."""
-    names, is_found = {it.name for it in finding.calls}, False
+    names, is_found = {call.name for call in finding.calls}, False
     for line in plan.declared.head:
         read = TRIED.fullmatch(line)
         is_found = is_found or (read is not None and {read[3], read[4]} == names)
@@ -85,25 +85,25 @@ def find_command(plan: Plan, finding: Finding) -> str | None:
 def find_turned(plan: Plan) -> Iterator[str]:
     """The orders of the plan that aren't imposed, so that its verdict doesn't hold."""
     found = map(TURNED.fullmatch, plan.declared.head if plan.is_recorded else ())
-    return (it[1] for it in found if it)
+    return (hit[1] for hit in found if hit)
 
 
 def say_turned(plan: Plan) -> list[str]:
     """Why a verdict holds only in part, by orders that were turned round; one line for each."""
-    return [f"an order of the recorded run isn't imposed: {it}" for it in find_turned(plan)]
+    return [f"an order of the recorded run isn't imposed: {text}" for text in find_turned(plan)]
 
 
 def say_no_alarms(plan: Plan) -> list[str]:
     """The first orders that were turned round, but don't change the verdict."""
     found = map(NO_ALARM.fullmatch, plan.declared.head if plan.is_recorded else ())
-    told = [f"{TOLD[it[1]]}{it[2]}." for it in found if it and it[1] in TOLD]
+    told = [f"{TOLD[hit[1]]}{hit[2]}." for hit in found if hit and hit[1] in TOLD]
     return told[:MOST_TOLD]
 
 
 def say_all_kept(plan: Plan) -> str | None:
     """That the program kept each order of the plan, if that was tried of all."""
     found = map(IN_VAIN.fullmatch, plan.declared.head if plan.is_recorded else ())
-    kept = next((it for it in found if it and it[4] and it[2] == it[3]), None)
+    kept = next((hit for hit in found if hit and hit[4] and hit[2] == hit[3]), None)
     if not kept:
         return None
     count = count_of(int(kept[2]), "order")
@@ -115,11 +115,11 @@ def say_in_vain(plan: Plan) -> list[str]:
     """How many orders were turned round in vain; nothing where none were."""
     found = map(IN_VAIN.fullmatch, plan.declared.head if plan.is_recorded else ())
     return [
-        f"{count_of(int(it[2]), 'order')} of {it[3]} that were turned round in the program on "
-        f"{it[1]} held: the later call never came first."
-        + f" These are {words.ALL_PAIRS}." * bool(it[4])
-        for it in found
-        if it
+        f"{count_of(int(hit[2]), 'order')} of {hit[3]} that were turned round in the program on "
+        f"{hit[1]} held: the later call never came first."
+        + f" These are {words.ALL_PAIRS}." * bool(hit[4])
+        for hit in found
+        if hit
     ]
 
 

@@ -24,7 +24,7 @@ class Uses:
     def find_commit(self, put: Call) -> Call | None:
         """The first commit of a rank after a put of it."""
         commits = self.commits.get(put.rank.name, ())
-        at = bisect.bisect_right(commits, put.number, key=lambda it: it.number)
+        at = bisect.bisect_right(commits, put.number, key=lambda call: call.number)
         return commits[at] if at < len(commits) else None
 
     def find_bringer(self, owner: str, key: str) -> Call | None:
@@ -57,9 +57,11 @@ def find_uses(plan: Plan) -> Uses:
 
 def find_unpublished(plan: Plan, publishes: Mapping[str, Sequence[Call]]) -> frozenset[str]:
     """The names that some call may take away."""
-    calls = [it for it in plan.list_single() if it.verb == "unpublish"]
-    sweepers = {it.rank.name for it in calls if it.about == EVERY_NAME}
+    calls = [call for call in plan.list_single() if call.verb == "unpublish"]
+    sweepers = {call.rank.name for call in calls if call.about == EVERY_NAME}
     swept = (
-        name for name, of_it in publishes.items() if any(it.rank.name in sweepers for it in of_it)
+        name
+        for name, of_it in publishes.items()
+        if any(call.rank.name in sweepers for call in of_it)
     )
-    return frozenset(it.about for it in calls if it.about != EVERY_NAME).union(swept)
+    return frozenset(call.about for call in calls if call.about != EVERY_NAME).union(swept)

@@ -74,7 +74,7 @@ def say_elsewhere(report: Report) -> str:
     """What is found on other placements than that written; nothing where that isn't known."""
     if not report.elsewhere or report.elsewhere.fault:
         return ""
-    count = sum(it.count for it in report.elsewhere.causes)
+    count = sum(cause.count for cause in report.elsewhere.causes)
     if report.causes:
         return f"{count_of(count, 'more race')} on other placements" if count else ""
     if count:
@@ -96,10 +96,10 @@ def say_placements(report: Report) -> list[str]:
     if not elsewhere or not elsewhere.causes:
         return []
     said = [f"On the placement written: {say_races(report) or 'nothing'}"]
-    placed: dict[str, list[int]] = {say_ranks(it): [] for it in elsewhere.placed}
-    for it in elsewhere.placed:
-        placed[say_ranks(it)].append(it.cause.count)
-    said += [f"{ranks[0].lower()}{ranks[1:]}: {say_such(it)}" for ranks, it in placed.items()]
+    placed: dict[str, list[int]] = {say_ranks(each_placed): [] for each_placed in elsewhere.placed}
+    for each_placed in elsewhere.placed:
+        placed[say_ranks(each_placed)].append(each_placed.cause.count)
+    said += [f"{ranks[0].lower()}{ranks[1:]}: {say_such(row)}" for ranks, row in placed.items()]
     return [f"{'; '.join(said)}."]
 
 
@@ -127,7 +127,7 @@ def say_besides(report: Report) -> list[str]:
     is_of_runs = not report.causes and is_of_each_run(report.plan)
     all_kept = say_all_kept(report.plan) if is_of_runs else None
     of_runs = [" ".join(filter(None, [EACH_RUN_SENTENCE, all_kept]))] if is_of_runs else []
-    of_code = [it for it in (say_own_code(report.plan), say_awaited(report.plan)) if it]
+    of_code = [text for text in (say_own_code(report.plan), say_awaited(report.plan)) if text]
     said = [*of_runs, *say_pattern(report), *say_placements(report), *of_library, *of_code]
     said += () if all_kept else say_in_vain(report.plan)
     return [*said, *say_no_alarms(report.plan)]
@@ -152,8 +152,8 @@ def say_line(report: Report) -> str:
 
 def may_be_ordered(report: Report) -> bool:
     """Whether what was left out can order the calls of a race that was found."""
-    is_race = any(it.first.kind is not Kind.REWRITE for it in report.causes)
-    return is_race and any(can_order(it.partition(" ")[2]) for it in report.left_out)
+    is_race = any(cause.first.kind is not Kind.REWRITE for cause in report.causes)
+    return is_race and any(can_order(text.partition(" ")[2]) for text in report.left_out)
 
 
 def say_recording(report: Report) -> str:
@@ -169,14 +169,14 @@ def say_recording(report: Report) -> str:
 
 def say_races(report: Report) -> str:
     """The findings, counted; nothing where there are none."""
-    count = sum(it.count for it in report.causes)
-    rewrites = sum(it.count for it in report.causes if it.first.kind is Kind.REWRITE)
+    count = sum(cause.count for cause in report.causes)
+    rewrites = sum(cause.count for cause in report.causes if cause.first.kind is Kind.REWRITE)
     said = []
     if count > rewrites:
         said.append(count_of(count - rewrites, "race"))
     if rewrites:
         said.append(count_of(rewrites, "key put twice", "puts of keys put before"))
-    is_cut = sum(len(it.groups) for it in report.causes) >= MOST_GROUPS
+    is_cut = sum(len(cause.groups) for cause in report.causes) >= MOST_GROUPS
     return "at least " * is_cut + " and ".join(said)
 
 
@@ -189,7 +189,7 @@ def say_ends(report: Report) -> str:
 def say_verdict(report: Report) -> str:
     """The verdict in a sentence."""
     if report.causes:
-        has_many = sum(it.count for it in report.causes) > 1
+        has_many = sum(cause.count for cause in report.causes) > 1
         kinds = f"They come from {count_of(len(report.causes), 'mistake')}. " if has_many else ""
         return f"{kinds}{say_doubt(report)}"
     ends = say_ends(report).replace(", ", " and ")
@@ -200,7 +200,7 @@ def say_verdict(report: Report) -> str:
 
 def say_doubt(report: Report) -> str:
     """What findings mean for the program."""
-    if any(it.first.kind is not Kind.REWRITE for it in report.causes):
+    if any(cause.first.kind is not Kind.REWRITE for cause in report.causes):
         return "The replies of some calls may depend on which rank is fast."
     return (
         "A rank that gets such a key may see its first value or its second: a bug, unless either "

@@ -37,18 +37,20 @@ def find_waits(order: Order, waiting_at: WaitingAt) -> list[Wait]:
     ends = ((rank.name, waiting_at[rank.name]) for rank in plan.ranks)
     calls = [plan.find_call(name, end) for name, end in ends if end is not None]
     explain = {"fence": explain_fence, "get": explain_get}
-    return [explain.get(it.verb, explain_lookup)(situation, it) for it in calls]
+    return [explain.get(call.verb, explain_lookup)(situation, call) for call in calls]
 
 
 def explain_fence(situation: Situation, call: Call) -> Wait:
     """Why a fence waits for ever."""
     plan = situation.order.plan
     meeting = plan.meeting_of[call]
-    came = {it.rank.name for it in meeting.calls if situation.is_reached(it)}
-    calling = {it.rank.name for it in meeting.calls}
-    missing = [it.name for it in plan.ranks if it.name in meeting.members and it.name not in came]
-    absent = [it for it in missing if it not in calling]
-    late = [it for it in missing if it in calling]
+    came = {each_call.rank.name for each_call in meeting.calls if situation.is_reached(each_call)}
+    calling = {each_call.rank.name for each_call in meeting.calls}
+    missing = [
+        rank.name for rank in plan.ranks if rank.name in meeting.members and rank.name not in came
+    ]
+    absent = [name for name in missing if name not in calling]
+    late = [name for name in missing if name in calling]
     said = []
     if absent:
         verb = pick(len(absent), "never calls", "never call")
@@ -80,7 +82,7 @@ def explain_lookup(situation: Situation, call: Call) -> Wait:
     calls = publishes.get(call.about, ())
     if not calls:
         return Wait(call, f"nobody publishes {name}")
-    late = [it.rank.name for it in calls if not situation.is_reached(it)]
+    late = [each_call.rank.name for each_call in calls if not situation.is_reached(each_call)]
     if len(late) < len(calls):
         return Wait(call, f"{name} is published and taken away again", late)
     verb = pick(len(late), "waits", "wait")
@@ -90,7 +92,7 @@ def explain_lookup(situation: Situation, call: Call) -> Wait:
 
 def find_circle(waits: Sequence[Wait]) -> Sequence[str]:
     """Ranks that wait for each other in a circle; none where there is no circle."""
-    ranks_of = {it.call.rank.name: it.ranks for it in waits}
+    ranks_of = {wait.call.rank.name: wait.ranks for wait in waits}
     known: set[str] = set()
     for start in ranks_of:
         way, end = follow_waits(start, ranks_of, known)
@@ -108,5 +110,5 @@ def follow_waits(
     at: str | None = start
     while at is not None and at not in known and at not in way:
         way.append(at)
-        at = next((it for it in ranks_of[at] if it in ranks_of), None)
+        at = next((rank for rank in ranks_of[at] if rank in ranks_of), None)
     return way, at

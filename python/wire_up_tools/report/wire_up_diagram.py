@@ -66,8 +66,10 @@ def make_wire_up_diagram(order: Order, waiting_at: WaitingAt) -> Diagram:
     if len(shapes) > LANES:
         return make_node_diagram(order)
     lanes = {ranks[0].name: lane for lane, ranks in enumerate(shapes)}
-    bundles = [it for ranks in shapes for it in find_bundles(order.plan, ranks[0], waiting_at)]
-    items = {it.last: make_item(order, it, lanes) for it in bundles if is_item(it)}
+    bundles = [
+        bundle for ranks in shapes for bundle in find_bundles(order.plan, ranks[0], waiting_at)
+    ]
+    items = {bundle.last: make_item(order, bundle, lanes) for bundle in bundles if is_item(bundle)}
     meetings = find_reached(order.plan, lanes, waiting_at)
     diagram = Diagram(
         lanes=[describe_lane(ranks) for ranks in shapes],
@@ -89,10 +91,10 @@ def find_shapes(order: Order, waiting_at: WaitingAt) -> list[list[Rank]]:
     for whom.
     """
     plan = order.plan
-    has_waits = any(it is not None for it in waiting_at.values())
-    has_given = any(it.awaited for stops in order.stops.values() for it in stops)
+    has_waits = any(number is not None for number in waiting_at.values())
+    has_given = any(stop.awaited for stops in order.stops.values() for stop in stops)
     if len(plan.ranks) <= LANES and (has_waits or has_given):
-        return [[it] for it in plan.ranks]
+        return [[each_rank] for each_rank in plan.ranks]
     found: dict[Hashable, list[Rank]] = {}
     for rank in plan.ranks:
         found.setdefault((find_shape(plan, rank), waiting_at[rank.name]), []).append(rank)
@@ -170,7 +172,7 @@ def label_bundle(calls: Sequence[Call]) -> str:
     """What stands beside calls of one verb."""
     if len(calls) == 1:
         return label_call(calls[0])
-    keys = {it.about for it in calls}
+    keys = {call.about for call in calls}
     key = calls[0].about if len(keys) == 1 else ""
     named = name_call(calls[0]) if len(keys) == 1 else name_about(calls[0], key)
     return f"{calls[0].number}–{calls[-1].number} {named} ×{len(calls)}"
@@ -248,9 +250,9 @@ def keep_rows(diagram: Diagram) -> Diagram:
     left_out = len(weights) - len(kept)
     return dataclasses.replace(
         diagram,
-        items=[it for it in diagram.items if it.row in kept],
-        bars=[it for it in diagram.bars if it.row in kept],
-        arrows=[it for it in diagram.arrows if {it.source.row, it.target.row} <= kept],
+        items=[call for call in diagram.items if call.row in kept],
+        bars=[bar for bar in diagram.bars if bar.row in kept],
+        arrows=[arrow for arrow in diagram.arrows if {arrow.source.row, arrow.target.row} <= kept],
         notes=[*diagram.notes, *say_not_drawn(left_out, "row of calls", "rows of calls")],
     )
 

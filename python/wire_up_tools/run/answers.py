@@ -32,7 +32,7 @@ class Runs:
     @property
     def times(self) -> int:
         """How many runs there were."""
-        return sum(it.times for it in self.seen)
+        return sum(seen.times for seen in self.seen)
 
     @property
     def library(self) -> str:
@@ -42,7 +42,7 @@ class Runs:
     @property
     def differs(self) -> bool:
         """Whether a call was answered otherwise in one of the runs."""
-        return any(it.differences for it in self.seen)
+        return any(seen.differences for seen in self.seen)
 
 
 @dataclass(frozen=True)
@@ -68,10 +68,12 @@ class ShownRace:
 def count_runs(expected: Expected, outcomes: Sequence[Outcome]) -> list[Seen]:
     """The different reports of runs, each with its count."""
     by_text: dict[str, list[Outcome]] = {}
-    for it in outcomes:
-        by_text.setdefault(it.report.write(), []).append(it)
+    for outcome in outcomes:
+        by_text.setdefault(outcome.report.write(), []).append(outcome)
     found = sorted(by_text.values(), key=len, reverse=True)
-    return [Seen(it[0], len(it), compare(expected.report, it[0].report)) for it in found]
+    return [
+        Seen(letter[0], len(letter), compare(expected.report, letter[0].report)) for letter in found
+    ]
 
 
 def write_seen(seen: Seen, runs: Runs) -> str:
@@ -79,49 +81,53 @@ def write_seen(seen: Seen, runs: Runs) -> str:
     report = seen.outcome.report
     lines = [f"seen {seen.times} of {runs.times}"] if runs.times > 1 else []
     lines += report.write().splitlines()
-    lines += [str(it) for it in seen.differences]
-    lines += [f"late {it}" for it in seen.outcome.late]
+    lines += [str(difference) for difference in seen.differences]
+    lines += [f"late {text}" for text in seen.outcome.late]
     if report.waiting:
         lines.append(f"judged by time: waiting after {runs.quiet:g} seconds without progress")
     lines.append(f"differing {len(seen.differences)} of {len(report.lines)}")
-    return "".join(f"{it}\n" for it in lines)
+    return "".join(f"{line}\n" for line in lines)
 
 
 def write_text(runs: Runs) -> str:
     """What runs gave, as lines."""
-    return "".join(write_seen(it, runs) for it in runs.seen)
+    return "".join(write_seen(seen, runs) for seen in runs.seen)
 
 
 def write_race(race: ShownRace) -> str:
     """Both runs of a race, in the form of `witness`."""
     first = f"{'shown' if race.is_shown else 'not shown'} {race.call}"
-    replies = [f"{run} {it}" for run, it in zip(("first", "second"), race.replies)]
+    replies = [f"{run} {reply}" for run, reply in zip(("first", "second"), race.replies)]
     last = f"differing {len(race.differences)} of 2"
-    return "".join(f"{it}\n" for it in (first, *replies, *race.differences, last))
+    return "".join(f"{reply}\n" for reply in (first, *replies, *race.differences, last))
 
 
 def make_ranks(report: Report) -> list[Object]:
     """The ranks of a report, as `replay --json` has them."""
     calls: dict[str, list[Object]] = {}
-    for it in report.lines:
-        status, _, value = it.reply.partition(" ")
-        made: dict[str, object] = {"reply": status, "verb": it.place.verb}
+    for line in report.lines:
+        status, _, value = line.reply.partition(" ")
+        made: dict[str, object] = {"reply": status, "verb": line.place.verb}
         if value:
             made["value"] = value
-        calls.setdefault(it.place.rank, []).append(made)
+        calls.setdefault(line.place.rank, []).append(made)
     return [{"calls": made, "proc": rank} for rank, made in calls.items()]
 
 
-def make_difference(it: Difference) -> Object:
+def make_difference(difference: Difference) -> Object:
     """A difference, as JSON has it."""
-    made = {"call": it.place.number, "proc": it.place.rank, "verb": it.place.verb}
-    return {**made, "library": it.library, "rules": it.rules}
+    made = {
+        "call": difference.place.number,
+        "proc": difference.place.rank,
+        "verb": difference.place.verb,
+    }
+    return {**made, "library": difference.library, "rules": difference.rules}
 
 
 def make_seen(seen: Seen) -> Object:
     """A report of the library with its differences, as JSON has it."""
     return {
-        "differs": [make_difference(it) for it in seen.differences],
+        "differs": [make_difference(difference) for difference in seen.differences],
         "late": list(seen.outcome.late),
         "ranks": make_ranks(seen.outcome.report),
         "times": seen.times,
@@ -142,7 +148,7 @@ def write_json(runs: Runs) -> str:
         "library": runs.library,
         "quiet": runs.quiet,
         "runs": runs.times,
-        "seen": [make_seen(it) for it in runs.seen],
+        "seen": [make_seen(seen) for seen in runs.seen],
     }
     return dump(made)
 
@@ -171,13 +177,15 @@ class Case:
 
 def write_junit(name: str, cases: Sequence[Case]) -> str:
     """Cases as JUnit XML, which CI servers read."""
-    failed = sum(bool(it.failure) for it in cases)
+    failed = sum(bool(each_case.failure) for each_case in cases)
     counts = {"tests": str(len(cases)), "failures": str(failed)}
     suite = ElementTree.Element("testsuite", {"name": name, **counts})
-    for it in cases:
-        case = ElementTree.SubElement(suite, "testcase", {"classname": it.group, "name": it.name})
-        if it.failure:
-            ElementTree.SubElement(case, "failure", {"message": it.failure})
+    for each_case in cases:
+        case = ElementTree.SubElement(
+            suite, "testcase", {"classname": each_case.group, "name": each_case.name}
+        )
+        if each_case.failure:
+            ElementTree.SubElement(case, "failure", {"message": each_case.failure})
     ElementTree.indent(suite)
     text = ElementTree.tostring(suite, encoding="unicode")
     return f'<?xml version="1.0" encoding="UTF-8"?>\n{text}\n'
@@ -185,6 +193,6 @@ def write_junit(name: str, cases: Sequence[Case]) -> str:
 
 def list_cases(name: str, runs: Runs) -> list[Case]:
     """A case for each call: it fails if it was answered otherwise in one of the runs."""
-    failures = {str(d.place): str(d) for it in runs.seen for d in it.differences}
-    places = [str(it.place) for it in runs.expected.report.lines]
-    return [Case(name, it, failures.get(it, "")) for it in places]
+    failures = {str(d.place): str(d) for seen in runs.seen for d in seen.differences}
+    places = [str(line.place) for line in runs.expected.report.lines]
+    return [Case(name, place, failures.get(place, "")) for place in places]

@@ -31,7 +31,7 @@ class Channel:
     def send(self, *lines: str) -> None:
         """Sends lines. What has gone isn't sent to: reading says so."""
         try:
-            self.connection.sendall("".join(f"{it}\n" for it in lines).encode())
+            self.connection.sendall("".join(f"{line}\n" for line in lines).encode())
         except OSError:
             pass
 
@@ -44,7 +44,7 @@ class Channel:
         if not came:
             return None
         *whole, self.begun = (self.begun + came).split(b"\n")
-        return [it.decode("ascii", "replace") for it in whole]
+        return [part.decode("ascii", "replace") for part in whole]
 
 
 @dataclass(frozen=True)
@@ -89,7 +89,7 @@ class Hall:
             self.selector.unregister(channel.connection)
             channel.connection.close()
             yield Heard(channel, None)
-        yield from (Heard(channel, it) for it in lines or [])
+        yield from (Heard(channel, line) for line in lines or [])
 
     def hear_launcher(self, output: int) -> None:
         """Keeps the end of what the launcher writes."""
@@ -104,8 +104,8 @@ class Hall:
             if isinstance(key.data, Channel):
                 key.data.connection.close()
         self.selector.close()
-        for it in self.listeners:
-            it.close()
+        for listener in self.listeners:
+            listener.close()
 
 
 def open_hall(folder: str, hosts: Iterable[str] | None) -> Hall:
@@ -116,9 +116,9 @@ def open_hall(folder: str, hosts: Iterable[str] | None) -> Hall:
     else:
         listeners, address = listen_at(find_addresses(hosts))
     hall = Hall(listeners, address)
-    for it in listeners:
-        it.listen(1024)
-        hall.selector.register(it, selectors.EVENT_READ, it)
+    for listener in listeners:
+        listener.listen(1024)
+        hall.selector.register(listener, selectors.EVENT_READ, listener)
     return hall
 
 
@@ -139,13 +139,16 @@ def listen_at(addresses: Sequence[str]) -> tuple[list[socket.socket], str]:
             first = opened.enter_context(create_server(addresses[0], 0))
             port = first.getsockname()[1]
             try:
-                rest = [opened.enter_context(create_server(it, port)) for it in addresses[1:]]
+                rest = [
+                    opened.enter_context(create_server(each_address, port))
+                    for each_address in addresses[1:]
+                ]
             except OSError:
                 if not left:
                     raise
                 continue
             opened.pop_all()
-            named = [it or socket.gethostname() for it in addresses]
+            named = [address or socket.gethostname() for address in addresses]
             return [first, *rest], f"{','.join(named)}:{port}"
     raise AssertionError
 
@@ -166,7 +169,7 @@ def find_addresses(hosts: Iterable[str]) -> list[str]:
         if own is None:
             return [EVERY]
         found[own] = None
-    outer = [it for it in found if not ipaddress.ip_address(it).is_loopback]
+    outer = [text for text in found if not ipaddress.ip_address(text).is_loopback]
     return outer or [LOOPBACK]
 
 

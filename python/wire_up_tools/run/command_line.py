@@ -154,9 +154,9 @@ def read_choices(found: argparse.Namespace) -> Choices:
 
 def hold_alone(found: argparse.Namespace, task: str, names: Sequence[str]) -> None:
     """Raises Unusable where an option stands that doesn't go with a task."""
-    for it in names:
-        if getattr(found, it):
-            name = "a plan" if it == "rest" else f"--{it}"
+    for each_name in names:
+        if getattr(found, each_name):
+            name = "a plan" if each_name == "rest" else f"--{each_name}"
             raise Unusable(f"{name} doesn't go with {task}")
 
 

@@ -52,9 +52,9 @@ def ends_within(process: "subprocess.Popen[bytes]", seconds: float) -> bool:
 def is_left(process: int, session: int) -> bool:
     """Whether a process is one of a session, and hasn't ended."""
     try:
-        with open(f"/proc/{process}/stat", "rb") as it:
+        with open(f"/proc/{process}/stat", "rb") as file:
             # The name before these has brackets around it, and may have any bytes.
-            state, _, _, found = it.read().rpartition(b")")[2].split()[:4]
+            state, _, _, found = file.read().rpartition(b")")[2].split()[:4]
     except OSError:
         return False
     return state not in ENDED and int(found) == session
@@ -62,8 +62,8 @@ def is_left(process: int, session: int) -> bool:
 
 def list_left(session: int) -> list[int]:
     """The processes of a session that haven't ended."""
-    every = (int(os.path.basename(it)) for it in glob.glob("/proc/[0-9]*"))
-    return [it for it in every if is_left(it, session)]
+    every = (int(os.path.basename(path)) for path in glob.glob("/proc/[0-9]*"))
+    return [number for number in every if is_left(number, session)]
 
 
 def kill_one(process: int, session: int) -> None:
@@ -81,9 +81,9 @@ def kill_one(process: int, session: int) -> None:
 def end_fake_nodes(process: "subprocess.Popen[bytes]") -> None:
     """Ends all that is among fake nodes. Then `unshare` ends too, if it wasn't killed: it has taken
     the end of the first of them."""
-    others = [it for it in list_left(process.pid) if it != process.pid]
-    for it in others:
-        kill_one(it, process.pid)
+    others = [number for number in list_left(process.pid) if number != process.pid]
+    for number in others:
+        kill_one(number, process.pid)
     if others:
         ends_within(process, PATIENCE)
 
@@ -102,11 +102,11 @@ def wait_until_gone(process: "subprocess.Popen[bytes]", is_fake: bool, limit: fl
     left = list_left(process.pid) if is_fake else []
 
     def is_gone() -> bool:
-        left[:] = [it for it in left if is_left(it, process.pid)]
+        left[:] = [number for number in left if is_left(number, process.pid)]
         return not left and find_status(process) is not None
 
     if not is_within(limit, is_gone):
-        numbers = ", ".join(str(it) for it in left or [process.pid])
+        numbers = ", ".join(str(pid) for pid in left or [process.pid])
         say(f"killed, and not gone in {limit:g} seconds: process {numbers}")
 
 

@@ -44,7 +44,7 @@ def hold_answered(answer: Answer, *statuses: int) -> str:
 def read_order(text: str) -> list[str]:
     """The steps of a text of an order: its lines but comments."""
     words = (line.split() for line in text.splitlines())
-    return [it[0] for it in words if it and not it[0].startswith("#")]
+    return [word[0] for word in words if word and not word[0].startswith("#")]
 
 
 def expect(checker: Checker, plan: bytes) -> Expected:
@@ -56,7 +56,7 @@ def expect(checker: Checker, plan: bytes) -> Expected:
     last = said.split()[-1:]
     if not last or not last[0].isdigit():
         raise Refused("wire_up ended with status 1, and told no findings")
-    findings, is_racy = int(last[0]), any(it.startswith(RACE) for it in said.splitlines())
+    findings, is_racy = int(last[0]), any(line.startswith(RACE) for line in said.splitlines())
     said = hold_answered(checker.ask("replay", "--anyway", plan=plan), SETTLED, FOUND)
     before, _, after = said.removeprefix("unsettled\n").partition("\norder ")
     order = after.splitlines()[1:] if is_racy else None
@@ -79,5 +79,5 @@ def ask_witness(checker: Checker, plan: bytes, words: Sequence[str]) -> Witness:
         raise Refused(f"wire_up says of this race: {said.partition(chr(10))[0] or 'nothing'}")
     first, *parts = said.split("\norder ")
     call, *replies = first.splitlines()
-    orders = [it.splitlines()[1:] for it in parts]
-    return Witness(call.removeprefix(SHOWN), [it.partition(" ")[2] for it in replies], orders)
+    orders = [part.splitlines()[1:] for part in parts]
+    return Witness(call.removeprefix(SHOWN), [reply.partition(" ")[2] for reply in replies], orders)

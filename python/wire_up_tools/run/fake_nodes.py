@@ -59,7 +59,7 @@ def write_names(folder: str, hosts: Iterable[str]) -> str:
     """Writes a table of the names of hosts into a folder, and answers its path. Raises OSError."""
     path = os.path.join(folder, "names")
     # Addresses that are kept for documents.
-    others = enumerate(it for it in dict.fromkeys(hosts) if it != HEAD)
+    others = enumerate(each_host for each_host in dict.fromkeys(hosts) if each_host != HEAD)
     lines = [f"198.51.100.{at % 254 + 1} {host}\n" for at, host in others]
     write_file(path, "".join([f"127.0.0.1 {LOCAL} {HEAD}\n", *lines]))
     return path

@@ -73,8 +73,8 @@ def released() -> Held:
 
 def ignore_signals() -> None:
     """Lets no signal end what is done."""
-    for it in CAUGHT:
-        signal.signal(it, signal.SIG_IGN)
+    for signals in CAUGHT:
+        signal.signal(signals, signal.SIG_IGN)
 
 
 def stop(number: int, _: FrameType | None) -> None:
@@ -86,6 +86,6 @@ def stop(number: int, _: FrameType | None) -> None:
 
 def catch_signals() -> None:
     """Lets signals end what is done, but for those that were ignored before."""
-    for it in CAUGHT:
-        if signal.getsignal(it) != signal.SIG_IGN:
-            signal.signal(it, stop)
+    for signals in CAUGHT:
+        if signal.getsignal(signals) != signal.SIG_IGN:
+            signal.signal(signals, stop)

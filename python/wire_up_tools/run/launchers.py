@@ -100,8 +100,8 @@ def ask_version(path: str) -> str:
 
 def find_launcher(asked: str | None) -> Launcher:
     """The launcher of a name or path, else the first that is there. Raises Refused."""
-    found = (shutil.which(it) for it in ([asked] if asked else KNOWN))
-    path = next((it for it in found if it), None)
+    found = (shutil.which(each_asked) for each_asked in ([asked] if asked else KNOWN))
+    path = next((text for text in found if text), None)
     if not path:
         wanted = asked or " or ".join(KNOWN)
         raise Refused(f"there is no {wanted}: on Debian the package openmpi-bin has mpirun")
@@ -128,9 +128,9 @@ def read_command(command: str) -> Launcher:
 def write_hosts(launcher: Launcher, start: Start) -> str:
     """The text of the file of hosts."""
     if not start.has_several_jobs:
-        return "".join(f"{it}\n" for it in start.hosts)
+        return "".join(f"{host}\n" for host in start.hosts)
     different = dict.fromkeys(start.hosts)
-    return "".join(f"{it} slots={len(start.hosts)}\n" for it in different)
+    return "".join(f"{host} slots={len(start.hosts)}\n" for host in different)
 
 
 def write_open_mpi_4(start: Start) -> list[str]:

@@ -123,9 +123,9 @@ class Run:
         none."""
         list(self.hall.hear(TICK))
         lines = self.hall.said.decode("utf-8", "replace").split("\n")
-        said = [it.strip() for it in lines if it.strip(" -=*\t\r")]
+        said = [line.strip() for line in lines if line.strip(" -=*\t\r")]
         # A line that goes on with the sentence begins with a small letter.
-        more = itertools.takewhile(lambda it: it[0].islower(), said[1:])
+        more = itertools.takewhile(lambda line: line[0].islower(), said[1:])
         first = " ".join([*said[:1], *more])
         return f": {first[:LINE_LENGTH]}" if first else ""
 
@@ -142,8 +142,8 @@ class Run:
         """Waits until all ranks are there. Raises Refused, Stopped."""
         until = time.monotonic() + self.setting.start
         while len(self.ranks) < len(self.plan.ranks):
-            for it in self.hear():
-                self.meet(it)
+            for heard in self.hear():
+                self.meet(heard)
             if time.monotonic() > until:
                 count = f"{len(self.ranks)} of {len(self.plan.ranks)} ranks"
                 within = f"in {self.setting.start:g} seconds"
@@ -176,7 +176,7 @@ class Run:
         numbers = number_jobs(self.plan)
         self.names[channel] = "the process that starts the jobs"
         for job in list_jobs(self.plan):
-            ranks = [it for it in self.plan.ranks if it.job == job]
+            ranks = [rank for rank in self.plan.ranks if rank.job == job]
             hosts = choose_hosts(self.plan, ranks, self.setting.hosts)
             channel.send(f"start {numbers[job]} {','.join(hosts)}")
 
@@ -185,7 +185,7 @@ class Run:
         _, _, job, space, number, host, self.library = words
         jobs = self.plan.declared.jobs
         name = f"{jobs[int(job)]}:{number}"
-        rank = next((it for it in self.plan.ranks if it.name == name), None)
+        rank = next((each_rank for each_rank in self.plan.ranks if each_rank.name == name), None)
         if rank is None or name in self.ranks:
             raise Refused(f"a process came up as {name}: the plan has no such rank, or one")
         self.ranks[name] = LiveRank(rank, channel, host, space)
@@ -194,11 +194,11 @@ class Run:
 
     def begin(self) -> None:
         """Tells each rank its script, and how it may go on."""
-        for it in self.ranks.values():
-            it.channel.send(*write_script(self.plan, it.rank, self.spaces))
+        for live_rank in self.ranks.values():
+            live_rank.channel.send(*write_script(self.plan, live_rank.rank, self.spaces))
         if self.task.order is None:
-            for it in self.ranks.values():
-                it.channel.send("free")
+            for each_live_rank in self.ranks.values():
+                each_live_rank.channel.send("free")
         else:
             steps = read_steps(self.plan, self.task.order)
             patience = self.setting.quiet / 2
@@ -211,8 +211,8 @@ class Run:
         at = -1
         while not self.is_done():
             heard = self.hear()
-            for it in heard:
-                self.take(it)
+            for each_heard in heard:
+                self.take(each_heard)
             if self.turns:
                 self.turns.go_on()
             moved = self.turns is not None and self.turns.at != at
@@ -224,8 +224,8 @@ class Run:
     def is_done(self) -> bool:
         """Whether nothing more can come."""
         if self.turns and self.turns.is_over and self.task.is_held:
-            return not any(it.is_in_call for it in self.ranks.values())
-        return all(it.is_done for it in self.ranks.values())
+            return not any(live_rank.is_in_call for live_rank in self.ranks.values())
+        return all(live_rank.is_done for live_rank in self.ranks.values())
 
     def take(self, heard: Heard) -> None:
         """Takes what a rank says. Raises Refused if it has ended."""
@@ -257,9 +257,11 @@ class Run:
     def dismiss(self) -> None:
         """Lets the ranks end that are done, and hears that each still has its server: else its last
         replies may come of that. Raises Refused."""
-        left = {it.channel: name for name, it in self.ranks.items() if it.is_done}
-        for it in left:
-            it.send("end")
+        left = {
+            live_rank.channel: name for name, live_rank in self.ranks.items() if live_rank.is_done
+        }
+        for channel in left:
+            channel.send("end")
         until = time.monotonic() + SOON
         while left and time.monotonic() < until:
             for heard in self.hall.hear(TICK):
@@ -279,11 +281,11 @@ def choose_hosts(
 ) -> list[str]:
     """The host of each rank. Raises Refused if there are too few."""
     nodes = plan.declared.nodes
-    names = [fake_nodes.name_host(*it) for it in enumerate(nodes)] if hosts is None else hosts
+    names = [fake_nodes.name_host(*node) for node in enumerate(nodes)] if hosts is None else hosts
     if len(names) < len(nodes):
         raise Refused(f"the plan has {len(nodes)} nodes, and there are {len(names)} hosts")
     host_of = dict(zip(nodes, names))
-    return [host_of[it.node] for it in ranks]
+    return [host_of[rank.node] for rank in ranks]
 
 
 def is_among_fake_nodes(setting: Setting) -> bool:
@@ -369,5 +371,5 @@ def run_plan(task: Task, setting: Setting) -> Outcome:
     """Runs a plan once. Raises Refused, Stopped, OSError."""
     if not task.plan.ranks:
         return Outcome(Report([]), "")
-    with held(), started(task, setting) as it, released():
-        return it.run()
+    with held(), started(task, setting) as each_started, released():
+        return each_started.run()

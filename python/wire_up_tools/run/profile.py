@@ -61,4 +61,4 @@ class ProfileRule(enum.Enum):
         return self.name.lower().replace("_", "-")
 
 
-BY_LABEL = {it.label: it for it in ProfileRule}
+BY_LABEL = {profile_rule.label: profile_rule for profile_rule in ProfileRule}

@@ -51,14 +51,14 @@ def number_jobs(plan: Plan) -> dict[str, int]:
 
 def list_jobs(plan: Plan) -> list[str]:
     """The jobs that have ranks."""
-    return list(dict.fromkeys(it.job for it in plan.ranks))
+    return list(dict.fromkeys(rank.job for rank in plan.ranks))
 
 
 def number_ranks(word: str, jobs: Mapping[str, int]) -> str:
     """A word that names ranks, with the numbers of jobs in place of their names."""
     if word == "all":
         return word
-    items = (it.rpartition(":") for it in word.split(","))
+    items = (part.rpartition(":") for part in word.split(","))
     return ",".join(f"{jobs[job]}:{rank}" for job, _, rank in items)
 
 
@@ -74,7 +74,7 @@ def write_script(plan: Plan, rank: Rank, spaces: Mapping[str, str]) -> list[str]
     """The lines that tell a rank all before its script begins: the namespaces, and its calls."""
     jobs = number_jobs(plan)
     named = [f"space {jobs[job]} {space}" for job, space in spaces.items()]
-    return [*named, *(write_call(it, jobs) for it in plan.calls_of[rank.name]), "go"]
+    return [*named, *(write_call(call, jobs) for call in plan.calls_of[rank.name]), "go"]
 
 
 def hold_places(ranks: Sequence[LiveRank]) -> dict[str, str]:
@@ -82,12 +82,12 @@ def hold_places(ranks: Sequence[LiveRank]) -> dict[str, str]:
     nodes."""
     node_of: dict[str, str] = {}
     host_of: dict[str, str] = {}
-    for it in ranks:
-        node, host = it.rank.node, it.host
+    for rank in ranks:
+        node, host = rank.rank.node, rank.host
         if node_of.setdefault(host, node) != node or host_of.setdefault(node, host) != host:
-            others = sorted({it.rank.name for it in ranks if it.host == host})
+            others = sorted({each_rank.rank.name for each_rank in ranks if each_rank.host == host})
             raise Refused(
-                f"{', '.join(others)} run on the host {host}: the plan has {it.rank.name} on "
+                f"{', '.join(others)} run on the host {host}: the plan has {rank.rank.name} on "
                 f"{node}, and each node needs a host of its own"
             )
     return node_of

@@ -38,16 +38,16 @@ class Report:
     @property
     def waiting(self) -> int:
         """How many ranks wait."""
-        return sum(it.reply == WAITING for it in self.lines)
+        return sum(line.reply == WAITING for line in self.lines)
 
     @property
     def is_whole(self) -> bool:
         """Whether no rank could go on."""
-        return all(it.reply != READY for it in self.lines)
+        return all(line.reply != READY for line in self.lines)
 
     def write(self) -> str:
         """The report as a text."""
-        lines = [f"{it.place} {it.reply}\n" for it in self.lines]
+        lines = [f"{line.place} {line.reply}\n" for line in self.lines]
         return "".join([*lines, f"waiting {self.waiting}\n"])
 
 

@@ -62,7 +62,9 @@ class Verdict:
     @property
     def differences(self) -> list[Difference]:
         """The calls that were answered otherwise, in any of the runs."""
-        found = {it.place: it for seen in self.seen for it in seen.differences}
+        found = {
+            difference.place: difference for seen in self.seen for difference in seen.differences
+        }
         return list(found.values())
 
     @property
@@ -73,15 +75,15 @@ class Verdict:
 
 def write_plan(short: str) -> str:
     """The text of a plan of a file of the suite."""
-    lines = [it.strip() for it in short.split("/")]
-    return "".join(f"{it}\n" for it in [*HEADS.get(lines[0], lines[:1]), *lines[1:]])
+    lines = [part.strip() for part in short.split("/")]
+    return "".join(f"{head}\n" for head in [*HEADS.get(lines[0], lines[:1]), *lines[1:]])
 
 
 def read_plans(path: str) -> Iterator[SuitePlan]:
     """The plans of a file of the suite. Raises OSError."""
     rule = ProfileRule.MIXED
-    with open(path, encoding="ascii") as it:
-        for line in (text.strip() for text in it):
+    with open(path, encoding="ascii") as file:
+        for line in (text.strip() for text in file):
             if line.startswith("["):
                 rule = BY_LABEL[line.strip("[]")]
             elif line and not line.startswith("#"):
@@ -98,11 +100,17 @@ def read_suite() -> list[SuitePlan]:
 def choose_plans(names: Sequence[str]) -> list[SuitePlan]:
     """The plans of these names, or of rules of these names; without names all. Raises Refused."""
     every = read_suite()
-    known = {it.name for it in every} | {it.rule.label for it in every}
-    unknown = next((it for it in names if it not in known), None)
+    known = {suite_plan.name for suite_plan in every} | {
+        suite_plan.rule.label for suite_plan in every
+    }
+    unknown = next((name for name in names if name not in known), None)
     if unknown:
         raise Refused(f"the suite has no plan and no rule {unknown}")
-    return [it for it in every if not names or it.name in names or it.rule.label in names]
+    return [
+        suite_plan
+        for suite_plan in every
+        if not names or suite_plan.name in names or suite_plan.rule.label in names
+    ]
 
 
 @dataclass(frozen=True)
@@ -153,8 +161,8 @@ class Suite:
         tell_progress(1, len(plans))
         with concurrent.futures.ThreadPoolExecutor(self.at_a_time) as pool:
             try:
-                for it in pool.map(self.judge, plans[1:]):
-                    found.append(it)
+                for each_judge in pool.map(self.judge, plans[1:]):
+                    found.append(each_judge)
                     tell_progress(len(found), len(plans))
             except BaseException:
                 self.setting.stop.set()
@@ -180,5 +188,11 @@ def is_predicted(
     if known is None:
         return False
     judged = judge(read_plan(plan.text.encode()), known, expected)
-    steady = {it.difference for it in judged.found if it.difference.place not in judged.timed}
-    return steady == {it for it in seen.differences if it.place not in judged.timed}
+    steady = {
+        predicted.difference
+        for predicted in judged.found
+        if predicted.difference.place not in judged.timed
+    }
+    return steady == {
+        difference for difference in seen.differences if difference.place not in judged.timed
+    }

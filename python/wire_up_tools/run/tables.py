@@ -33,8 +33,8 @@ def read_table(path: str) -> Table:
     """Reads a table. Raises OSError."""
     head: dict[str, str] = {}
     found: dict[str, tuple[Kind, int, list[Difference]]] = {}
-    with open(path, encoding="ascii") as it:
-        for line in it.read().splitlines():
+    with open(path, encoding="ascii") as file:
+        for line in file.read().splitlines():
             plan, call = PLAN.fullmatch(line), CALL.fullmatch(line)
             if plan:
                 found[plan[2]] = (Kind(plan[1]), int(plan[3]), [])
@@ -44,23 +44,26 @@ def read_table(path: str) -> Table:
             elif line.startswith(HEAD):
                 word, _, rest = line.partition(" ")
                 head[word] = rest
-    return Table(head, {name: Recorded(*it) for name, it in found.items()})
+    return Table(head, {name: Recorded(*pair) for name, pair in found.items()})
 
 
 def write_verdict(verdict: Verdict) -> str:
     """The lines of a plan."""
-    times = sum(it.times for it in verdict.seen)
+    times = sum(each_seen.times for each_seen in verdict.seen)
     lines = [f"{verdict.kind.value} {verdict.plan.name} {times}"]
     for seen in verdict.seen:
         often = f" ({seen.times} of {times})" if verdict.kind is Kind.UNSTEADY else ""
-        for it in seen.differences:
-            lines.append(f"  {it.place} rules {it.rules} v library {it.library}{often}")
-    return "".join(f"{it}\n" for it in lines)
+        for difference in seen.differences:
+            lines.append(
+                f"  {difference.place} rules {difference.rules}"
+                f" v library {difference.library}{often}"
+            )
+    return "".join(f"{line}\n" for line in lines)
 
 
 def write_table(head: Mapping[str, str], verdicts: Sequence[Verdict]) -> str:
     """A table. A plan that couldn't be run isn't in it."""
     first = "# What a library replied to plans of the suite: made by wire_up-run.\n"
     lines = [f"{word} {rest}\n" for word, rest in head.items()]
-    plans = [write_verdict(it) for it in verdicts if it.kind is not Kind.FAILED]
+    plans = [write_verdict(verdict) for verdict in verdicts if verdict.kind is not Kind.FAILED]
     return "".join([first, *lines, *plans])

@@ -12,7 +12,7 @@ from wire_up_tools.failures import Refused
 from wire_up_tools.files import STANDARD_OUTPUT, write_each, write_whole
 from wire_up_tools.plan import Plan
 from wire_up_tools.plan_reading import read_plan
-from wire_up_tools.portable import Portable, find_portable, say_portable
+from wire_up_tools.portable import Portable, find_portable, say_portable, say_unjudged
 from wire_up_tools.run import answers, fake_nodes
 from wire_up_tools.run.expected import Expected, ask_witness, expect, expect_in_order
 from wire_up_tools.run.launchers import find_launcher, read_command
@@ -103,8 +103,8 @@ Request = Union[PlanRequest, WitnessRequest, SuiteRequest, ShowRequest, PredictR
 
 def read_file(path: str) -> bytes:
     """The bytes of a file. Raises OSError."""
-    with open(path, "rb") as it:
-        return it.read()
+    with open(path, "rb") as file:
+        return file.read()
 
 
 def choose_checker(choices: Choices, folder: str) -> Checker:
@@ -130,12 +130,12 @@ def find_rank(folder: str) -> str:
 def read_hosts(path: str) -> list[str]:
     """The hosts of a file: the first word of each line but comments. A launcher may not know this
     machine as `localhost`. Raises Refused, OSError."""
-    lines = (it.split() for it in read_file(path).decode("utf-8", "replace").splitlines())
-    hosts = [it[0] for it in lines if it and not it[0].startswith("#")]
+    lines = (line.split() for line in read_file(path).decode("utf-8", "replace").splitlines())
+    hosts = [line[0] for line in lines if line and not line[0].startswith("#")]
     if not hosts:
         raise Refused(f"{path}: has no host")
     here = socket.gethostname()
-    return list(dict.fromkeys(here if it in LOCAL else it for it in hosts))
+    return list(dict.fromkeys(here if host in LOCAL else host for host in hosts))
 
 
 def make_setting(choices: Choices, folder: str) -> Setting:
@@ -198,10 +198,14 @@ def run_freely(asked: PlanRequest, choices: Choices, folder: str) -> int:
 def say_of_library(
     runs: answers.Runs, library: Library | None, portable: Portable, asked: PlanRequest
 ) -> None:
-    """Says for which libraries a plan is portable; and of one for which it is, that it breaks an
-    axiom where it answers otherwise in a plan without findings."""
-    say(say_portable(portable))
-    is_for = library is not None and portable.is_for(library.name)
+    """Says for which libraries a plan is portable, or that it isn't known of this one, if a rank
+    told which it is; and of one for which it is, that it breaks an axiom where it answers otherwise
+    in a plan without findings."""
+    is_judged = library is not None and portable.is_judged(library.name, runs.library)
+    is_unjudged = runs.library and not is_judged
+    unjudged = say_unjudged(runs.library, runs.launcher) if is_unjudged else ""
+    say(say_portable(portable) + unjudged)
+    is_for = is_judged and library is not None and portable.is_for(library.name)
     if is_for and runs.differs and not runs.expected.findings:
         say(
             f"{runs.library} breaks an axiom of libraries: on this plan it can't answer otherwise "
@@ -212,7 +216,7 @@ def say_of_library(
 
 def find_line(outcome: Outcome, call: str) -> Line:
     """The line of a call, such as `app:1 1 get-now`. Raises Refused if there is none."""
-    found = next((it for it in outcome.report.lines if str(it.place) == call), None)
+    found = next((line for line in outcome.report.lines if str(line.place) == call), None)
     if found is None:
         raise Refused(f"wire_up names a call that the plan doesn't have: {call}")
     return found
@@ -223,11 +227,11 @@ def run_witness(asked: WitnessRequest, choices: Choices, folder: str) -> int:
     data = read_file(asked.plan)
     witness = ask_witness(choose_checker(choices, folder), data, asked.words)
     setting, plan = make_setting(choices, folder), read_plan(data)
-    outcomes = [run_plan(Task(plan, it), setting) for it in witness.orders]
-    lines = [find_line(it, witness.call) for it in outcomes]
-    race = answers.ShownRace(witness, lines[0].place, [it.reply for it in lines])
-    for it in dict.fromkeys(name for outcome in outcomes for name in outcome.late):
-        say(f"{it} took too long for its place in the order")
+    outcomes = [run_plan(Task(plan, order), setting) for order in witness.orders]
+    lines = [find_line(each_outcome, witness.call) for each_outcome in outcomes]
+    race = answers.ShownRace(witness, lines[0].place, [line.reply for line in lines])
+    for each_name in dict.fromkeys(name for outcome in outcomes for name in outcome.late):
+        say(f"{each_name} took too long for its place in the order")
     text = answers.write_race_json(race) if choices.is_json else answers.write_race(race)
     write_whole(STANDARD_OUTPUT, text)
     return DIFFERENT if race.differences else SAME
@@ -238,14 +242,14 @@ def run_suite(asked: SuiteRequest, choices: Choices, folder: str) -> int:
     plans, checker = choose_plans(asked.names), choose_checker(choices, folder)
     setting = make_setting(choices, folder)
     verdicts = Suite(checker, setting, asked.times, asked.at_a_time).run(plans)
-    version = next((it.library for it in verdicts if it.library), "")
+    version = next((verdict.library for verdict in verdicts if verdict.library), "")
     launcher = setting.launcher
     known = find_library(version, launcher.kind)
     result = SuiteResult(verdicts, launcher.version, asked.times, setting.quiet, known)
     write_each(list_texts(result, asked, choices))
-    if all(it.kind is Kind.EQUAL for it in verdicts):
+    if all(verdict.kind is Kind.EQUAL for verdict in verdicts):
         return SAME
-    if any(it.kind in (Kind.DIFFERENT, Kind.UNSTEADY) for it in verdicts):
+    if any(verdict.kind in (Kind.DIFFERENT, Kind.UNSTEADY) for verdict in verdicts):
         return DIFFERENT
     raise Refused("a plan couldn't be run, and no other differs")
 
@@ -275,7 +279,7 @@ def make_head(result: SuiteResult) -> dict[str, str]:
 
 def show_plan(asked: ShowRequest) -> int:
     """Writes a plan of the suite. Raises Refused, OSError."""
-    plan = next((it for it in read_suite() if it.name == asked.name), None)
+    plan = next((suite_plan for suite_plan in read_suite() if suite_plan.name == asked.name), None)
     if plan is None:
         raise Refused(f"the suite has no plan {asked.name}")
     words = plan.rule.value

@@ -81,8 +81,8 @@ class Turns:
         """Lets all ranks go on, if they are to."""
         self.is_over = True
         if self.is_open_ended:
-            for it in self.ranks.values():
-                it.channel.send("free")
+            for live_rank in self.ranks.values():
+                live_rank.channel.send("free")
 
     def is_taken(self) -> bool:
         """Whether the next step is taken, or has taken too long. Gives the turn, if it isn't

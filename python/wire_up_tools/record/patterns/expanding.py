@@ -39,7 +39,7 @@ def read_loops(words: Sequence[str]) -> list[ReadLoop]:
     is_some, is_cyclic = words[1] == "some", words[-1] == "cyclic" and len(words) > 2
     lines = list[Line]()
     roles = (words[2] if is_some else words[1]).split(",")
-    return [ReadLoop(it, is_cyclic, is_some, lines) for it in roles]
+    return [ReadLoop(role, is_cyclic, is_some, lines) for role in roles]
 
 
 def read_pattern(text: str) -> list[ReadRole]:
@@ -47,7 +47,7 @@ def read_pattern(text: str) -> list[ReadRole]:
     roles: list[ReadRole] = []
     job = ""
     lines: list[Line] | None = None
-    for words in (it.split() for it in text.splitlines()):
+    for words in (line.split() for line in text.splitlines()):
         if not words or words[0].startswith("#") or " ".join(words) in (HEADER, "keep"):
             continue
         if words[0] == "job":
@@ -74,11 +74,11 @@ class Instance:
         self.roles = roles
         self.ranks: dict[str, list[str]] = {}
         self.of_job: dict[str, list[str]] = {}
-        for it in roles:
-            job = self.of_job.setdefault(it.job, [])
-            count = sizes[it.name] if it.is_group else 1
-            self.ranks[it.name] = [f"{it.job}:{len(job) + n}" for n in range(count)]
-            job += self.ranks[it.name]
+        for role in roles:
+            job = self.of_job.setdefault(role.job, [])
+            count = sizes[role.name] if role.is_group else 1
+            self.ranks[role.name] = [f"{role.job}:{len(job) + n}" for n in range(count)]
+            job += self.ranks[role.name]
 
     def expand_rank(self, word: str, rank: str, each: str | None) -> str:
         """The rank that a word stands for."""
@@ -91,22 +91,22 @@ class Instance:
         read = INDEXED.fullmatch(key)
         if not read:
             return key
-        indices = (self.expand_rank(it, rank, each) for it in read[2].split(","))
+        indices = (self.expand_rank(part, rank, each) for part in read[2].split(","))
         return f"{read[1]}[{','.join(indices)}]"
 
     def find_members(self, word: str, rank: str, each: str | None) -> set[str]:
         """The ranks of a set."""
         found = set[str]()
-        for it in word.split(","):
-            job = re.fullmatch(r"(.+):\*", it)
-            if it == ALL:
+        for part in word.split(","):
+            job = re.fullmatch(r"(.+):\*", part)
+            if part == ALL:
                 found.update(self.of_job[rank.rpartition(":")[0]])
             elif job:
                 found.update(self.of_job.get(job[1], ()))
-            elif it in self.ranks:
-                found.update(self.ranks[it])
+            elif part in self.ranks:
+                found.update(self.ranks[part])
             else:
-                found.add(self.expand_rank(it, rank, each))
+                found.add(self.expand_rank(part, rank, each))
         return found
 
     def expand_set(self, word: str, rank: str, each: str | None) -> str:
@@ -116,7 +116,7 @@ class Instance:
             return ALL
         items: list[str] = []
         for job, ranks in self.of_job.items():
-            here = [it for it in ranks if it in members]
+            here = [each_rank for each_rank in ranks if each_rank in members]
             items += [f"{job}:*"] if here and len(here) == len(ranks) else here
         return ",".join(items)
 
@@ -129,7 +129,9 @@ class Instance:
             owner, key = rest
             return [verb, self.expand_rank(owner, rank, each), self.expand_key(key, rank, each)]
         at = 1 if verb == "put" else 0
-        words = [self.expand_key(it, rank, each) if n == at else it for n, it in enumerate(rest)]
+        words = [
+            self.expand_key(text, rank, each) if n == at else text for n, text in enumerate(rest)
+        ]
         return [verb, *words]
 
     def find_turns(self, loop: ReadLoop, rank: str, chosen: Sequence[str] | None) -> list[str]:
@@ -140,7 +142,7 @@ class Instance:
             before, after = ranks[:place], ranks[place + 1:]
             ranks = after + before if loop.is_cyclic else before + after
         is_chosen = loop.is_some and chosen is not None
-        return [it for it in ranks if not is_chosen or it in (chosen or ())]
+        return [each_rank for each_rank in ranks if not is_chosen or each_rank in (chosen or ())]
 
     def expand_role(self, role: ReadRole, rank: str, choices: Choices) -> Iterator[Line]:
         """The calls of a rank."""

@@ -43,13 +43,13 @@ class Loop:
     def make_turn(self, other: str) -> list[Said]:
         """The calls of the turn for a rank. A single role is named by itself in them."""
         if not self.group.is_group:
-            return [Said(rename_rank(it, EACH, self.group.name), None) for it in self.lines]
-        return [Said(it, None if it == COMMIT else other) for it in self.lines]
+            return [Said(rename_rank(line, EACH, self.group.name), None) for line in self.lines]
+        return [Said(line, None if line == COMMIT else other) for line in self.lines]
 
     @property
     def verbs(self) -> Sequence[str]:
         """What its lines call."""
-        return [it.partition(" ")[0] for it in self.lines]
+        return [line.partition(" ")[0] for line in self.lines]
 
 
 def rename_rank(said: str, old: str, new: str) -> str:
@@ -60,7 +60,7 @@ def rename_rank(said: str, old: str, new: str) -> str:
         if words[0] in ASKING and n == 1:
             words[n] = new if word == old else word
         elif key and n != VALUES.get(words[0]):
-            indices = (new if it == old else it for it in key[2].split(","))
+            indices = (new if part == old else part for part in key[2].split(","))
             words[n] = f"{key[1]}[{','.join(indices)}]"
     return " ".join(words)
 
@@ -112,15 +112,17 @@ class Search:
 
     def __init__(self, told: Sequence[Told]) -> None:
         self.told = told
-        self.ends = tuple(len(it.calls) for it in told)
+        self.ends = tuple(len(each_told.calls) for each_told in told)
         self.seen: set[tuple[int, ...]] = set()
         self.furthest: tuple[int, ...] = tuple(0 for _ in told)
         # The role of each rank, and the ranks of each role, in the plan of each of `told`.
-        roles = {id(it.roles): it.roles.all for it in told}
-        of_rank = {key: {r: it for it in them for r in it.ranks} for key, them in roles.items()}
-        of_name = {key: {it.name: it.ranks for it in them} for key, them in roles.items()}
-        self.group_of = [of_rank[id(it.roles)] for it in told]
-        self.ranks_of = [of_name[id(it.roles)] for it in told]
+        roles = {id(each_told.roles): each_told.roles.all for each_told in told}
+        of_rank = {
+            key: {r: role for role in them for r in role.ranks} for key, them in roles.items()
+        }
+        of_name = {key: {role.name: role.ranks for role in them} for key, them in roles.items()}
+        self.group_of = [of_rank[id(each_told.roles)] for each_told in told]
+        self.ranks_of = [of_name[id(each_told.roles)] for each_told in told]
 
     def find(self) -> Sequence[Item] | Broken:
         """The items of the script, or where none goes on."""
@@ -143,7 +145,8 @@ class Search:
     def find_next(self, state: State) -> list[Said | None]:
         """The next call of each rank; None where it has no more."""
         return [
-            it.calls[at] if at < len(it.calls) else None for it, at in zip(self.told, state.at)
+            told.calls[at] if at < len(told.calls) else None
+            for told, at in zip(self.told, state.at)
         ]
 
     def pass_lines(self, state: State) -> State:
@@ -152,11 +155,11 @@ class Search:
         while True:
             found = self.find_next(State(tuple(at)))
             one = found[0]
-            if one is None or one.other or any(it != one for it in found):
+            if one is None or one.other or any(said != one for said in found):
                 break
             items.append(one.words)
             has_put = one.words != COMMIT and (has_put or one.words.startswith("put "))
-            at = [it + 1 for it in at]
+            at = [number + 1 for number in at]
         if sum(at) > sum(self.furthest):
             self.furthest = tuple(at)
         return State(tuple(at), items, has_put)
@@ -187,15 +190,15 @@ class Search:
         """The single roles that a call names by themselves."""
         if said is None or said.other:
             return []
-        singles = (it for it in self.told[index].roles.all if not it.is_group)
-        return [it for it in singles if rename_rank(said.words, it.name, EACH) != said.words]
+        singles = (role for role in self.told[index].roles.all if not role.is_group)
+        return [role for role in singles if rename_rank(said.words, role.name, EACH) != said.words]
 
     def find_turns_for(self, index: int, at: int, role: str) -> Iterator[Sequence[str]]:
         """The turns for a single role that may begin at a call, longest first."""
         calls, lines = self.told[index].calls, list[str]()
-        for it in calls[at:at + MOST_LINES]:
-            line = rename_rank(it.words, role, EACH)
-            if it.other or (line == it.words and line != COMMIT):
+        for call in calls[at:at + MOST_LINES]:
+            line = rename_rank(call.words, role, EACH)
+            if call.other or (line == call.words and line != COMMIT):
                 break
             lines.append(line)
         while lines:
@@ -205,10 +208,10 @@ class Search:
     def find_turns(self, index: int, at: int, other: str) -> Iterator[Sequence[str]]:
         """The turns that may begin at a call, longest first."""
         calls, lines = self.told[index].calls, list[str]()
-        for it in calls[at:at + MOST_LINES]:
-            if it.other != other and it.words != COMMIT:
+        for call in calls[at:at + MOST_LINES]:
+            if call.other != other and call.words != COMMIT:
                 break
-            lines.append(it.words)
+            lines.append(call.words)
         while lines:
             yield tuple(lines)
             lines.pop()
@@ -216,7 +219,7 @@ class Search:
     def may_stand(self, loop: Loop, state: State) -> bool:
         """Whether a pattern may have a loop here."""
         verbs = loop.verbs
-        if loop.is_some and any(it not in MAY_BE_LEFT for it in verbs):
+        if loop.is_some and any(verb not in MAY_BE_LEFT for verb in verbs):
             return False
         last = len(verbs) - 1 - verbs[::-1].index(COMMIT) if COMMIT in verbs else None
         return last is None or not (state.has_open_put or "put" in verbs[last:])
@@ -242,7 +245,7 @@ class Search:
     def find_break(self) -> int:
         """Where no script goes on: the index of the first rank that isn't as most are there."""
         found = self.find_next(State(self.furthest))
-        alike = [sum(it == other for other in found) for it in found]
+        alike = [sum(said == other for other in found) for said in found]
         return min(range(len(found)), key=lambda n: (alike[n], found[n] is None, n))
 
     def say_broken(self) -> Broken:
@@ -263,14 +266,14 @@ class RoleScript:
 def tell_all(roles: Roles, scripts: Sequence[Script]) -> Sequence[Told] | Broken:
     """What ranks call, in the words of a pattern; or the first call that has none."""
     told = []
-    for it in scripts:
-        speaker, said = Speaker(roles, it.rank), list[Said]()
-        for number, words in enumerate(it.calls, 1):
+    for script in scripts:
+        speaker, said = Speaker(roles, script.rank), list[Said]()
+        for number, words in enumerate(script.calls, 1):
             try:
                 said.append(speaker.say(words))
             except NotSaid as why:
-                return Broken(it.rank, number, str(why))
-        told.append(Told(it.rank, said, roles))
+                return Broken(script.rank, number, str(why))
+        told.append(Told(script.rank, said, roles))
     return told
 
 
@@ -278,7 +281,7 @@ def find_scripts(roles: Roles, scripts: Sequence[Script]) -> Sequence[RoleScript
     """The script of each role, from what its ranks call; or where none goes on."""
     found = []
     for role in roles.all:
-        told = tell_all(roles, [it for it in scripts if it.rank in role.ranks])
+        told = tell_all(roles, [script for script in scripts if script.rank in role.ranks])
         if isinstance(told, Broken):
             return told
         items = Search(told).find()

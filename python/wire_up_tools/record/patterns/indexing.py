@@ -45,9 +45,11 @@ def cut(key: str) -> tuple[Template, Sequence[int]]:
     """The texts between the numbers of a key, and the numbers. A key with brackets, or with a
     number that another text spells too, has none."""
     numbers = NUMBER.findall(key)
-    if any(it in key for it in (PLACE, "[", "]")) or any(str(int(it)) != it for it in numbers):
+    if any(text in key for text in (PLACE, "[", "]")) or any(
+        str(int(number)) != number for number in numbers
+    ):
         return (key,), ()
-    return tuple(NUMBER.split(key)), [int(it) for it in numbers]
+    return tuple(NUMBER.split(key)), [int(number) for number in numbers]
 
 
 def find_places(plans: Sequence[Named]) -> Places:
@@ -61,8 +63,8 @@ def find_places(plans: Sequence[Named]) -> Places:
             here[template].append([*numbers, plan.size])
         for template, rows in here.items():
             found[template].append(rows)
-    chosen = {it: list(choose(it, them)) for it, them in found.items()}
-    return {it: places for it, places in chosen.items() if places}
+    chosen = {pair: list(choose(pair, them)) for pair, them in found.items()}
+    return {pair: places for pair, places in chosen.items() if places}
 
 
 def choose(template: Template, plans: Sequence[Sequence[Sequence[int]]]) -> Iterator[int]:
@@ -70,9 +72,9 @@ def choose(template: Template, plans: Sequence[Sequence[Sequence[int]]]) -> Iter
     row is how many ranks there are."""
     for place in range(len(template) - 1):
         columns = [[row[place] for row in rows] for rows in plans]
-        varies = any(len(set(it)) > 1 for it in columns)
+        varies = any(len(set(column)) > 1 for column in columns)
         sizes = {row[-1] for rows in plans for row in rows}
-        is_of_size = len(sizes) == 1 or len({frozenset(it) for it in columns}) > 1
+        is_of_size = len(sizes) == 1 or len({frozenset(each_column) for each_column in columns}) > 1
         if varies and is_of_size and all(row[place] < row[-1] for rows in plans for row in rows):
             yield place
 
@@ -83,9 +85,9 @@ def index_key(key: str, job: str, places: Places) -> str:
     chosen = places.get(template, ())
     if not chosen:
         return key
-    texts = [PLACE if n in chosen else str(it) for n, it in enumerate(numbers)]
+    texts = [PLACE if n in chosen else str(number) for n, number in enumerate(numbers)]
     base = "".join(a + b for a, b in zip(template, [*texts, ""]))
-    return f"{base}[{','.join(f'{job}:{numbers[it]}' for it in chosen)}]"
+    return f"{base}[{','.join(f'{job}:{numbers[place]}' for place in chosen)}]"
 
 
 def index_words(words: Sequence[str], job: str, places: Places) -> Sequence[str]:
@@ -101,24 +103,26 @@ def spell_words(words: Sequence[str]) -> str:
     """A call as it was before the numbers of its key became indices."""
     key = find_key(words)
     base, _, indices = key.removesuffix("]").partition("[")
-    ranks = [it.rpartition(":")[2] for it in indices.split(",")]
+    ranks = [part.rpartition(":")[2] for part in indices.split(",")]
     if base.count(PLACE) != len(ranks):
         return " ".join(words)
     spelt = "".join(a + b for a, b in zip(base.split(PLACE), [*ranks, ""]))
-    return " ".join(spelt if it == key else it for it in words)
+    return " ".join(spelt if word == key else word for word in words)
 
 
 def index_numbers(plan: Sequence[Script]) -> Sequence[Script]:
     """A plan of one job with the numbers of ranks in its keys as indices. One of several jobs stays
     as it is: which of them has the rank isn't known."""
-    jobs = {it.job for it in plan}
+    jobs = {script.job for script in plan}
     if len(jobs) != 1:
         return plan
     (job,) = jobs
-    places = find_places([name_all((words for it in plan for words in it.calls), len(plan))])
+    places = find_places(
+        [name_all((words for script in plan for words in script.calls), len(plan))]
+    )
     return [
-        Script(it.rank, job, [index_words(words, job, places) for words in it.calls])
-        for it in plan
+        Script(script.rank, job, [index_words(words, job, places) for words in script.calls])
+        for script in plan
     ]
 
 

@@ -62,23 +62,23 @@ class Roles:
     @property
     def by_rank(self) -> Mapping[str, Role]:
         """The role of each rank."""
-        return {rank: it for it in self.all for rank in it.ranks}
+        return {rank: role for role in self.all for rank in role.ranks}
 
     def find(self, name: str) -> Role:
         """The role of a name."""
-        return next(it for it in self.all if it.name == name)
+        return next(role for role in self.all if role.name == name)
 
     def find_ranks(self, job: str) -> Sequence[str]:
         """The ranks of a job, in order."""
-        return [rank for it in self.all if it.job == job for rank in it.ranks]
+        return [rank for role in self.all if role.job == job for rank in role.ranks]
 
 
 def choose_roles(scripts: Sequence[Script]) -> Iterator[Roles]:
     """The ways to part ranks into roles: those of a job are one group, or the first one has a role
     of its own. A job of one rank is a single role."""
     jobs: dict[str, list[str]] = {}
-    for it in scripts:
-        jobs.setdefault(it.job, []).append(it.rank)
+    for script in scripts:
+        jobs.setdefault(script.job, []).append(script.rank)
     ways = []
     for job, ranks in jobs.items():
         after = f".{job}" if len(jobs) > 1 else ""
@@ -98,7 +98,7 @@ class Speaker:
     def __init__(self, roles: Roles, rank: str) -> None:
         self.rank, self.roles = rank, roles
         self.role_of = roles.by_rank
-        self.order = {it: n for n, it in enumerate(self.role_of)}
+        self.order = {text: n for n, text in enumerate(self.role_of)}
         self.job = self.role_of[rank].job
 
     def say(self, words: Sequence[str]) -> Said:
@@ -134,7 +134,7 @@ class Speaker:
         """A key or a name, with the ranks in its brackets. Raises NotSaid."""
         read = INDEXED.fullmatch(key)
         if read:
-            indices = (self.say_rank(it, others) for it in read[2].split(","))
+            indices = (self.say_rank(part, others) for part in read[2].split(","))
             return f"{read[1]}[{','.join(indices)}]"
         if "[" in key or "]" in key:
             raise NotSaid("has a key with brackets")
@@ -145,9 +145,9 @@ class Speaker:
         if word == ALL:
             return set(self.roles.find_ranks(self.job))
         found = set[str]()
-        for it in word.split(","):
-            job, _, number = it.rpartition(":")
-            found.update(self.roles.find_ranks(job) if number == "*" else [it])
+        for part in word.split(","):
+            job, _, number = part.rpartition(":")
+            found.update(self.roles.find_ranks(job) if number == "*" else [part])
         return found
 
     def say_set(self, word: str, others: set[str]) -> str:
@@ -157,7 +157,7 @@ class Speaker:
             return ALL
         items: list[str] = []
         left = set(members)
-        for job in dict.fromkeys(it.job for it in self.roles.all):
+        for job in dict.fromkeys(each_role.job for each_role in self.roles.all):
             ranks = self.roles.find_ranks(job)
             if members.issuperset(ranks):
                 items.append(f"{job}:*")
@@ -166,9 +166,9 @@ class Speaker:
             if role.is_group and len(role.ranks) > 1 and left.issuperset(role.ranks):
                 items.append(role.name)
                 left.difference_update(role.ranks)
-        said = [self.say_rank(it, others) for it in sorted(left, key=self.find_place)]
+        said = [self.say_rank(member, others) for member in sorted(left, key=self.find_place)]
         # Single roles first, then the caller, then the rank of the turn.
-        return ",".join(items + sorted(said, key=lambda it: LAST.get(it, 0)))
+        return ",".join(items + sorted(said, key=lambda line: LAST.get(line, 0)))
 
     def find_place(self, rank: str) -> int:
         """The place of a rank in the order of all, after which come those that aren't there."""

@@ -79,7 +79,7 @@ def write_items(script: RoleScript, values: Mapping[int, set[str]]) -> list[str]
     for item in script.items:
         lines = item.lines if isinstance(item, Loop) else [item]
         own = values_of(values, line, len(lines))
-        said = [it.replace("\0", value) for it, value in zip(lines, own)]
+        said = [each_line.replace("\0", value) for each_line, value in zip(lines, own)]
         add_item(written, [item.head, *said, "end"] if isinstance(item, Loop) else said)
         line += len(lines)
     return written
@@ -87,14 +87,14 @@ def write_items(script: RoleScript, values: Mapping[int, set[str]]) -> list[str]
 
 def values_of(values: Mapping[int, set[str]], first: int, count: int) -> list[str]:
     """The value of each line: that of all ranks, or what stands for any."""
-    found = (values.get(it, set()) for it in range(first, first + count))
-    return [next(iter(it)) if len(it) == 1 else ANY_VALUE for it in found]
+    found = (values.get(number, set()) for number in range(first, first + count))
+    return [next(iter(value)) if len(value) == 1 else ANY_VALUE for value in found]
 
 
 def write_roles(scripts: Sequence[RoleScript], walks: Sequence[Walk]) -> str:
     """The text of a pattern."""
     sizes = ", ".join(
-        f"{len(it.role.ranks)} {it.role.name}" for it in scripts if it.role.is_group
+        f"{len(script.role.ranks)} {script.role.name}" for script in scripts if script.role.is_group
     )
     written = [
         f"# {PATTERN_BY}, from one run{f' with {sizes}' if sizes else ''}. That other numbers "
@@ -102,42 +102,42 @@ def write_roles(scripts: Sequence[RoleScript], walks: Sequence[Walk]) -> str:
         "pattern 1",
     ]
     job = None
-    for it, walked in zip(scripts, walks):
-        if it.role.job != job:
-            job = it.role.job
+    for script, walked in zip(scripts, walks):
+        if script.role.job != job:
+            job = script.role.job
             written.append(f"job {job}")
-        written.append(f"{'many' if it.role.is_group else 'one'} {it.role.name}")
-        written += write_items(it, walked.values)
-    return "".join(f"{it}\n" for it in written)
+        written.append(f"{'many' if script.role.is_group else 'one'} {script.role.name}")
+        written += write_items(script, walked.values)
+    return "".join(f"{text}\n" for text in written)
 
 
 def forget_value(words: Sequence[str]) -> Sequence[str]:
     """A call without its value."""
     at = VALUES.get(words[0])
-    return [ANY_VALUE if n == at else it for n, it in enumerate(words)]
+    return [ANY_VALUE if n == at else word for n, word in enumerate(words)]
 
 
 def why_other(
     text: str, scripts: Sequence[RoleScript], choices: Choices, plan: Sequence[Script]
 ) -> Broken | bool:
     """Where a pattern doesn't expand to a plan, or whether it does so with other values alone."""
-    sizes = {it.role.name: len(it.role.ranks) for it in scripts}
+    sizes = {script.role.name: len(script.role.ranks) for script in scripts}
     expanded: Mapping[str, Sequence[Line]] = expand(read_pattern(text), sizes, choices)
     has_other_values = False
-    for it in plan:
-        own = expanded.get(it.rank, ())
-        for number, (one, other) in enumerate(zip(it.calls, own), 1):
+    for script in plan:
+        own = expanded.get(script.rank, ())
+        for number, (one, other) in enumerate(zip(script.calls, own), 1):
             if forget_value(one) != forget_value(other):
-                return Broken(it.rank, number, f"the pattern has `{' '.join(other)}`")
+                return Broken(script.rank, number, f"the pattern has `{' '.join(other)}`")
             has_other_values |= list(one) != list(other)
-        if len(own) != len(it.calls):
-            return Broken(it.rank, min(len(own), len(it.calls)) + 1)
+        if len(own) != len(script.calls):
+            return Broken(script.rank, min(len(own), len(script.calls)) + 1)
     return has_other_values
 
 
 def say_broken(broken: Broken, plan: Sequence[Script]) -> str:
     """Which call breaks a pattern."""
-    calls = next(it.calls for it in plan if it.rank == broken.rank)
+    calls = next(script.calls for script in plan if script.rank == broken.rank)
     has_it = broken.number <= len(calls)
     what = f"`{' '.join(calls[broken.number - 1])}`" if has_it else "it has no more calls"
     return f"{broken.rank} {broken.number}: {what}{f': {broken.why}' if broken.why else ''}"
@@ -145,14 +145,14 @@ def say_broken(broken: Broken, plan: Sequence[Script]) -> str:
 
 def make_pattern(plan: Sequence[Script]) -> Pattern | Broken:
     """The pattern of a plan; or where the way that goes furthest breaks."""
-    calls = {it.rank: it.calls for it in plan}
+    calls = {each_script.rank: each_script.calls for each_script in plan}
     broken: list[Broken] = []
     for roles in choose_roles(plan):
         scripts = find_scripts(roles, plan)
         if isinstance(scripts, Broken):
             broken.append(scripts)
             continue
-        walks = [walk(it, calls) for it in scripts]
+        walks = [walk(each_script, calls) for each_script in scripts]
         choices = {
             (script.role.name, *key): turns
             for script, walked in zip(scripts, walks)
@@ -163,4 +163,4 @@ def make_pattern(plan: Sequence[Script]) -> Pattern | Broken:
         if isinstance(other, bool):
             return Pattern(text, other)
         broken.append(other)
-    return max(broken, key=lambda it: it.number)
+    return max(broken, key=lambda each_broken: each_broken.number)

@@ -1,12 +1,6 @@
 """What can be asked for: the options, and what is wrong with them."""
 import argparse
-import fcntl
-import os
 import re
-import stat
-import struct
-import sys
-import termios
 from dataclasses import dataclass
 
 from wire_up_tools.failures import Unusable
@@ -75,7 +69,7 @@ OPTIONS = (
     Option(
         "--input",
         "FILE",
-        "what all runs read as standard input; else it is empty for --show and --turn",
+        "what all runs read as standard input; else it is empty for --show, --turn and --sizes",
     ),
     Option("--shown", "FILE", "writes also what came of it as JSON"),
 )
@@ -185,24 +179,3 @@ def read_asked(found: argparse.Namespace) -> Asked | None:
         source=found.input,
         shown=found.shown,
     )
-
-
-def has_input() -> bool:
-    """Whether bytes wait on standard input, which is no terminal."""
-    try:
-        number = sys.stdin.fileno()
-        mode = os.fstat(number).st_mode
-        if stat.S_ISREG(mode):
-            return os.fstat(number).st_size > 0
-        if not (stat.S_ISFIFO(mode) or stat.S_ISSOCK(mode)):
-            return False
-        waiting = fcntl.ioctl(number, termios.FIONREAD, struct.pack("i", 0))
-        return bool(struct.unpack("i", waiting)[0])
-    except (AttributeError, OSError, ValueError):
-        return False
-
-
-def refuse_input(source: str | None) -> None:
-    """Refuses standard input that only one of several runs could read. Raises Unusable."""
-    if source is None and has_input():
-        raise Unusable("each run reads its input anew: give it with --input FILE")

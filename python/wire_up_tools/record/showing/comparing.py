@@ -51,13 +51,13 @@ def list_processes(runs: Sequence[HeldRun]) -> Sequence[str]:
 def compare_targets(runs: Sequence[HeldRun], targets: Sequence[Target]) -> list[Difference]:
     """The named calls that were answered otherwise in two runs."""
     found = []
-    for it in targets:
-        calls = [run.find(it) for run in runs]
+    for target in targets:
+        calls = [run.find(target) for run in runs]
         whole = [call.whole_reply if call else NEVER_CAME for call in calls]
-        masked = [mask(it) for it in whole]
+        masked = [mask(part) for part in whole]
         if whole[0] != whole[1]:
             told = whole if masked[0] == masked[1] else masked
-            found.append(Difference(it.process, it.what, *told))
+            found.append(Difference(target.process, target.what, *told))
     return found
 
 
@@ -65,11 +65,11 @@ def compare_replies(
     process: str, first: Sequence[TracedCall], second: Sequence[TracedCall]
 ) -> Iterator[Difference]:
     """The calls that a process made in both runs and that were answered otherwise."""
-    known = {it.keys[0]: it for it in second}
-    for it in first:
-        other = known.get(it.keys[0])
-        if other and other.reply != it.reply:
-            yield Difference(process, it.told, it.reply, other.reply)
+    known = {traced_call.keys[0]: traced_call for traced_call in second}
+    for traced_call in first:
+        other = known.get(traced_call.keys[0])
+        if other and other.reply != traced_call.reply:
+            yield Difference(process, traced_call.told, traced_call.reply, other.reply)
 
 
 def say_last(calls: Sequence[TracedCall]) -> str:
@@ -85,12 +85,12 @@ def find_parting(
     process: str, first: Sequence[TracedCall], second: Sequence[TracedCall]
 ) -> Difference | None:
     """Where the calls of a process part, if they do."""
-    names = [[it.told for it in calls] for calls in (first, second)]
+    names = [[call.told for call in calls] for calls in (first, second)]
     if names[0] == names[1]:
         return None
     at = next((n for n, (one, other) in enumerate(zip(*names)) if one != other), None)
     at = min(map(len, names)) if at is None else at
-    told = [", ".join(it[at:][:NAMED_NEXT]) or NOTHING_MORE for it in names]
+    told = [", ".join(name[at:][:NAMED_NEXT]) or NOTHING_MORE for name in names]
     return Difference(process, say_last(first[:at]), *told)
 
 
@@ -123,18 +123,18 @@ class Compared:
 
 def compare_output(runs: Sequence[HeldRun]) -> bool:
     """Whether two runs wrote other lines, in whichever order, but for numbers of the run."""
-    texts = [mask(it.output.decode("utf-8", "replace")) for it in runs]
+    texts = [mask(run.output.decode("utf-8", "replace")) for run in runs]
     return sorted(texts[0].splitlines()) != sorted(texts[1].splitlines())
 
 
 def find_unseen(runs: Sequence[HeldRun]) -> list[str]:
     """The values of which the type or the size alone is compared, each with its call."""
     found = (
-        f"{process} {it.told}: {it.unseen}"
+        f"{process} {call.told}: {call.unseen}"
         for run in runs
         for process in run.traces
-        for it in list_calls(run, process)
-        if it.unseen
+        for call in list_calls(run, process)
+        if call.unseen
     )
     return list(dict.fromkeys(found))
 
@@ -143,10 +143,14 @@ def compare(runs: Sequence[HeldRun], targets: Sequence[Target]) -> Compared:
     """Compares two runs in which some calls were named."""
     others: list[Difference] = []
     partings: list[Difference] = []
-    named = {(it.process, it.name, it.ordinal) for it in targets}
+    named = {(target.process, target.name, target.ordinal) for target in targets}
     for process in list_processes(runs):
         first, second = (list_calls(run, process) for run in runs)
-        left = [it for it in first if not any((process, *key) in named for key in it.keys)]
+        left = [
+            traced_call
+            for traced_call in first
+            if not any((process, *key) in named for key in traced_call.keys)
+        ]
         others += compare_replies(process, left, second)
         parting = find_parting(process, first, second)
         partings += [parting] if parting else []

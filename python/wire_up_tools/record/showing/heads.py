@@ -20,7 +20,7 @@ CALLS = re.compile(r": (?:race|no race|calls) (\S+ \d+) (\S+ \d+)\b")
 
 def has_start(line: str, starts: Sequence[str]) -> bool:
     """Whether a line of a head begins in one of some ways."""
-    return line.startswith(tuple(f"# {it}" for it in starts))
+    return line.startswith(tuple(f"# {start}" for start in starts))
 
 
 def is_alarm(line: str) -> bool:
@@ -38,8 +38,8 @@ def find_pair(line: str) -> frozenset[str] | None:
 def list_kept(old: Sequence[str], new: Sequence[str]) -> Iterator[str]:
     """The lines about races and orders that were tried before, but for those that are tried anew.
     Behind them stands the command that tried them."""
-    pairs = {find_pair(it) for it in new}
-    has_orders = any(has_start(it, OF_ORDERS) for it in new)
+    pairs = {find_pair(text) for text in new}
+    has_orders = any(has_start(text, OF_ORDERS) for text in new)
     kept: list[str] = []
     for line in old:
         if has_start(line, [TRIED_BY]):
@@ -56,10 +56,10 @@ def insert_in_head(text: str, lines: Sequence[str]) -> str:
     orders stay. Unprintable characters become `?`. Where an order isn't imposed, the head no longer
     says that each run makes the calls of the plan."""
     whole = text.splitlines(keepends=True)
-    end = next((n for n, it in enumerate(whole) if not it.startswith("#")), len(whole))
-    head = [it for it in whole[:end] if not has_start(it, STARTS)]
+    end = next((n for n, part in enumerate(whole) if not part.startswith("#")), len(whole))
+    head = [part for part in whole[:end] if not has_start(part, STARTS)]
     if any(map(is_alarm, lines)):
-        head = [it for it in head if it != f"# {EACH_RUN_SENTENCE}\n"]
-    kept = list_kept([it for it in whole[:end] if has_start(it, STARTS)], lines)
-    printable = ("".join(c if " " <= c <= "~" else "?" for c in it) for it in lines)
-    return "".join([*head, *kept, *(f"{it}\n" for it in printable), *whole[end:]])
+        head = [each_text for each_text in head if each_text != f"# {EACH_RUN_SENTENCE}\n"]
+    kept = list_kept([part for part in whole[:end] if has_start(part, STARTS)], lines)
+    printable = ("".join(c if " " <= c <= "~" else "?" for c in line) for line in lines)
+    return "".join([*head, *kept, *(f"{each_text}\n" for each_text in printable), *whole[end:]])

@@ -56,7 +56,10 @@ def mark_compared(folder: str) -> None:
 def write_holds(holds: Holds, folder: str, address: str, word: str) -> None:
     """Writes the file by which recorders know the server and the named calls. Raises OSError."""
     lines = [f"server {address} {word}"]
-    lines += [f"call {it.job} {it.rank} {it.ordinal} {it.name}" for it in holds.targets]
+    lines += [
+        f"call {target.job} {target.rank} {target.ordinal} {target.name}"
+        for target in holds.targets
+    ]
     opened = os.open(os.path.join(folder, FILE), os.O_WRONLY | os.O_CREAT | os.O_EXCL, 0o600)
     with open(opened, "w", encoding="ascii") as to:
-        to.writelines(f"{it}\n" for it in lines)
+        to.writelines(f"{line}\n" for line in lines)

@@ -73,7 +73,7 @@ def find_hosts(plan: Plan) -> list[str] | None:
     """The hosts of the processes; None where they are all on this machine."""
     hosts = list(plan.declared.nodes)
     own, _, _ = socket.gethostname().partition(".")
-    return None if {it.partition(".")[0] for it in hosts} <= {own} else hosts
+    return None if {host.partition(".")[0] for host in hosts} <= {own} else hosts
 
 
 def make_trial(asked: Asked, of: Material) -> Trial:

@@ -63,7 +63,8 @@ def swap_one(
     """The swaps of one message: the `index`-th with this tag of its sender. `got` counts those
     that came so far."""
     of_tag = {
-        other: [it for it in them if it.name.endswith(f" {tag}")] for other, them in sends.items()
+        other: [target for target in them if target.name.endswith(f" {tag}")]
+        for other, them in sends.items()
     }
     own = of_tag.get(sender, [])
     for other, them in of_tag.items():

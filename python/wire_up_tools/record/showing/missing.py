@@ -49,8 +49,8 @@ def shorten(call: TracedCall) -> str:
 def tell_standing(run: HeldRun, process: str, when: float) -> Missed:
     """Where a process stood when a hold ended, in seconds since 1970."""
     trace, before = run.traces.get(process), when - MARGIN
-    calls = [it for it in trace.calls if it.began <= before] if trace else []
-    calls = [it for it in calls if it.is_compared or not it.is_of_pmix]
+    calls = [call for call in trace.calls if call.began <= before] if trace else []
+    calls = [call for call in calls if call.is_compared or not call.is_of_pmix]
     if not calls:
         return Missed(f"{process} had called nothing yet")
     last = calls[-1]

@@ -11,15 +11,15 @@ SLEEPING = ("hrtimer_nanosleep", "do_nanosleep", "common_nsleep")
 
 def count_switches(process: int) -> str:
     """The line that counts how often a process has gone to sleep. Raises OSError."""
-    with open(f"/proc/{process}/status", encoding="ascii", errors="replace") as it:
-        return next((line for line in it if line.startswith("voluntary_ctxt_switches")), "")
+    with open(f"/proc/{process}/status", encoding="ascii", errors="replace") as file:
+        return next((line for line in file if line.startswith("voluntary_ctxt_switches")), "")
 
 
 def is_in_sleep(process: int) -> bool:
     """Whether a process stands in a call that sleeps a known time; not where nobody tells."""
     try:
-        with open(f"/proc/{process}/wchan", encoding="ascii", errors="replace") as it:
-            return it.read().strip() in SLEEPING
+        with open(f"/proc/{process}/wchan", encoding="ascii", errors="replace") as file:
+            return file.read().strip() in SLEEPING
     except OSError:
         return False
 
@@ -35,9 +35,9 @@ class Grown:
     def has_grown(self, path: str) -> bool:
         """Whether there is more of it than at the last look. Raises OSError."""
         before = self.end
-        with open(path, "rb") as it:
-            it.seek(self.end)
-            while read := it.read(BLOCK):
+        with open(path, "rb") as file:
+            file.seek(self.end)
+            while read := file.read(BLOCK):
                 zeros = read.find(b"\0")
                 self.end += len(read) if zeros < 0 else zeros
                 if zeros >= 0:

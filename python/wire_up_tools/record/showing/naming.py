@@ -84,7 +84,7 @@ def name_call(text: str) -> list[str]:
         return [verb if verb in BARE else mask(text)]
     if verb == "get":
         return [mask(" ".join([verb, *map(cut_item, words[2:4])]))]
-    return [mask(f"{verb} {cut_item(it)}") for it in words[2].split(",")]
+    return [mask(f"{verb} {cut_item(part)}") for part in words[2].split(",")]
 
 
 def number_job(namespace: str) -> int:
@@ -100,7 +100,7 @@ def spell(word: str, renamed: Mapping[str, str]) -> str:
     """A key or name of a plan, as a recording has it."""
     if word in renamed:
         parts = renamed[word].replace(" ", "%20")
-        return "".join(f"%{ord(it):02X}" if it in PARTING.decode() else it for it in parts)
+        return "".join(f"%{ord(part):02X}" if part in PARTING.decode() else part for part in parts)
     return EVERY if word == EVERY_NAME else escape(word.encode(), PARTING)
 
 
@@ -119,12 +119,12 @@ class Naming:
     def __init__(self, plan: Plan) -> None:
         self.plan = plan
         head = plan.declared.head
-        self.renamed = {it[1]: it[2] for it in map(RENAMED.fullmatch, head) if it}
-        named = [it for it in map(NAMESPACE.fullmatch, head) if it]
-        self.jobs = {it[1]: number_job(it[2]) for it in named}
+        self.renamed = {hit[1]: hit[2] for hit in map(RENAMED.fullmatch, head) if hit}
+        named = [hit for hit in map(NAMESPACE.fullmatch, head) if hit]
+        self.jobs = {hit[1]: number_job(hit[2]) for hit in named}
         # Names that stand for messages begin so: no call of PMIx made their lines.
-        marks = [re.match(r"`([^`]+)`, and the fences below", it) for it in head]
-        self.marks = tuple(it[1] for it in marks if it)
+        marks = [re.match(r"`([^`]+)`, and the fences below", text) for text in head]
+        self.marks = tuple(mark[1] for mark in marks if mark)
 
     def is_of_program(self, call: Call) -> bool:
         """Whether a call of PMIx made the line."""

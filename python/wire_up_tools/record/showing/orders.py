@@ -41,7 +41,7 @@ class Race:
     @property
     def words(self) -> list[str]:
         """Its two calls, as `witness` takes them."""
-        return [word for it in self.targets for word in (it.process, str(it.number))]
+        return [word for target in self.targets for word in (target.process, str(target.number))]
 
 
 @dataclass(frozen=True, eq=False)
@@ -63,7 +63,7 @@ class Shown:
         """What each of the two runs is called."""
         if self.is_by_witness:
             return ["first order", "second order"]
-        return [f"{it.place} first" for it in self.race.targets]
+        return [f"{target.place} first" for target in self.race.targets]
 
 
 @dataclass(frozen=True)
@@ -152,9 +152,11 @@ def order_by_witness(trial: Trial, race: Race, which: str) -> Sequence[Target]:
     answer = trial.checker.ask("witness", f"--{which}", *race.words, plan=trial.text.encode())
     if answer.status != OF_SHOWN:
         return ()
-    racing = [trial.plan.find_call(it.process, it.number) for it in race.targets]
-    owner = next((it.target for it in racing if it.verb.startswith("get")), None)
-    about = next((it.about for it in racing if it.about), "")
+    racing = [trial.plan.find_call(target.process, target.number) for target in race.targets]
+    owner = next(
+        (each_call.target for each_call in racing if each_call.verb.startswith("get")), None
+    )
+    about = next((each_call.about for each_call in racing if each_call.about), "")
     found: dict[tuple[str, int], Target] = {}
     for step in read_steps(trial.plan, answer.stdout.split()):
         call = trial.plan.find_call(step.rank, step.number)
@@ -175,7 +177,7 @@ def run_by_witness(trial: Trial, order: Sequence[Target], name: str) -> HeldRun:
 
 def try_witness(trial: Trial, race: Race) -> tuple[list[HeldRun], str] | None:
     """Two runs by the orders of the witness, and how they were made; None where there are none."""
-    orders = [order_by_witness(trial, race, it) for it in (FIRST, SECOND)]
+    orders = [order_by_witness(trial, race, text) for text in (FIRST, SECOND)]
     if not all(orders):
         return None
     runs = [
@@ -197,9 +199,11 @@ def try_race(trial: Trial, race: Race) -> Shown:
         make_order(trial, order, f"race-{race.number}-{which}")
         for order, which in zip(orders, (FIRST, SECOND))
     ]
-    runs, missed = [it.run for it in made], [it.missed for it in made]
+    runs, missed = [each_order.run for each_order in made], [
+        each_order.missed for each_order in made
+    ]
     missed = missed if race.is_race else list(map(explain_by_plan, missed))
-    means = [f"with {it.swap}" for it in made if it.swap]
+    means = [f"with {each_order.swap}" for each_order in made if each_order.swap]
     compared = compare_made(trial, runs, race)
     word = find_word(missed, compared)
     by_witness, is_by_witness = try_witness(trial, race) if word == ALIKE else None, False

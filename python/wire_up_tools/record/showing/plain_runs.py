@@ -30,15 +30,17 @@ def find_shape(text: str, is_parting: bool) -> Sequence[str]:
     """What of a reply, or of where calls part, isn't a value or a name: the status, or the
     verbs."""
     items = text.split(", ") if is_parting else [text]
-    return tuple(it.partition(" ")[0] for it in items)
+    return tuple(part.partition(" ")[0] for part in items)
 
 
-def is_own(it: Difference, plain: Sequence[Difference], count: int, is_parting: bool) -> bool:
+def is_own(
+    difference: Difference, plain: Sequence[Difference], count: int, is_parting: bool
+) -> bool:
     """Whether each of so many runs has another value or name there, two plain ones among them."""
     for other in plain:
-        texts = {it.first, it.second, other.first, other.second}
+        texts = {difference.first, difference.second, other.first, other.second}
         shapes = {find_shape(text, is_parting) for text in texts}
-        is_same_call = (it.process, it.what) == (other.process, other.what)
+        is_same_call = (difference.process, difference.what) == (other.process, other.what)
         if is_same_call and len(texts) == count and len(shapes) == 1:
             return True
     return False
@@ -46,14 +48,14 @@ def is_own(it: Difference, plain: Sequence[Difference], count: int, is_parting: 
 
 def tell_ends(runs: Sequence[HeldRun]) -> list[Difference]:
     """How two runs ended, where they ended otherwise."""
-    first, second = (it.ending for it in runs)
+    first, second = (run.ending for run in runs)
     return [Difference("the program", "ended", first, second)] if first != second else []
 
 
 def list_plain(plain: Compared, own: Sequence[Difference]) -> list[Difference]:
     """What differs between two plain runs, but for what each run has otherwise."""
-    found = [it for it in plain.differences if not it.is_of_numbers]
-    return [it for it in found if not any(map(it.is_about, own))]
+    found = [difference for difference in plain.differences if not difference.is_of_numbers]
+    return [difference for difference in found if not any(map(difference.is_about, own))]
 
 
 def leave_out_own(
@@ -65,15 +67,21 @@ def leave_out_own(
     if compared.is_alike:
         return compared
     two = plains.find(COMPARED)
-    plain, count = compare(two, targets), len({id(it) for it in (*runs, *two)})
-    own = [it for it in compared.targets if is_own(it, plain.targets, count, False)]
-    own += [it for it in compared.others if is_own(it, plain.others, count, False)]
-    own += [it for it in compared.partings if is_own(it, plain.partings, count, True)]
+    plain, count = compare(two, targets), len({id(run) for run in (*runs, *two)})
+    own = [target for target in compared.targets if is_own(target, plain.targets, count, False)]
+    own += [
+        difference
+        for difference in compared.others
+        if is_own(difference, plain.others, count, False)
+    ]
+    own += [
+        parting for parting in compared.partings if is_own(parting, plain.partings, count, True)
+    ]
     return replace(
         compared,
-        targets=[it for it in compared.targets if it not in own],
-        others=[it for it in compared.others if it not in own],
-        partings=[it for it in compared.partings if it not in own],
-        own=[it for it in own if not it.is_of_numbers],
+        targets=[target for target in compared.targets if target not in own],
+        others=[difference for difference in compared.others if difference not in own],
+        partings=[parting for parting in compared.partings if parting not in own],
+        own=[difference for difference in own if not difference.is_of_numbers],
         plain=list_plain(plain, own) + tell_ends(two),
     )

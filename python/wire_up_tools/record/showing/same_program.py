@@ -19,7 +19,7 @@ def name_some(names: Sequence[str]) -> str:
 
 def hold_processes(trial: Trial, run: HeldRun) -> None:
     """Raises Refused where a run has other processes than the plan."""
-    own, others = [it.name for it in trial.plan.ranks], list(run.traces)
+    own, others = [rank.name for rank in trial.plan.ranks], list(run.traces)
     if set(own) != set(others):
         raise Refused(
             f"the plan isn't of this command: it has the processes {name_some(own)}, and the run "
@@ -41,10 +41,10 @@ def hold_to_plan(trial: Trial, run: HeldRun) -> str:
     hold_processes(trial, run)
     count, lacking = 0, list[str]()
     for process, trace in run.traces.items():
-        called = Counter(name for it in trace.compared for name, _ in it.keys)
+        called = Counter(name for traced_call in trace.compared for name, _ in traced_call.keys)
         planned = Counter(list_named(trial, process))
         count += planned.total()
-        lacking += [f"{process} {it}" for it in (planned - called).elements()]
+        lacking += [f"{process} {each_name}" for each_name in (planned - called).elements()]
     if lacking and len(lacking) == count:
         raise Refused(f"the plan isn't of this command: a run never called {name_some(lacking)}")
     if not lacking:

@@ -59,8 +59,8 @@ class Server:
         """Takes what comes within a time, and lets calls go. Whether something came. Raises
         OSError."""
         heard = list(self.hall.hear(seconds))
-        for it in heard:
-            self.take(it)
+        for each_heard in heard:
+            self.take(each_heard)
         self.let_go()
         return bool(heard)
 
@@ -92,7 +92,7 @@ class Server:
     def may_go(self, which: int, now: float) -> bool:
         """Whether a call may go on."""
         waits = self.holds.waits.get(which, ())
-        are_there = [self.is_there(it, now) for it in waits]
+        are_there = [self.is_there(wait, now) for wait in waits]
         return not waits or (any if which in self.holds.any_of else all)(are_there)
 
     def is_in_vain(self, course: Course, now: float) -> bool:

@@ -19,7 +19,9 @@ MARGIN = 0.05
 def list_holds(run: HeldRun) -> list[tuple[float, float]]:
     """When calls were held, in seconds since 1970: those that waited for others."""
     held = [run.courses[n] for n in run.holds.waits if n in run.courses]
-    return [(it.came, it.gone or float("inf")) for it in held if it.came is not None]
+    return [
+        (course.came, course.gone or float("inf")) for course in held if course.came is not None
+    ]
 
 
 def find_held_seconds(run: HeldRun) -> float:
@@ -38,28 +40,33 @@ def is_meanwhile(run: HeldRun, began: float, ended: float) -> bool:
 def find_given_up(run: HeldRun) -> Iterator[tuple[str, TracedCall]]:
     """The calls that a limit ended while another was held, with their processes."""
     for process, trace in run.traces.items():
-        for it in trace.compared:
-            if it.ended and it.reply.startswith(TIMED_OUT):
-                if is_meanwhile(run, it.began, it.ended):
-                    yield process, it
+        for traced_call in trace.compared:
+            if traced_call.ended and traced_call.reply.startswith(TIMED_OUT):
+                if is_meanwhile(run, traced_call.began, traced_call.ended):
+                    yield process, traced_call
 
 
 def find_polls(run: HeldRun) -> Iterator[tuple[str, Sequence[TracedCall]]]:
     """Calls that a process made again and again while another was held, and that failed to the
     last, with their processes."""
     for process, trace in run.traces.items():
-        for name, them in itertools.groupby(trace.compared, lambda it: it.name):
-            calls = [it for it in them if it.ended and is_meanwhile(run, it.began, it.ended)]
+        for name, them in itertools.groupby(trace.compared, lambda traced_call: traced_call.name):
+            calls = [
+                each_traced_call
+                for each_traced_call in them
+                if each_traced_call.ended
+                and is_meanwhile(run, each_traced_call.began, each_traced_call.ended)
+            ]
             is_poll = name.startswith(POLLING) and len(calls) >= LEAST_POLLS
-            if is_poll and not any(it.reply.startswith(SUCCESS) for it in calls):
+            if is_poll and not any(call.reply.startswith(SUCCESS) for call in calls):
                 yield process, calls
 
 
 def tell_strikes(run: HeldRun) -> list[str]:
     """What a limit of time can have ended while a call was held; nothing where none is seen."""
     found = [
-        f"{process} {it.told}: {it.reply} after {(it.ended or it.began) - it.began:.1f} s"
-        for process, it in find_given_up(run)
+        f"{process} {call.told}: {call.reply} after {(call.ended or call.began) - call.began:.1f} s"
+        for process, call in find_given_up(run)
     ]
     for process, calls in find_polls(run):
         seconds = (calls[-1].ended or calls[-1].began) - calls[0].began

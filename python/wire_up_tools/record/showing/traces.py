@@ -38,18 +38,18 @@ def is_of_library(key: str) -> bool:
 
 def decode(word: str) -> str:
     """A word of a recording with its printable characters."""
-    return ESCAPED.sub(lambda it: chr(int(it[1], 16)), word)
+    return ESCAPED.sub(lambda hit: chr(int(hit[1], 16)), word)
 
 
 def read_array(word: str) -> Sequence[tuple[str, str]]:
     """The keys and values of an array, by their keys."""
-    parts = (it.partition("=") for it in decode(word).split(","))
+    parts = (part.partition("=") for part in decode(word).split(","))
     return sorted((key, value) for key, is_pair, value in parts if is_pair)
 
 
 def say_value(value: str) -> str:
     """A value as a recording has it, in words."""
-    sized, unseen, array = (it.fullmatch(value) for it in (SIZED, UNSEEN, ARRAY))
+    sized, unseen, array = (pattern.fullmatch(value) for pattern in (SIZED, UNSEEN, ARRAY))
     if array:
         pairs = [(key, one) for key, one in read_array(array[1]) if not is_of_library(key)]
         told = ", ".join(f"{key}={say_value(one)}" for key, one in pairs)
@@ -109,15 +109,15 @@ class TracedCall:
         rest = (self.end or "").partition(" ")[2]
         if not self.name.startswith("lookup"):
             return [rest] if rest else []
-        return [it.partition("=")[2] for it in rest.split(",") if "=" in it]
+        return [part.partition("=")[2] for part in rest.split(",") if "=" in part]
 
     @property
     def unseen(self) -> str:
         """What of its reply isn't compared, in words; empty where all is."""
-        found = [UNSEEN.fullmatch(it) for it in self.values]
-        bare = [it for it in map(SIZED.fullmatch, self.values) if it and not it[3]]
-        kinds = [f"{KINDS[it[1]]} {it[2]}" for it in found if it]
-        return ", ".join([*kinds, *(f"{it[2]} {KINDS[it[1]]}" for it in bare)])
+        found = [UNSEEN.fullmatch(value) for value in self.values]
+        bare = [hit for hit in map(SIZED.fullmatch, self.values) if hit and not hit[3]]
+        kinds = [f"{KINDS[hit[1]]} {hit[2]}" for hit in found if hit]
+        return ", ".join([*kinds, *(f"{hit[2]} {KINDS[hit[1]]}" for hit in bare)])
 
     @property
     def reply(self) -> str:
@@ -149,11 +149,11 @@ class Trace:
     @property
     def compared(self) -> Sequence[TracedCall]:
         """Its calls that are compared."""
-        return [it for it in self.calls if it.is_compared]
+        return [call for call in self.calls if call.is_compared]
 
     def find(self, key: tuple[str, int]) -> TracedCall | None:
         """The call with this name and number; None where it made none."""
-        return next((it for it in self.calls if key in it.keys), None)
+        return next((call for call in self.calls if key in call.keys), None)
 
 
 Traces = Mapping[str, Trace]
@@ -177,7 +177,7 @@ class Reader:
         if sign == "+":
             names = name_call(text)
             self.counts.update(names)
-            call = TracedCall([(it, self.counts[it]) for it in names], text, when, place)
+            call = TracedCall([(name, self.counts[name]) for name in names], text, when, place)
             self.trace.calls.append(call)
             self.open[number] = call
         elif sign == "-" and number in self.open:
@@ -190,8 +190,8 @@ class Reader:
 def read_trace(path: str) -> Trace | None:
     """Reads a recording as a trace, up to the zeros and without a cut line; None where it has no
     head yet. Raises OSError."""
-    with open(path, "rb") as it:
-        data = it.read().rstrip(b"\0").decode("ascii", "replace")
+    with open(path, "rb") as file:
+        data = file.read().rstrip(b"\0").decode("ascii", "replace")
     lines = data[: data.rfind("\n") + 1].splitlines(keepends=True)
     if len(lines) < HEAD_LINES:
         return None
@@ -205,12 +205,16 @@ def read_trace(path: str) -> Trace | None:
 
 def read_traces(folder: str) -> Traces:
     """The traces of a folder, by the names that a plan gives to processes. Raises OSError."""
-    paths = [os.path.join(folder, it) for it in sorted(os.listdir(folder)) if it.endswith(ENDING)]
-    found = [it for it in map(read_trace, paths) if it]
+    paths = [
+        os.path.join(folder, each_name)
+        for each_name in sorted(os.listdir(folder))
+        if each_name.endswith(ENDING)
+    ]
+    found = [trace for trace in map(read_trace, paths) if trace]
     begun: dict[str, float] = {}
-    for it in found:
-        begun[it.namespace] = min(it.began, begun.get(it.namespace, it.began))
+    for trace in found:
+        begun[trace.namespace] = min(trace.began, begun.get(trace.namespace, trace.began))
     jobs = sorted(begun, key=lambda name: (begun[name], name))
-    names = {it: f"{ONLY_JOB}{n}" if len(jobs) > 1 else ONLY_JOB for n, it in enumerate(jobs)}
-    in_order = sorted(found, key=lambda it: (jobs.index(it.namespace), it.rank))
-    return {f"{names[it.namespace]}:{it.rank}": it for it in in_order}
+    names = {job: f"{ONLY_JOB}{n}" if len(jobs) > 1 else ONLY_JOB for n, job in enumerate(jobs)}
+    in_order = sorted(found, key=lambda trace: (jobs.index(trace.namespace), trace.rank))
+    return {f"{names[trace.namespace]}:{trace.rank}": trace for trace in in_order}

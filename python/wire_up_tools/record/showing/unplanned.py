@@ -43,7 +43,7 @@ class Finder:
 
     def make_target(self, process: str, call: TracedCall, name: str, what: str) -> Target:
         """The target of a call: that of the plan, or else one that says what it is."""
-        key = next((it for it in call.keys if it[0] == mask(name)), call.keys[0])
+        key = next((each_key for each_key in call.keys if each_key[0] == mask(name)), call.keys[0])
         trace = self.traces[process]
         other = Target(process, 0, number_job(trace.namespace), trace.rank, *key, what)
         return self.planned.get((process, *key), other)
@@ -52,11 +52,11 @@ class Finder:
         """The names that a call is on. Of a publish a reserved one stands among its directives."""
         verb, _, items, directives = call.text.split(" ")[:4]
         published = directives.split(",") if verb == "publish" else []
-        own = [it for it in published if is_reserved(cut_item(it))]
-        for it in map(cut_item, [*items.split(","), *own]):
-            if it not in ("-", EVERY) and WAITS not in directives:
-                name = f"{verb} {it}"
-                yield ("name", it), UsedCall(self.make_target(process, call, name, name), call)
+        own = [part for part in published if is_reserved(cut_item(part))]
+        for item in map(cut_item, [*items.split(","), *own]):
+            if item not in ("-", EVERY) and WAITS not in directives:
+                name = f"{verb} {item}"
+                yield ("name", item), UsedCall(self.make_target(process, call, name, name), call)
 
     def use_keys(self, process: str, trace: Trace) -> Iterator[tuple[Use, UsedCall]]:
         """The commits of a process that store keys of the program, and its gets of every key."""
@@ -80,8 +80,12 @@ class Finder:
         """The uses of each name, and of the keys of each process."""
         found: dict[Use, RunUses] = {}
         for process, trace in self.traces.items():
-            calls = [it for it in trace.compared if it.text.startswith(OF_NAMES)]
-            uses = [use for it in calls for use in self.use_names(process, it)]
+            calls = [
+                traced_call
+                for traced_call in trace.compared
+                if traced_call.text.startswith(OF_NAMES)
+            ]
+            uses = [use for call in calls for use in self.use_names(process, call)]
             for use, one in [*uses, *self.use_keys(process, trace)]:
                 of = found.setdefault(use, RunUses())
                 if one.call.text.startswith(("lookup", "get")):
@@ -93,13 +97,13 @@ class Finder:
 
 def list_planned(trial: Trial) -> Mapping[tuple[str, str, int], Target]:
     """The calls of a plan, by their processes and names."""
-    found = (it for rank in trial.plan.ranks for it in trial.naming.list_targets(rank.name))
-    return {(it.process, *it.key): it for it in found if it}
+    found = (target for rank in trial.plan.ranks for target in trial.naming.list_targets(rank.name))
+    return {(target.process, *target.key): target for target in found if target}
 
 
 def sort_by_time(one: UsedCall, other: UsedCall) -> Pair:
     """Two calls as they began in the run."""
-    first, second = sorted((one, other), key=lambda it: it.call.began)
+    first, second = sorted((one, other), key=lambda used_call: used_call.call.began)
     return first.target, second.target
 
 
@@ -114,14 +118,16 @@ def list_pairs(uses: RunUses) -> Iterator[Pair]:
 
 def find_kind(pair: Pair) -> tuple[str, ...]:
     """What two calls have in common with those of other ranks."""
-    return tuple(re.sub(r"\d+", "#", it.verb) for it in pair)
+    return tuple(re.sub(r"\d+", "#", target.verb) for target in pair)
 
 
 def find_unplanned(trial: Trial, traces: Traces) -> tuple[Sequence[Pair], Sequence[Pair]]:
     """The pairs of a run of which its plan leaves a call out: the first of each kind, and the
     others."""
     finder, firsts, others = Finder(list_planned(trial), traces), dict[Use, Pair](), list[Pair]()
-    for pair in (it for uses in finder.list_uses().values() for it in list_pairs(uses)):
+    for pair in (
+        each_pair for uses in finder.list_uses().values() for each_pair in list_pairs(uses)
+    ):
         if firsts.setdefault(find_kind(pair), pair) is not pair:
             others.append(pair)
     return list(firsts.values()), others

@@ -23,6 +23,9 @@ LACKS_FENCES = (
 # The least number of ranks with three sides of 3: in a smaller grid one of three sides has 2 at
 # most, so that its ranks are neighbours of all others along it.
 LEAST_GRID = 27
+# Prime numbers of ranks below it, whose grid is a line in which not each is a neighbour of all
+# others.
+LINES = (5, 7, 11, 13, 17, 19, 23)
 
 
 @dataclass(frozen=True)
@@ -36,7 +39,8 @@ class Shown:
 @dataclass(frozen=True)
 class Answer:
     """All that is answered. Without `inferred` no call can race, or no pattern fits: `unfit` says
-    why, and a recording has what is found."""
+    why, and a recording has what is found. `of_library` says where the library may not do as the
+    rules say, so that other runs may do otherwise."""
 
     taken: Sequence[SizedPlan]
     held: Sequence[SizedPlan]
@@ -45,6 +49,7 @@ class Answer:
     shown: Shown | None = None
     unfit: str = ""
     in_part: Sequence[str] = field(default_factory=list)
+    of_library: Sequence[str] = field(default_factory=list)
 
     @property
     def findings(self) -> Sequence[str]:
@@ -111,7 +116,7 @@ def list_notes(answer: Answer) -> list[str]:
     """On what the answer rests, and what it can't say."""
     inferred, found = answer.inferred, list[str]()
     if not inferred:
-        return [answer.unfit or NO_CALL_RACES, *answer.in_part]
+        return [answer.unfit or NO_CALL_RACES, *answer.in_part, *answer.of_library]
     if answer.shown and not answer.verdict.findings:
         found.append("the pattern hasn't it: that is a mistake of wire_up-record")
     if inferred.failed:
@@ -123,10 +128,11 @@ def list_notes(answer: Answer) -> list[str]:
             f"fewer ranks, so that with more they may not; run more, such as {LEAST_GRID}"
         )
     found += [LACKS_FENCES] if inferred.lacks_fences else []
-    if inferred.needs_messages and not answer.findings:
+    if rests_on_messages(answer):
         order = "their order" if inferred.lacks_fences else "the messages of MPI"
         found += say_rest([*answer.taken, *answer.held], order)
-    return [*found, *say_unanswered(answer.verdict, inferred), *answer.in_part]
+    found += say_unanswered(answer.verdict, inferred)
+    return [*found, *answer.in_part, *answer.of_library]
 
 
 def say_unanswered(verdict: Verdict, inferred: Inferred) -> list[str]:
@@ -143,15 +149,32 @@ def say_unanswered(verdict: Verdict, inferred: Inferred) -> list[str]:
     ]
 
 
+def rests_on_messages(answer: Answer) -> bool:
+    """Whether nothing is found, and something would be without what ranks hear of others."""
+    return bool(answer.inferred and answer.inferred.needs_messages and not answer.findings)
+
+
+def needs_line(answer: Answer) -> bool:
+    """Whether that order may be there only since the ranks form a small grid: no run has so many
+    ranks that a grid of them is a line, or has long sides."""
+    sizes = {plan.size for plan in (*answer.taken, *answer.held)}
+    return rests_on_messages(answer) and max(sizes) < LEAST_GRID and not sizes.intersection(LINES)
+
+
 def say_rest(plans: Sequence[SizedPlan], order: str) -> list[str]:
     """That the verdict rests on an order of some ranks, and which size tells more."""
-    said = f"without {order} there would be a race"
-    most = max(plans, key=lambda plan: plan.size)
-    if most.size >= LEAST_GRID:
+    said, sizes = f"without {order} there would be a race", [plan.size for plan in plans]
+    if max(sizes) >= LEAST_GRID:
         return [said]
+    shown = f"a larger run would show, such as one with {LEAST_GRID}"
+    if not {*LINES}.intersection(sizes):
+        shown = (
+            f"a run with {LINES[0]} would show, as their grid is a line, or a larger one, such as "
+            f"one with {LEAST_GRID}"
+        )
     return [
-        f"{said}: if the ranks form a grid, a side of {most.size} ranks may be so short that each "
-        f"hears of all others, which a larger run would show, such as one with {LEAST_GRID}"
+        f"{said}: if the ranks form a grid, a side of {max(sizes)} ranks may be so short that each "
+        f"hears of all others, which {shown}"
     ]
 
 

@@ -1,25 +1,28 @@
 """Reads the command line with `--sizes`."""
+import os
 import re
 from collections.abc import Sequence
 from dataclasses import dataclass
 
 from wire_up_tools.failures import Refused, Unusable
 from wire_up_tools.options import Once, Option, Parser
+from wire_up_tools.record.fresh_input import refuse_input
 from wire_up_tools.record.recordings import refuse_recordings
 
 SIZES, FROM, AGAINST = "--sizes", "--from", "--against"
-NUMBERS = re.compile(r"[1-9]\d{0,6}(,[1-9]\d{0,6})*")
+NUMBERS = re.compile(r"[1-9]\d{0,17}(,[1-9]\d{0,17})*")
 # What stands in a command for the number of ranks, and the fewest that tell of loops.
 PLACE, FEWEST = "{}", 3
 # The options that go with sizes.
-WITH_SIZES = ("-o", "--keep", "--no-mpi", "--strict", "--checker")
+WITH_SIZES = ("-o", "--keep", "--no-mpi", "--strict", "--checker", "--input")
 NEEDS_NUMBERS = "--sizes needs numbers of ranks, such as 3,4,8, or recordings by --from"
 
 
 @dataclass(frozen=True)
 class SizesRequest:
     """Asks for one pattern from several sizes: of a command that is run with each, or of recordings
-    that are there. `held` are those against which it is held."""
+    that are there. `held` are those against which it is held. `source` is the file that each run of
+    the command reads as standard input, if not an empty one."""
 
     pattern: str
     sizes: Sequence[int]
@@ -31,6 +34,7 @@ class SizesRequest:
     with_mpi: bool = True
     is_strict: bool = False
     is_json: bool = False
+    source: str | None = None
 
 
 class SizesParser(Parser):
@@ -101,7 +105,7 @@ def read_sizes_request(words: Sequence[str], options: Sequence[Option]) -> Sizes
         raise Unusable("-o PATTERN says where the pattern goes")
     asked = SizesRequest(
         found.o, numbers, found.rest, found.taken, found.held, found.keep, found.checker,
-        not found.no_mpi, found.strict, found.json,
+        not found.no_mpi, found.strict, found.json, found.input,
     )
     judge_request(asked)
     return asked
@@ -109,18 +113,36 @@ def read_sizes_request(words: Sequence[str], options: Sequence[Option]) -> Sizes
 
 def judge_request(asked: SizesRequest) -> None:
     """Refuses a request that can't be answered. Raises Unusable, Refused, OSError."""
-    if not asked.sizes:
-        if asked.command or asked.kept:
-            raise Unusable("--keep goes with a command" if asked.kept else "which recordings?")
-        if len(asked.taken) + len(asked.held) < 2:
-            raise Refused("one size isn't enough: name the recordings of a second one by --from")
-        refuse_recordings([asked.pattern], [*asked.taken, *asked.held])
-        return
+    if asked.sizes:
+        judge_command(asked)
+    else:
+        judge_recordings(asked)
+
+
+def judge_recordings(asked: SizesRequest) -> None:
+    """Refuses recordings that tell too little, or what goes with a command. Raises Unusable,
+    Refused, OSError."""
+    for option, value in (("--keep", asked.kept), ("--input", asked.source)):
+        if value:
+            raise Unusable(f"{option} goes with a command")
+    if asked.command:
+        raise Unusable("which recordings?")
+    if len(asked.taken) + len(asked.held) < 2:
+        raise Refused("one size isn't enough: name the recordings of a second one by --from")
+    refuse_recordings([asked.pattern], [*asked.taken, *asked.held])
+
+
+def judge_command(asked: SizesRequest) -> None:
+    """Refuses a command that can't be run with each size, or sizes that tell too little. Raises
+    Unusable, Refused."""
     refuse_sizes(asked.sizes)
+    if asked.source and os.path.realpath(asked.source) == os.path.realpath(asked.pattern):
+        raise Unusable("-o and --input each need a file of their own")
     if not asked.command:
         raise Unusable("which command?")
     if not any(PLACE in word for word in asked.command):
         raise Refused(f"no word of the command has {PLACE}, where the number of ranks goes")
+    refuse_input(asked.source)
 
 
 def refuse_sizes(sizes: Sequence[int]) -> None:

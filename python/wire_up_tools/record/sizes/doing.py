@@ -1,4 +1,5 @@
 """Makes one pattern from runs of several sizes, and answers what it says."""
+import errno
 import gc
 import os
 import shutil
@@ -6,27 +7,37 @@ import sys
 from collections import Counter
 from collections.abc import Iterator, Sequence
 from dataclasses import dataclass, replace
+from typing import TextIO
 
 from wire_up_tools.checker import Checker, find_checker
 from wire_up_tools.failures import Refused
 from wire_up_tools.files import STANDARD_OUTPUT, try_to_write, write_whole
 from wire_up_tools.limits import LARGE, VERSION_1
+from wire_up_tools.portable import find_portable
 from wire_up_tools.record.floating import settle_floating
 from wire_up_tools.record.notes import FLOATING
 from wire_up_tools.record.places import find_places, read_places
 from wire_up_tools.record.planning import Choices, Plan, make_plan
-from wire_up_tools.record.recordings import NoRecording, read_recordings
-from wire_up_tools.record.running import find_libraries, make_environment, make_folder, run
+from wire_up_tools.record.recordings import NoRecording, read_recordings, refuse_past
+from wire_up_tools.record.running import (
+    NotRun,
+    find_libraries,
+    make_environment,
+    make_folder,
+    run,
+)
 from wire_up_tools.record.sizes.answering import (
+    LINES,
     Answer,
     Shown,
     list_notes,
     name_run,
+    needs_line,
     say_origin,
     write_answer,
     write_json,
 )
-from wire_up_tools.record.sizes.asking import PLACE, SizesRequest, refuse_sizes
+from wire_up_tools.record.sizes.asking import PLACE, SIZES, SizesRequest, refuse_sizes
 from wire_up_tools.record.sizes.inferring import Inferred, infer
 from wire_up_tools.record.sizes.judging import (
     ANSWERS,
@@ -41,6 +52,7 @@ from wire_up_tools.record.sizes.judging import (
 from wire_up_tools.record.sizes.plans import SizedPlan, can_race, take_plan
 from wire_up_tools.record.sizes.scripts import Unfit
 from wire_up_tools.record.sizes.writing import find_mark
+from wire_up_tools.record.verdicts import keeps_rules, say_of_libraries
 from wire_up_tools.record.writing import list_notes as list_plan_notes
 from wire_up_tools.record.writing import is_by_mpi_alone, say_luck, say_own_code, write_plan
 from wire_up_tools.words import (
@@ -52,7 +64,9 @@ from wire_up_tools.words import (
     WRITTEN_OTHERWISE,
 )
 
-STANDARD_ERROR = 2
+SAYS, STANDARD_ERROR = "wire_up-record", 2
+# How it is said that a verdict by the rules may not hold for the library that was recorded.
+NOT_BY_RULES = "the library may not do as the rules say"
 GUESS = "That other numbers do the same is a guess."
 TOO_MANY = (
     "no pattern of these runs can be judged: its ranks choose whom they call, in more ways than "
@@ -98,29 +112,76 @@ def make_sized(name: str, paths: Sequence[str], choices: Choices) -> Made:
     return Made(take_plan(name, lean, places), plan, write_plan(text_of, places))
 
 
-def run_sizes(asked: SizesRequest, choices: Choices, folder: str) -> Iterator[Made]:
+class Interrupted(Refused):
+    """A signal came while a command ran."""
+
+
+@dataclass(frozen=True)
+class Runner:
+    """What runs a command with so many ranks: what is asked for, how plans are made, and the
+    folders of the recorder and of the recordings."""
+
+    asked: SizesRequest
+    choices: Choices
+    folder: str
+    room: str
+
+    def run(self, size: int) -> Made:
+        """The plan of a run. Raises Refused, NotRun, OSError."""
+        recordings, asked = os.path.join(self.room, str(size)), self.asked
+        os.makedirs(recordings)
+        command = [word.replace(PLACE, str(size)) for word in asked.command]
+        libraries = find_libraries(self.folder, asked.with_mpi)
+        environment = make_environment(libraries, recordings)
+        with open(asked.source or os.devnull, "rb") as come:
+            status, is_stopped = run(command, environment, come, STANDARD_ERROR)
+        if status or is_stopped:
+            why = say_failed(size, status, is_stopped, bool(os.listdir(recordings)))
+            raise Interrupted(why) if is_stopped else Refused(why)
+        made = make_sized(name_run(size), [recordings], self.choices)
+        if made.sized.size != size:
+            raise Refused(f"{name_run(size)} has {made.sized.size} processes")
+        return made
+
+
+def run_sizes(asked: SizesRequest, choices: Choices, folder: str) -> Sequence[Made]:
     """The plans of a command that is run with each size. `folder` is that of the recorder. Raises
     Refused, NotRun, OSError."""
-    libraries = find_libraries(folder, asked.with_mpi)
     room = make_folder(asked.pattern, asked.kept)
     try:
-        for size in asked.sizes:
-            recordings = os.path.join(room, str(size))
-            os.makedirs(recordings)
-            command = [word.replace(PLACE, str(size)) for word in asked.command]
-            environment = make_environment(libraries, recordings)
-            status, is_stopped = run(command, environment, None, STANDARD_ERROR)
-            if status or is_stopped:
-                how = f"with status {status}" if status >= 0 else f"by signal {-status}"
-                how += ", after a signal came" if is_stopped else ""
-                raise Refused(f"{name_run(size)} ended {how}: no pattern is made")
-            made = make_sized(name_run(size), [recordings], choices)
-            if made.sized.size != size:
-                raise Refused(f"{name_run(size)} has {made.sized.size} processes")
-            yield made
+        runner = Runner(asked, choices, folder, room)
+        return [runner.run(size) for size in asked.sizes]
     finally:
         if not asked.kept:
             shutil.rmtree(room, ignore_errors=True)
+
+
+def run_line(asked: SizesRequest, choices: Choices, folder: str) -> Sequence[Made]:
+    """The plan of a run of the command with so many ranks that a grid of them is a line; none where
+    it can't run so. Raises Interrupted, OSError."""
+    room = asked.kept or make_folder(asked.pattern, None)
+    why = "since in a small grid all may hear of all"
+    print(f"{SAYS}: runs with {LINES[0]} ranks too, {why}", file=sys.stderr, flush=True)
+    try:
+        return [Runner(asked, choices, folder, os.path.abspath(room)).run(LINES[0])]
+    except Interrupted:
+        raise
+    except (Refused, NotRun):
+        print(f"{SAYS}: the answer is without {name_run(LINES[0])}, which failed", file=sys.stderr)
+        return []
+    finally:
+        if not asked.kept:
+            shutil.rmtree(room, ignore_errors=True)
+
+
+def say_failed(size: int, status: int, is_stopped: bool, is_recorded: bool) -> str:
+    """How a run failed, or ended after a signal came, and that it has a plan, if it is
+    recorded."""
+    how = f"with status {status}" if status >= 0 else f"by signal {-status}"
+    if is_stopped:
+        return f"{name_run(size)} ended {how}, after a signal came: no pattern is made"
+    plan = f" of it, but without {SIZES} a plan is" if is_recorded else ""
+    return f"{name_run(size)} ended {how}: no pattern is made{plan}"
 
 
 def collect_runs(
@@ -129,7 +190,7 @@ def collect_runs(
     """The runs from which a pattern is made, and those against which it is held: of a command the
     largest, if there are three. Raises Refused, NotRun, OSError."""
     if asked.sizes:
-        made = list(run_sizes(asked, choices, folder))
+        made = run_sizes(asked, choices, folder)
         count = len(made) if len(made) < 3 else len(made) - 1
         return made[:count], made[count:]
     taken, held = (
@@ -221,6 +282,45 @@ def write_whole_pattern(found: Answer, runs: Sequence[Made]) -> str:
     return write_head(found, runs) + text
 
 
+def choose_stream(asked: SizesRequest) -> TextIO:
+    """Where the answer is written: standard output, if the pattern isn't. Raises OSError if that is
+    closed."""
+    to_error = asked.pattern == STANDARD_OUTPUT
+    stream: TextIO | None = sys.stderr if to_error else sys.stdout
+    if stream is None:
+        name = "standard error" if to_error else "standard output"
+        raise OSError(errno.EBADF, os.strerror(errno.EBADF), name)
+    return stream
+
+
+def answer_runs(
+    asked: SizesRequest, choices: Choices, checker: Checker, folder: str
+) -> tuple[Answer, Sequence[Made]]:
+    """The answer on runs, and these runs. Where nothing is found since ranks hear of others, and
+    the runs may be of small grids, the command runs once more, as a line. Raises Refused, NotRun,
+    OSError."""
+    taken, held = collect_runs(asked, choices, folder)
+    found = answer(checker, taken, held)
+    line = run_line(asked, choices, folder) if asked.sizes and needs_line(found) else []
+    if line:
+        held = sorted([*held, *line], key=lambda made: made.sized.size)
+        found = answer(checker, taken, held)
+    runs = [*taken, *held]
+    of_library = [] if found.findings else say_of_library(checker, runs)
+    return replace(found, of_library=of_library), runs
+
+
+def say_of_library(checker: Checker, runs: Sequence[Made]) -> Sequence[str]:
+    """Of the first run whose plan isn't portable for the library that was recorded, if there is
+    one, for which it is."""
+    for made in runs:
+        portable = find_portable(checker, made.text.encode())
+        if portable and not keeps_rules(made.plan, portable):
+            said = say_of_libraries(made.plan, portable)
+            return [f"{NOT_BY_RULES}: the plan of {made.sized.name} is {said}"]
+    return []
+
+
 def answer_sizes(asked: SizesRequest, folder: str) -> int:
     """Makes and writes the pattern that is asked for, and says the answer. Answers the status: 0 if
     nothing is found, 1 if something is. `folder` is that of the recorder. Raises Refused, NotRun,
@@ -232,13 +332,13 @@ def answer_sizes(asked: SizesRequest, folder: str) -> int:
     checker = find_judge(path)
     most = LARGE if checker.is_large else VERSION_1
     choices = Choices(asked.with_mpi, asked.is_strict, most)
+    refuse_past(most.processes, "processes", max(asked.sizes, default=0))
+    to = choose_stream(asked)
     if asked.pattern != STANDARD_OUTPUT:
         try_to_write(asked.pattern)
-    taken, held = collect_runs(asked, choices, folder)
-    found = answer(checker, taken, held)
+    found, runs = answer_runs(asked, choices, checker, folder)
     if not found.unfit:
-        write_whole(asked.pattern, write_whole_pattern(found, [*taken, *held]))
+        write_whole(asked.pattern, write_whole_pattern(found, runs))
     said = write_json(found) if asked.is_json else write_answer(found)
-    to = sys.stderr if asked.pattern == STANDARD_OUTPUT else sys.stdout
     print(said, end="", file=to, flush=True)
     return FOUND if found.findings else CLEAN

@@ -17,8 +17,8 @@ STAR = ":*"
 
 def names_twice(items: Sequence[str]) -> bool:
     """Whether a set names a rank twice, as an item that repeats, or by its job too."""
-    whole = {it.removesuffix(STAR) for it in items if it.endswith(STAR)}
-    by_job = any(it.partition(":")[0] in whole for it in items if not it.endswith(STAR))
+    whole = {item.removesuffix(STAR) for item in items if item.endswith(STAR)}
+    by_job = any(item.partition(":")[0] in whole for item in items if not item.endswith(STAR))
     return by_job or len(set(items)) < len(items)
 
 
@@ -60,12 +60,12 @@ class Fences:
         """The ranks that arrived at a fence of whose callers on their node some collect and others
         don't."""
         found: dict[str, None] = {}
-        for it in self.meetings.values():
+        for meeting in self.meetings.values():
             flags: dict[str, set[bool]] = {}
-            for name, arrival in it.arrived.items():
+            for name, arrival in meeting.arrived.items():
                 flags.setdefault(self.node_of(name), set()).add(arrival.collects)
             mixed = {node for node, them in flags.items() if len(them) > 1}
-            found.update((name, None) for name in it.arrived if self.node_of(name) in mixed)
+            found.update((name, None) for name in meeting.arrived if self.node_of(name) in mixed)
         return list(found)
 
     def arrive(self, call: Call) -> None:
@@ -82,7 +82,11 @@ class Fences:
     def leave(self, call: Call) -> Reply:
         """How the fence ends for a rank that has arrived; None while it doesn't."""
         meeting = self.standing[call.rank.name]
-        alike = [it for it in self.meetings.values() if it.sign == meeting.sign]
+        alike = [
+            each_meeting
+            for each_meeting in self.meetings.values()
+            if each_meeting.sign == meeting.sign
+        ]
         end = End(self.world, call, meeting, alike)
         if end.is_barred() or not end.is_complete():
             return None
@@ -116,8 +120,8 @@ class End:
             return self.meeting.arrived
         at = self.list_collecting(self.here).index(self.meeting)
         met = {node: self.list_collecting(node)[at:] for node in self.nodes}
-        there = [it for it in self.members if met[self.node_of(it)]]
-        return {it: met[self.node_of(it)][0].arrived[it] for it in there}
+        there = [member for member in self.members if met[self.node_of(member)]]
+        return {text: met[self.node_of(text)][0].arrived[text] for text in there}
 
     @property
     def is_of_node(self) -> bool:
@@ -136,12 +140,14 @@ class End:
 
     def is_collecting(self, meeting: Meeting, node: str) -> bool:
         """Whether all members on a node have arrived at a fence, and all collect."""
-        members = [it for it in self.members if self.node_of(it) == node]
-        return all(it in meeting.arrived and meeting.arrived[it].collects for it in members)
+        members = [member for member in self.members if self.node_of(member) == node]
+        return all(
+            member in meeting.arrived and meeting.arrived[member].collects for member in members
+        )
 
     def list_collecting(self, node: str) -> list[Meeting]:
         """The fences like this one at which a node collects, in their order."""
-        return [it for it in self.alike if self.is_collecting(it, node)]
+        return [meeting for meeting in self.alike if self.is_collecting(meeting, node)]
 
     def node_of(self, name: str) -> str:
         """The node of a rank."""
@@ -150,7 +156,7 @@ class End:
     @property
     def nodes(self) -> list[str]:
         """The nodes of the members."""
-        return sorted({self.node_of(it) for it in self.members})
+        return sorted({self.node_of(member) for member in self.members})
 
     def is_barred(self) -> bool:
         """Whether it never ends."""
@@ -166,19 +172,23 @@ class End:
         words = self.call.target.split(",")
         if not self.is_of_node or self.call.collects:
             return words
-        return [it for it in words if it not in self.world.ranks or self.node_of(it) == self.here]
+        return [
+            word
+            for word in words
+            if word not in self.world.ranks or self.node_of(word) == self.here
+        ]
 
     def is_complete(self) -> bool:
         """Whether all have arrived that it waits for."""
         if not self.is_of_node or self.meets_collecting:
             return self.members <= self.arrived.keys()
-        near = {it for it in self.members if self.node_of(it) == self.here}
+        near = {member for member in self.members if self.node_of(member) == self.here}
         return near <= self.meeting.arrived.keys()
 
     def find_flags(self, node: str | None = None) -> set[bool]:
         """Whether those that have arrived collect, on a node or on all."""
-        there = [it for it in self.members if it in self.arrived]
-        return {self.arrived[it].collects for it in there if node in (None, self.node_of(it))}
+        there = [member for member in self.members if member in self.arrived]
+        return {self.arrived[text].collects for text in there if node in (None, self.node_of(text))}
 
     def answer_mixed(self) -> str | None:
         """The reply of a fence whose callers differ in collecting, if it is another one."""
@@ -190,18 +200,18 @@ class End:
             is_spared = self.world.spares_others and not is_mixed_here and self.is_mixed_elsewhere()
             return None if is_spared else traits.invalid
         if traits.mixed is Mixed.FAILS_FOR_FIRST:
-            first = next(it for it in self.arrived if self.node_of(it) == here)
+            first = next(text for text in self.arrived if self.node_of(text) == here)
             return traits.invalid if is_mixed_here and first == self.call.rank.name else None
         self.bring_between_nodes()
         return traits.invalid if is_mixed_here else None
 
     def is_mixed_elsewhere(self) -> bool:
         """Whether callers on one of the nodes differ in collecting."""
-        return any(len(self.find_flags(it)) > 1 for it in self.nodes)
+        return any(len(self.find_flags(node)) > 1 for node in self.nodes)
 
     def bring_between_nodes(self) -> None:
         """Brings keys from each node whose callers collect to each other such node."""
-        whole = [it for it in self.nodes if self.find_flags(it) == {True}]
+        whole = [each_node for each_node in self.nodes if self.find_flags(each_node) == {True}]
         for member in self.members:
             for node in whole if self.node_of(member) in whole else []:
                 if node != self.node_of(member):
@@ -224,7 +234,11 @@ class End:
             return set(self.nodes)
         only_members = self.world.traits.brought is Brought.WITH_MEMBERS
         among = self.members if only_members else ranks
-        of_job = {self.node_of(it) for it in among if ranks[it].job == ranks[member].job}
+        of_job = {
+            self.node_of(each_member)
+            for each_member in among
+            if ranks[each_member].job == ranks[member].job
+        }
         return of_job.intersection(self.nodes)
 
     def bring_from(self, member: str) -> None:

@@ -27,14 +27,14 @@ def read_map(asked: Question) -> str:
     owner, ranks = asked.owner, asked.world.plan.ranks
     if asked.key == HOST:
         return succeed(owner.node)
-    before = [it for it in ranks if it.index < owner.index]
+    before = [rank for rank in ranks if rank.index < owner.index]
     if asked.key == RANK:
-        return succeed(str(sum(it.job == owner.job for it in before)))
+        return succeed(str(sum(rank.job == owner.job for rank in before)))
     if asked.key == JOB_SIZE:
-        return succeed(str(sum(it.job == owner.job for it in ranks)))
-    near = [it for it in before if it.node == owner.node]
+        return succeed(str(sum(rank.job == owner.job for rank in ranks)))
+    near = [rank for rank in before if rank.node == owner.node]
     of_all = asked.key == "PMIX_NODE_RANK"
-    return succeed(str(sum(of_all or it.job == owner.job for it in near)))
+    return succeed(str(sum(of_all or rank.job == owner.job for rank in near)))
 
 
 def answer_map(asked: Question) -> Reply:

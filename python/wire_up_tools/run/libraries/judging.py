@@ -33,8 +33,8 @@ class Judged:
     @property
     def rules(self) -> list[Rule]:
         """The rules of the library by which it does."""
-        used = {rule for it in self.found for rule in it.rules}
-        return [it for it in Rule if it in used]
+        used = {rule for predicted in self.found for rule in predicted.rules}
+        return [each_rule for each_rule in Rule if each_rule in used]
 
 
 def hold_small(plan: Plan) -> None:
@@ -50,13 +50,18 @@ def judge(plan: Plan, library: Library, expected: Expected) -> Judged:
     replies: list[dict[Place, str]] = []
     for way in ways:
         differing = explain_differences(plan, library.traits, expected.report, way)
-        replies.append({it.difference.place: it.difference.library for it in differing})
-        for it in differing:
-            found.setdefault(it.difference.place, it)
-    in_order = [it.place for it in expected.report.lines if it.place in found]
+        replies.append(
+            {
+                each_difference.difference.place: each_difference.difference.library
+                for each_difference in differing
+            }
+        )
+        for difference in differing:
+            found.setdefault(difference.difference.place, difference)
+    in_order = [line.place for line in expected.report.lines if line.place in found]
     timed = [
-        it
-        for it in in_order
-        if TIMED.intersection(found[it].rules) or len({of.get(it) for of in replies}) > 1
+        place
+        for place in in_order
+        if TIMED.intersection(found[place].rules) or len({of.get(place) for of in replies}) > 1
     ]
-    return Judged(library, [found[it] for it in in_order], timed, len(expected.report.lines))
+    return Judged(library, [found[place] for place in in_order], timed, len(expected.report.lines))

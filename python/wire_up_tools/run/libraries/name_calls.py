@@ -58,7 +58,7 @@ def unpublish(world: World, call: Call) -> Reply:
         if world.has(Rule.UNPUBLISH_ALL):
             return world.traits.kept_all
         for there in world.names.values():
-            there[:] = [it for it in there if it.owner is not call.rank]
+            there[:] = [name for name in there if name.owner is not call.rank]
         return SUCCESS
     there = world.names[call.about]
     if not world.has(Rule.NAMES):
@@ -66,5 +66,5 @@ def unpublish(world: World, call: Call) -> Reply:
         there[:] = [] if is_own else there
         return SUCCESS if is_own else NOT_FOUND
     of_others = world.traits.unpublishes_of_others
-    there[:] = [] if of_others else [it for it in there if it.owner is not call.rank]
+    there[:] = [] if of_others else [name for name in there if name.owner is not call.rank]
     return SUCCESS

@@ -34,7 +34,7 @@ class Prediction:
 
     def __post_init__(self) -> None:
         self.fences = Fences(self.world)
-        self.replies = {it.name: [] for it in self.world.plan.ranks}
+        self.replies = {rank.name: [] for rank in self.world.plan.ranks}
 
     def find_call(self, rank: Rank) -> Call | None:
         """The call at which a rank stands."""
@@ -88,7 +88,7 @@ class Prediction:
         self.world.spares_others = way.spares_others
         self.world.holds_answers, is_over = way.is_slow, False
         while not is_over:
-            is_over = not any(self.step(it) for it in in_turn)
+            is_over = not any(self.step(rank) for rank in in_turn)
             if is_over and self.world.holds_answers:
                 self.world.holds_answers = is_over = False
             elif not is_over:
@@ -122,7 +122,7 @@ class Way:
     def sort(self, ranks: Sequence[Rank]) -> list[Rank]:
         """The ranks, those first whose steps come first."""
         in_turn = ranks[::-1] if self.is_backwards else ranks
-        return sorted(in_turn, key=lambda it: it.name != self.first)
+        return sorted(in_turn, key=lambda rank: rank.name != self.first)
 
 
 LOWEST_FIRST = Way()
@@ -150,7 +150,7 @@ def list_ways(plan: Plan, traits: Traits) -> list[Way]:
     if traits.mixed is Mixed.FAILS_FOR_FIRST:
         prediction = Prediction(World(plan, traits, traits.rules))
         prediction.run(LOWEST_FIRST)
-        ways += [Way(first=it) for it in prediction.fences.list_mixed()[:MOST_FIRST]]
+        ways += [Way(first=text) for text in prediction.fences.list_mixed()[:MOST_FIRST]]
     return ways
 
 
@@ -171,10 +171,13 @@ def explain_differences(
     if not found:
         return []
     others = {
-        rule: {it.place: it.reply for it in predict(plan, traits, rule, way).lines}
-        for rule in sorted(traits.rules, key=lambda it: it.name)
+        rule: {line.place: line.reply for line in predict(plan, traits, rule, way).lines}
+        for rule in sorted(traits.rules, key=lambda each_rule: each_rule.name)
     }
     return [
-        Predicted(it, [rule for rule, said in others.items() if said[it.place] != it.library])
-        for it in found
+        Predicted(
+            difference,
+            [rule for rule, said in others.items() if said[difference.place] != difference.library],
+        )
+        for difference in found
     ]

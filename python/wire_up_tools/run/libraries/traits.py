@@ -119,6 +119,8 @@ class Library:
         return os.path.join(TABLES, f"{self.name}.txt")
 
 
+# Each was measured by itself and stands by itself: lines that two share aren't put together, since
+# the next version may differ in any of them.
 OPENPMIX_4 = Traits(
     rules=COMMON
     | {
@@ -209,7 +211,7 @@ _ALL = (
     ),
     Library("slurm-24.11", "OpenPMIx 5.0.7", "Slurm 24.11.5", "OpenPMIx 5.", Kind.SLURM, SLURM),
 )
-LIBRARIES: Mapping[str, Library] = {it.name: it for it in _ALL}
+LIBRARIES: Mapping[str, Library] = {library.name: library for library in _ALL}
 
 
 # How a namespace begins that a host gives to a job.
@@ -238,5 +240,7 @@ def find_recorded(version: str, namespace: str) -> Library | None:
 def find_library(version: str, kind: Kind) -> Library | None:
     """The library of which most is known that is like one of this version, with a launcher of this
     kind: of the same release."""
-    alike = (it for it in _ALL if it.kind is kind and version.startswith(it.release))
+    alike = (
+        library for library in _ALL if library.kind is kind and version.startswith(library.release)
+    )
     return next(alike, None)

@@ -54,12 +54,12 @@ class Owner:
     def commit(self) -> None:
         """Hands all that is held to the server."""
         self.commits += 1
-        for it in self.held:
-            self.committed[it.key] = it
-            if it.scope != "remote":
-                self.here[it.key] = it.value
-            if it.scope != "local":
-                self.elsewhere[it.key] = it.value
+        for held in self.held:
+            self.committed[held.key] = held
+            if held.scope != "remote":
+                self.here[held.key] = held.value
+            if held.scope != "local":
+                self.elsewhere[held.key] = held.value
         self.held.clear()
 
 
@@ -97,14 +97,14 @@ class World:
     ranks: Mapping[str, Rank] = field(init=False)
 
     def __post_init__(self) -> None:
-        self.owners = {it.name: Owner() for it in self.plan.ranks}
+        self.owners = {rank.name: Owner() for rank in self.plan.ranks}
         self.on_node = collections.defaultdict(dict)
         self.by_fences = collections.defaultdict(dict)
         self.in_caller = collections.defaultdict(dict)
         self.names = collections.defaultdict(list)
-        fences = [it for it in self.plan.list_single() if it.verb == "fence"]
+        fences = [call for call in self.plan.list_single() if call.verb == "fence"]
         self.sets = find_sets(self.plan.declared, fences)
-        self.ranks = {it.name: it for it in self.plan.ranks}
+        self.ranks = {rank.name: rank for rank in self.plan.ranks}
 
     def has(self, rule: Rule) -> bool:
         """Whether the library has a rule."""
@@ -143,7 +143,7 @@ class Question:
     @property
     def knows_job(self) -> bool:
         """Whether a rank of the owner's job is on the caller's node."""
-        there = [it.job for it in self.world.plan.ranks if it.node == self.caller.node]
+        there = [rank.job for rank in self.world.plan.ranks if rank.node == self.caller.node]
         return self.owner.job in there
 
     @property

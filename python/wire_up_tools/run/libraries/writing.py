@@ -10,7 +10,7 @@ SEVERAL, UNSTEADY = "several-together", "unsteady"
 
 def name_rules(predicted: Predicted) -> str:
     """The rules behind a call that is answered otherwise."""
-    return ",".join(it.label for it in predicted.rules) or SEVERAL
+    return ",".join(rule.label for rule in predicted.rules) or SEVERAL
 
 
 def write_predicted(of: Judged, predicted: Predicted) -> str:
@@ -21,23 +21,23 @@ def write_predicted(of: Judged, predicted: Predicted) -> str:
 
 def write_predictions(of: Judged) -> str:
     """The calls with their rules, what these say, and last how many calls there are."""
-    lines = [write_predicted(of, it) for it in of.found]
-    lines += [f"rule {it.label}: {it.value}" for it in of.rules]
+    lines = [write_predicted(of, predicted) for predicted in of.found]
+    lines += [f"rule {rule.label}: {rule.value}" for rule in of.rules]
     known = f"{of.library.version} under {of.library.host}"
     lines.append(f"known of {known}; other versions may differ")
     lines.append(f"differing {len(of.found)} of {of.calls}")
-    return "".join(f"{it}\n" for it in lines)
+    return "".join(f"{line}\n" for line in lines)
 
 
 def write_predictions_json(of: Judged) -> str:
     """The same as JSON."""
     found: list[dict[str, object]] = [
         {
-            **make_difference(it.difference),
-            "by": [rule.label for rule in it.rules],
-            UNSTEADY: it.difference.place in of.timed,
+            **make_difference(predicted.difference),
+            "by": [rule.label for rule in predicted.rules],
+            UNSTEADY: predicted.difference.place in of.timed,
         }
-        for it in of.found
+        for predicted in of.found
     ]
     about = {"host": of.library.host, "library": of.library.name, "version": of.library.version}
     made: dict[str, object] = {**about, "calls": of.calls, "differs": found}

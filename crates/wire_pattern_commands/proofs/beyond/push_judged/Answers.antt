@@ -1,11 +1,8 @@
-use Rattle.std.proofs.Common.{◌∙◌, ◌++◌, ap, refl, codes, decimal}
-use Rattle.wire_pattern_commands.specs.Beyond.{judged_size}
-use Rattle.wire_pattern_commands.proofs.CheckedPattern.{three_parts}
+use Rattle.std.proofs.Common.{◌≡◌, ◌++◌, subst}
+use Rattle.std.specs.Prelude.{OnOk}
+use Rattle.wire_pattern_commands.specs.Beyond.{judged_words}
 use Rattle.wire_pattern_commands.proofs.beyond.push_judged.Goals as goal
 
 pub returns : goal.returns
 returns c =
-    three_parts c.extend_from_slice-2.result c.args.out.now.items (codes "up to ") (decimal (judged_size c.args.pattern.now.roles)) _ (codes " ranks of each group") _ _ _
-    c.in_ok-extend_from_slice.ensures.items
-    (c.in_ok-push_number.ensures.ok ∙ ap (λ n. c.extend_from_slice.new.self.items ++ decimal n) (c.judged_size.ensures ∙ ap judged_size c.roles.ensures.roles))
-    refl c.extend_from_slice-2.ensures.items
+    subst (λ roles. OnOk c.push_roles.result (c.push_roles.new.out.items ≡ c.args.out.now.items ++ judged_words roles)) c.roles.ensures.roles c.push_roles.ensures

@@ -1,6 +1,11 @@
 use Rattle.std.proofs.Common.{sym, subst}
 use Rattle.wire_pattern_commands.specs.CheckPattern.{IsSettledSaid}
+use Rattle.wire_pattern_commands.proofs.FirstWaits.{later_read}
 use Rattle.wire_pattern_commands.proofs.check.answer_explained.Goals as goal
+
+pub explain_answer-requires-clause-later : goal.explain_answer-requires-clause-later
+explain_answer-requires-clause-later c =
+    let said = c.in_ok-settled.ensures.ok in later_read c.args.pattern.now said.lines c.in_ok-settled.settled.beyond said.beyond_is
 
 pub returns-clause-ok : goal.returns-clause-ok
 returns-clause-ok c =

@@ -9,6 +9,7 @@ pub returns-else-not-waits-clause-ok : goal.returns-else-not-waits-clause-ok
 returns-else-not-waits-clause-ok c = (
   refl,
   refl,
+  refl,
   c.in_ok-plan.ensures.ok,
   some_waits c.args.scripts c.in_ok-plan.plan c.in-Ok.waits c.in_ok-plan.ensures.ok c.in-Ok.ensures.ok c.if-not-waits.false,
 )

@@ -1,6 +1,5 @@
 use Rattle.std.proofs.Common.{Err}
 use Rattle.wire_command.proofs.Came.{no_read_of_file}
-use Rattle.wire_command.proofs.Handed.{memory_no_read}
 use Rattle.wire_portable_commands.proofs.SpellingCame.{fault_came, read_came, spelling_came}
 use Rattle.wire_portable_commands.proofs.reading.read_spelled.Goals as goal
 

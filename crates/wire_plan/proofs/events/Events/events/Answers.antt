@@ -1,21 +1,29 @@
-use Rattle.std.proofs.Common.{sym, refl, map, length}
-use Rattle.std.proofs.lemmas.Option.{slice_get_read, slice_get_past}
+use Rattle.std.proofs.Common.{◌∙◌, ap, sym, map}
+use Rattle.std.specs.Prelude.{slice_range}
 use Rattle.wire_plan.specs.Kinds.{kind_of}
-use Rattle.wire_plan.proofs.Planning.{events_shown, events_past}
+use Rattle.wire_plan.proofs.Planning.{part_rises, kinds_within, kinds_shown, no_kinds}
 use Rattle.wire_plan.proofs.events.Events.events.Goals as goal
+
+pub of_kinds-requires-clause-rises : goal.of_kinds-requires-clause-rises
+of_kinds-requires-clause-rises c =
+    part_rises c.self.inside.scripts c.self.inside.rows.firsts.items c.self.invariant.0.firsts c.args.proc.number c.in-Some.part.from c.in-Some.part.to c.in-Some.ensures.0 c.in-Some.ensures.1
+
+pub of_kinds-requires-clause-within : goal.of_kinds-requires-clause-within
+of_kinds-requires-clause-within c =
+    let s = c.self.inside.scripts in
+    let rows = c.self.inside.rows in
+    rw c.deref.ensures.value
+    (kinds_within s rows.firsts.items c.self.invariant.0.firsts c.args.proc.number c.in-Some.part.from c.in-Some.part.to c.in-Some.ensures.0 c.in-Some.ensures.1 (kind_of s.sets) rows.kinds.items
+    c.self.invariant.0.kinds)
 
 pub returns-in-Some : goal.returns-in-Some
 returns-in-Some c =
-    let rows = c.self.inside.rows.items in
-    let lookup = rw (c.deref.ensures.value, c.index.ensures) at c.in-Some.ensures.lookup in
-    rw (c.as_slice.ensures.value, ← c.self.view_is)
-    (sym (events_shown (λ row. map (kind_of c.self.inside.scripts.sets) row.kinds.items) c.self.inside.scripts rows c.self.invariant.0.events c.args.proc.number c.in-Some.row.now
-    (slice_get_read rows (length rows) c.args.proc.number c.in-Some.row.now refl lookup.3.0 lookup.1)))
+    let s = c.self.inside.scripts in
+    let rows = c.self.inside.rows in
+    let shown = kinds_shown s rows.firsts.items c.self.invariant.0.firsts c.args.proc.number c.in-Some.part.from c.in-Some.part.to c.in-Some.ensures.0 c.in-Some.ensures.1 (kind_of s.sets) rows.kinds.items
+    c.self.invariant.0.kinds in
+    rw (← c.self.view_is) (ap (map (kind_of s.sets)) (c.of_kinds.ensures ∙ ap (λ l. slice_range l c.in-Some.part.from c.in-Some.part.to) c.deref.ensures.value) ∙ shown)
 
 pub returns-in-None : goal.returns-in-None
 returns-in-None c =
-    let rows = c.self.inside.rows.items in
-    let lookup = rw (c.deref.ensures.value, c.index.ensures) at c.in-None.ensures.lookup in
-    rw (← c.self.view_is)
-    (sym (events_past (λ row. map (kind_of c.self.inside.scripts.sets) row.kinds.items) c.self.inside.scripts rows c.self.invariant.0.events c.args.proc.number
-    (slice_get_past rows c.args.proc.number lookup.3)))
+    rw (← c.self.view_is) (sym (no_kinds c.self.inside.scripts c.self.inside.rows.firsts.items c.self.invariant.0.firsts c.args.proc.number c.in-None.ensures))

@@ -1,7 +1,7 @@
 use Rattle.std.proofs.Common.{◌≡◌, ◌∙◌, ◌≤◌, ◌+◌, suc, subst, arith}
 use Rattle.wire_runs.specs.Plan.{process_count}
 use Rattle.wire_scripts.specs.Planned.{plan_of}
-use Rattle.wire_portable.specs.Gets.{AreGetsTo}
+use Rattle.wire_portable.specs.Gets.{AreGetsTo, AreFirst}
 use Rattle.wire_portable.proofs.OpenGets.{plan_added}
 use Rattle.wire_portable.proofs.gets.GetTable.add_all.Goals as goal
 
@@ -20,5 +20,8 @@ loop-number-preserved c = (
       c.loop-number.invariant.1 c.in_ok-add_process.ensures.added in
       subst (λ p. AreGetsTo c.args.self.now.together (plan_of c.args.marked.now) p 0 c.add_process.new.self) next (told (c.loop-number.invariant.0 start))),
   c.in_ok-add_process.ensures.kept ∙ c.loop-number.invariant.1,
-  (λ start. c.in_ok-add_process.ensures.firsts (c.loop-number.invariant.2 start)),
+  (λ start.
+      subst (λ rows. AreFirst (plan_of c.args.marked.now) rows c.loop-number.self → AreFirst (plan_of c.args.marked.now) rows c.add_process.new.self) c.loop-number.invariant.3 c.in_ok-add_process.ensures.firsts
+      (c.loop-number.invariant.2 start)),
+  c.in_ok-add_process.ensures.phases ∙ c.loop-number.invariant.3,
 )

@@ -1,7 +1,7 @@
 use Rattle.std.proofs.Common.{◌≡◌, ◌∙◌, ◌≤◌, ◌+◌, suc, subst, arith}
 use Rattle.wire_runs.specs.Plan.{event_count}
 use Rattle.wire_scripts.specs.Planned.{plan_of}
-use Rattle.wire_portable.specs.Gets.{AreGetsTo}
+use Rattle.wire_portable.specs.Gets.{AreGetsTo, AreFirst}
 use Rattle.wire_portable.proofs.OpenGets.{process_added}
 use Rattle.wire_portable.proofs.gets.GetTable.add_process.Goals as goal
 
@@ -20,5 +20,8 @@ loop-at-preserved c = (
       c.loop-at.invariant.1 c.in_ok-add_event.ensures.added in
       subst (λ i. AreGetsTo c.args.self.now.together (plan_of c.args.marked.now) c.args.proc.number i c.add_event.new.self) next (told (c.loop-at.invariant.0 start))),
   c.in_ok-add_event.ensures.kept ∙ c.loop-at.invariant.1,
-  (λ start. c.in_ok-add_event.ensures.firsts (c.loop-at.invariant.2 start)),
+  (λ start.
+      subst (λ rows. AreFirst (plan_of c.args.marked.now) rows c.loop-at.self → AreFirst (plan_of c.args.marked.now) rows c.add_event.new.self) c.loop-at.invariant.3 c.in_ok-add_event.ensures.firsts
+      (c.loop-at.invariant.2 start)),
+  c.in_ok-add_event.ensures.phases ∙ c.loop-at.invariant.3,
 )

@@ -7,8 +7,8 @@ use Rattle.wire_portable.proofs.Keys.{never_there}
 use Rattle.wire_portable.proofs.OpenGets.{unread_below}
 use Rattle.wire_portable.proofs.gets.GetTable.lower_to.Goals as goal
 
-pub returns-in-Some-clause-lower : goal.returns-in-Some-clause-lower
-returns-in-Some-clause-lower c =
+pub returns-in_ok-raise-in-Some-clause-lower : goal.returns-in_ok-raise-in-Some-clause-lower
+returns-in_ok-raise-in-Some-clause-lower c =
     let found = rw c.plan.ensures at c.in-Some.ensures in
     on_ok_weaker c.lower.result
     (unread_below (plan_of c.args.marked.now) c.args.asked.owner.number c.args.asked.key (first_under c.lower.new.self c.args.listed) (event_of c.in-Some.store) (ap (λ q. q.number) found.0) found.1)

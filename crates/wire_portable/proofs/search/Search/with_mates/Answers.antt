@@ -3,12 +3,12 @@ use Rattle.wire_runs.specs.Plan.{Event, event_of}
 use Rattle.wire_runs.proofs.Basics.{process_within}
 use Rattle.wire_scripts.specs.Planned.{plan_of}
 use Rattle.wire_library_laws.specs.Portable.{IsAsked, Lacks}
-use Rattle.wire_portable.specs.Gets.{place_in, AreUnread}
+use Rattle.wire_portable.specs.Gets.{place_in, AreUnreadBeside}
 use Rattle.wire_portable.specs.Libraries.{family_of}
 use Rattle.wire_portable.specs.Judging.{AreFineMates}
 use Rattle.wire_portable.specs.Searched.{plan_in}
 use Rattle.wire_portable.specs.Sharing.{AreAskedGets}
-use Rattle.wire_portable.proofs.GetsFine.{asked_gets, no_mate, none_lacks}
+use Rattle.wire_portable.proofs.GetsFine.{asked_gets, no_mate, none_lacks, none_of_phase}
 use Rattle.wire_portable.proofs.Sets.{not_all}
 use Rattle.wire_portable.proofs.Had.{has_same}
 use Rattle.wire_portable.proofs.search.Search.with_mates.Goals as goal
@@ -24,13 +24,10 @@ mates-requires-clause-gets c =
     subst (λ s. AreAskedGets (plan_of s) c.args.asked.owner.number places) (sym (c.self.invariant.0 ∙ ap (λ v. v.scripts) c.self.view_is))
     (asked_gets anywhere plan c.args.asked.owner.number (place_in anywhere plan c.args.get.proc.number) places (rw c.in-Some-beside.is at c.beside.ensures))
 
-pub first_beside-first-requires : goal.first_beside-first-requires
-first_beside-first-requires c = process_within (plan_in c.args.self.now) c.args.get.proc.number c.args.get.at _ c.requires.is
-
 pub mates-requires-clause-first : goal.mates-requires-clause-first
 mates-requires-clause-first c =
     let places = map event_of c.in-Some-beside.gets.now in
-    subst (λ s. AreUnread (plan_of s) c.args.asked.owner.number c.first_beside-first.result places) (sym (c.self.invariant.0 ∙ ap (λ v. v.scripts) c.self.view_is))
+    subst (λ s. AreUnreadBeside (plan_of s) c.args.asked.owner.number c.first_beside-first.result (event_of c.args.get) places) (sym (c.self.invariant.0 ∙ ap (λ v. v.scripts) c.self.view_is))
     (c.first_beside-first.ensures places (rw c.in-Some-beside.is at c.beside.ensures))
 
 pub mates-requires-clause-asked : goal.mates-requires-clause-asked
@@ -42,6 +39,10 @@ returns-in_default c = λ library h.
     let key = c.args.asked.key in
     none_lacks library (plan_in c.args.self.now) p key (event_of c.args.get) c.args.self.now.anywhere
     (subst (λ s. (x : Event) → Lacks (plan_of s) p key x → ⊥) (c.self.invariant.0 ∙ ap (λ v. v.scripts) c.self.view_is) c.in_default.ensures)
+
+pub returns-then-is_of_later_phase : goal.returns-then-is_of_later_phase
+returns-then-is_of_later_phase c = λ library h.
+    none_of_phase library (plan_in c.args.self.now) c.args.asked.owner.number c.args.asked.key (event_of c.args.get) c.args.self.now.anywhere (c.is_of_later_phase.ensures c.if-is_of_later_phase.true)
 
 pub returns-in-Some-beside : goal.returns-in-Some-beside
 returns-in-Some-beside c = λ library h.

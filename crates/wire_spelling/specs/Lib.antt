@@ -1,0 +1,5 @@
+pub mod Known
+pub mod Spelling
+pub mod Spelled
+pub mod Numbering
+pub mod Reads

@@ -1,0 +1,39 @@
+"""The commands, as a package that pip installs starts them (pyproject.toml). The scripts at the top
+of the repository do the same, and find the package first."""
+import os
+import sys
+from collections.abc import Callable, Sequence
+
+INTERRUPTED = 130
+
+
+def start(main: Callable[[Sequence[str], str], int]) -> int:
+    """Runs a command on the words of this process. What is built in C, and `wire_up`, is looked for
+    beside the command. Answers its status."""
+    here = os.path.dirname(os.path.realpath(sys.argv[0]))
+    try:
+        return main(sys.argv[1:], here)
+    except KeyboardInterrupt:
+        print(f"{os.path.basename(sys.argv[0])}: interrupted", file=sys.stderr)
+        return INTERRUPTED
+
+
+def record() -> int:
+    """`wire_up-record`."""
+    from wire_up_tools.record.command_line import main
+
+    return start(main)
+
+
+def report() -> int:
+    """`wire_up-report`."""
+    from wire_up_tools.report.command_line import main
+
+    return start(main)
+
+
+def run() -> int:
+    """`wire_up-run`."""
+    from wire_up_tools.run.command_line import main
+
+    return start(main)

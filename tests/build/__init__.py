@@ -1,0 +1,1 @@
+"""Tests of `build/` and of what is installed."""

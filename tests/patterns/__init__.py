@@ -1,0 +1,1 @@
+"""Tests of patterns: `check --pattern` and `expand`."""

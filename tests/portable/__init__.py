@@ -1,0 +1,1 @@
+"""Tests of `check --portable`, and of the axioms of libraries."""

@@ -1,0 +1,1 @@
+"""Programs that hold answers to real launchers and libraries; no tests."""

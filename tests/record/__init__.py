@@ -1,0 +1,1 @@
+"""Tests of `wire_up-record` and of what it preloads."""

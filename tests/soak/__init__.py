@@ -1,0 +1,1 @@
+"""Random plans, patterns and programs, and what a soak holds for each."""

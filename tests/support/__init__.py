@@ -1,0 +1,27 @@
+"""What all tests share: where the repository is, and the built program."""
+import os
+import unittest
+
+from tests import TOP as TOP
+
+
+def program() -> str:
+    """The built `wire_up`: what WIRE_UP_PROGRAM names, else the one at the top of the repository.
+
+    A test that calls this is skipped where there is none.
+    """
+    path = os.environ.get("WIRE_UP_PROGRAM") or os.path.join(TOP, "wire_up")
+    if not os.access(path, os.X_OK):
+        raise unittest.SkipTest("there is no built wire_up: WIRE_UP_PROGRAM names none")
+    return os.path.abspath(path)
+
+
+def parts() -> str:
+    """The program of crates/one_function, which runs functions of the library by themselves.
+
+    A test that calls this is skipped where it isn't built.
+    """
+    path = os.path.join(TOP, "crates", "one_function", "out", "one_function")
+    if not os.access(path, os.X_OK):
+        raise unittest.SkipTest("crates/one_function isn't built: make parts builds it")
+    return path

@@ -1,0 +1,1 @@
+"""Tests of what the Python programs share."""
