@@ -42,7 +42,7 @@ class Soak(unittest.TestCase):
     def test_portable(self) -> None:
         """Libraries for which a plan is portable are looked through."""
         wrote = self.soak("--portable", "--seconds", "6")
-        self.assertRegex(wrote, r"held to the model: \d+ check --portable, \d+ library\b")
+        self.assertRegex(wrote, r"held to the model: [\d,]+ check --portable, [\d,]+ library\b")
 
     def test_inferred(self) -> None:
         """Patterns that are inferred again have the verdict of the first ones. The first two files

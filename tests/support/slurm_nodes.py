@@ -25,6 +25,7 @@ SlurmdUser=root
 AuthType=auth/munge
 CredType=cred/munge
 StateSaveLocation={folder}/state
+TmpFS={folder}/tmp.%n
 SlurmdSpoolDir={folder}/spool.%n
 SlurmctldPidFile={folder}/controller.pid
 SlurmdPidFile={folder}/node.%n.pid
@@ -61,7 +62,8 @@ def configure(folder: str) -> None:
     )
     path = os.path.join(folder, "slurm.conf")
     write_text(path, CONFIGURATION.format(head=HEAD, folder=folder, nodes=nodes))
-    for text in ("state", *(f"spool.{node}" for node in NODES)):
+    # Each node has a folder for temporary files: two that make one there at a time fail at times.
+    for text in ("state", *(f"{word}.{node}" for word in ("spool", "tmp") for node in NODES)):
         os.mkdir(os.path.join(folder, text))
     os.environ["SLURM_CONF"] = path
 
