@@ -2,6 +2,7 @@
 import os
 import re
 import shutil
+import signal
 import stat
 import sys
 import tempfile
@@ -186,6 +187,18 @@ class CommandLineTest(RoomTest):
             ran = ask_program(sys.executable, os.path.join(room, f"wire_up-{name}"))
             self.assertEqual(ran.returncode, 130)
             self.assertEqual(ran.stderr, f"wire_up-{name}: interrupted\n")
+
+    def test_signals_while_it_ends(self) -> None:
+        """Those that come after the first one don't disturb it."""
+        sends = b"while kill -TERM $PPID; do sleep 0.002; done"
+        words = b"#!/bin/sh\n(" + sends + b") > /dev/null 2>&1 < /dev/null &\nsleep 9\n"
+        checker = write_file(os.path.join(self.room, "checker"), words)
+        os.chmod(checker, stat.S_IRWXU)
+        plan = os.path.join(self.room, "plan")
+        ran = ask_program(COMMAND, "--checker", checker, "-o", plan, "--from", self.good)
+        self.assertEqual(ran.returncode, 128 + signal.SIGTERM)
+        self.assertEqual(ran.stderr, "wire_up-record: ended by signal 15\n")
+        self.assertFalse(os.path.exists(plan))
 
     def test_a_link_is_replaced(self) -> None:
         link = os.path.join(self.room, "link")

@@ -216,7 +216,9 @@ def split_runs(words: Sequence[str]) -> Sequence[Sequence[str]]:
 
 
 def stop(number: int, _: FrameType | None) -> None:
-    """Ends what is done when a signal comes."""
+    """Ends what is done when a signal comes. While that ends, no other disturbs it."""
+    for signals in HANDED_ON:
+        signal.signal(signals, signal.SIG_IGN)
     raise Stopped(number)
 
 
