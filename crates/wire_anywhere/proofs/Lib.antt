@@ -7,3 +7,6 @@ pub mod Far
 pub mod Races
 pub mod Order
 pub mod Whole
+pub mod Coming
+pub mod PlacedReplies
+pub mod Listed

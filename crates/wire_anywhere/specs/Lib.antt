@@ -4,3 +4,5 @@ pub mod Gets
 pub mod Carriers
 pub mod Races
 pub mod Order
+pub mod Differing
+pub mod Answered

@@ -1,14 +1,16 @@
 //! Which processes surely have a key before a get-now, on whatever nodes they are.
 
-ghost use Rattle.std.specs.Prelude.{◌≡◌, ◌↔◌, ℕ, Some, IsTrue, map, nat_lt, slice_get};
+ghost use Rattle.std.specs.Prelude.{◌≡◌, ◌≢◌, ◌↔◌, ℕ, Some, IsTrue, map, nat_lt, slice_get};
 ghost use Rattle.wire_runs.specs.Plan.{event_of};
 ghost use Rattle.wire_runs.specs.Plan as runs;
 ghost use Rattle.wire_scripts.specs.Planned.{plan_of};
+ghost use Rattle.wire_runs.specs.Placings.{HasSurely};
 ghost use Rattle.wire_plan.specs.Bringing.{IsRising};
 ghost use Rattle.wire_races.specs.KeyRaces.{IsOpenRead};
-ghost use Rattle.wire_anywhere.specs.Gets.{AreCarrying};
+ghost use Rattle.wire_anywhere.specs.Gets.{AreCarrying, AreGetLists};
 ghost use Rattle.wire_anywhere.specs.Carriers.{IsSureByFence, IsSureByGet, LacksSurely, IsFirstOf, IsLeastLacking};
 
+use crate::gets::GetTable;
 use wire_fates::{KeyRead, all_arrivals, next_arrival};
 use wire_happens_before::MarkedPlan;
 use wire_types::{Event, Proc};
@@ -34,7 +36,7 @@ fn first_of(list: &[Event], proc: Proc) -> Option<Event>
 
 /// Whether a fence brings a key to a process before a get-now in every run. The owner's arrival there tells whether
 /// the fence is complete before the get; where one isn't, no later one is.
-pub(crate) fn fence_brings_surely(marked: &MarkedPlan<'_>, asked: KeyRead, proc: Proc) -> bool
+fn fence_brings_surely(marked: &MarkedPlan<'_>, asked: KeyRead, proc: Proc) -> bool
     requires { IsOpenRead (plan_of marked.now) (event_of asked.get_now) asked.owner.number asked.key }
     ensures { IsTrue result ↔ IsSureByFence (plan_of marked.now) asked.owner.number asked.key proc.number (event_of asked.get_now) }
 {
@@ -59,7 +61,7 @@ pub(crate) fn fence_brings_surely(marked: &MarkedPlan<'_>, asked: KeyRead, proc:
 
 /// Whether a get of a process that brings it a key is before a get-now, given all gets that bring this key away. If
 /// any is, its first one is.
-pub(crate) fn get_brings_surely(
+fn get_brings_surely(
     marked: &MarkedPlan<'_>,
     gets: &[Event],
     asked: KeyRead,
@@ -72,6 +74,26 @@ pub(crate) fn get_brings_surely(
         Some(first) => marked.before(first, asked.get_now),
         None => false,
     }
+}
+
+/// Whether another process than the owner surely has the key before a get-now: a fence or a get of its own brings it
+/// before that in every run.
+pub(crate) fn has_surely(
+    marked: &MarkedPlan<'_>,
+    table: &GetTable,
+    asked: KeyRead,
+    proc: Proc,
+) -> bool
+    requires get { IsOpenRead (plan_of marked.now) (event_of asked.get_now) asked.owner.number asked.key }
+    requires table { AreGetLists (plan_of marked.now) table.now }
+    requires another { proc.number ≢ asked.owner.number }
+    ensures { IsTrue result ↔ HasSurely (plan_of marked.now) asked.owner.number asked.key proc.number (event_of asked.get_now) }
+{
+    if fence_brings_surely(marked, asked, proc) {
+        return true;
+    }
+    let gets = table.carrying(marked.plan(), asked);
+    get_brings_surely(marked, gets, asked, proc)
 }
 
 /// Whether a process is another than the owner, and doesn't surely have the key before a get-now.

@@ -16,7 +16,7 @@ ghost use Rattle.wire_anywhere.specs.Gets.{AreGetLists, AreCarrying};
 ghost use Rattle.wire_anywhere.specs.Carriers.{LacksSurely};
 ghost use Rattle.wire_anywhere.specs.Races.{IsUnsureAnywhere, IsFarBy, IsFarAt, AreFarBelow, AreFarByGets};
 
-use crate::carriers::{fence_brings_surely, first_lacking, get_brings_surely, lacks};
+use crate::carriers::{first_lacking, has_surely, lacks};
 use crate::gets::GetTable;
 use crate::placed::PlacedList;
 use crate::racing_pairs::add_race;
@@ -174,13 +174,10 @@ pub(crate) fn add_far_races(
     ensures { OnOk result (AddsPlacementFindings (plan_of marked.now) found.old found.new
         (IsFarBy (plan_of marked.now) (event_of asked.get_now) asked.owner.number asked.key)) }
 {
-    if fence_brings_surely(marked, asked, asked.get_now.proc) {
+    if has_surely(marked, table, asked, asked.get_now.proc) {
         return Ok(());
     }
     let gets = table.carrying(marked.plan(), asked);
-    if get_brings_surely(marked, gets, asked, asked.get_now.proc) {
-        return Ok(());
-    }
     add_all_late(marked, gets, found, asked)?;
     add_get_races(marked, gets, found, asked)
 }

@@ -12,7 +12,7 @@ use Rattle.wire_json.specs.Json.{quoted, bracketed}
 use Rattle.wire_json.specs.Lined.{line_member}
 use Rattle.wire_report.specs.GroupedText.{said_call}
 use Rattle.wire_report.specs.Place.{line_of, place_text}
-use Rattle.wire_differing.specs.declared.Differing.{Differing}
+use Rattle.wire_anywhere.specs.declared.Differing.{Differing}
 
 -- where the call stands, in a form with places
 abbrev pub place_part : (places : Bool) → List ℕ → List (List ℕ) → CallAt → List ℕ

@@ -11,7 +11,7 @@ ghost use Rattle.wire_anywhere_report.specs.Differing as spec;
 use crate::differing_lines::status_name;
 use crate::placed_json::push_name;
 use std::alloc::{AllocError, Global};
-use wire_differing::Differing;
+use wire_anywhere::Differing;
 use wire_json::{push_list, push_quoted};
 use wire_report::line_of;
 use wire_scripts::Scripts;

@@ -9,7 +9,7 @@ ghost use Rattle.wire_anywhere_report.specs.Differing as spec;
 
 use crate::placed_groups::push_said;
 use std::alloc::{AllocError, Global};
-use wire_differing::Differing;
+use wire_anywhere::Differing;
 use wire_report::{SourceLines, push_place};
 use wire_scripts::Scripts;
 use wire_types::{CallAt, CallEnd, OutputFormat, Proc, Reply, Status};

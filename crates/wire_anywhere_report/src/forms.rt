@@ -12,7 +12,7 @@ use crate::placed_json::{grouped_json, plain_json};
 use crate::placed_lines::lines_text;
 use std::alloc::{AllocError, Global};
 use wire_anywhere::PlacedList;
-use wire_differing::Differing;
+use wire_anywhere::Differing;
 use wire_report::SourceLines;
 use wire_scripts::Scripts;
 use wire_types::OutputFormat;

@@ -18,8 +18,8 @@ use Rattle.wire_anywhere.specs.declared.placed.PlacedFinding.{PlacedFinding}
 use Rattle.wire_anywhere.specs.Anywhere.{AreFoundAnywhere, all_placed}
 use Rattle.wire_anywhere_report.specs.Differing.{differing_form}
 use Rattle.wire_anywhere_report.specs.Forms.{TellsPlaced}
-use Rattle.wire_differing.specs.declared.Differing.{Differing}
-use Rattle.wire_differing.specs.Differing.{IsUntold, IsDifferingTold, AreToldTo, AreToldBelow, AreDiffering}
+use Rattle.wire_anywhere.specs.declared.Differing.{Differing}
+use Rattle.wire_anywhere.specs.Differing.{IsUntold, IsDifferingTold, AreToldTo, AreToldBelow, AreDiffering}
 use Rattle.wire_reader.specs.declared.Size.{Size}
 use Rattle.wire_command.specs.declared.answer.Answer.{Answer}
 use Rattle.wire_command.specs.declared.ended.Ended.{Ended}

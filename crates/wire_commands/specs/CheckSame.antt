@@ -4,10 +4,10 @@ use Rattle.std.specs.Prelude.{◌≡◌, ◌≢◌, ◌⊎◌, ◌<◌, ℕ, Lis
 use Rattle.wire_types.specs.declared.OutputFormat.{OutputFormat}
 use Rattle.wire_scripts.specs.Scripts.{Scripts}
 use Rattle.wire_scripts.specs.Planned.{plan_of}
-use Rattle.wire_differing.specs.declared.Differing.{Differing}
+use Rattle.wire_anywhere.specs.declared.Differing.{Differing}
 use Rattle.wire_runs.specs.Plan.{Plan, Event, process_count}
 use Rattle.wire_runs.specs.Laws.{plain_end}
-use Rattle.wire_differing.specs.Differing.{IsUntold, AreDiffering}
+use Rattle.wire_anywhere.specs.Differing.{IsUntold, AreDiffering}
 use Rattle.wire_anywhere_report.specs.Differing.{differing_form}
 use Rattle.wire_reader.specs.declared.Size.{Size}
 use Rattle.wire_command.specs.declared.ended.Ended.{Ended}

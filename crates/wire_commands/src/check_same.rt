@@ -21,7 +21,7 @@ use wire_anywhere_report::same_text;
 use wire_command::{
     Answer, AnswerStyle, Command, CommandOptions, CommandRun, Ended, Shared, run_command,
 };
-use wire_differing::find_differing;
+use wire_anywhere::find_differing;
 use wire_happens_before::{HappensBefore, MarkedPlan};
 use wire_plan::Plan;
 use wire_runs::placing_laws::settled_anywhere;

@@ -1,5 +1,0 @@
-mod Coming
-mod Firsts
-mod Sure
-mod Placed
-mod Listed

@@ -1,6 +1,0 @@
-use Rattle.wire_scripts.specs.Planned.{plan_of}
-use Rattle.wire_differing.specs.Differing.{AreToldBelow}
-use Rattle.wire_differing.proofs.search.all_differing.Given as goal
-
-abbrev pub invariant-loop-number : goal.invariant-loop-number
-invariant-loop-number l = AreToldBelow (plan_of l.marked) l.number l.found.items

@@ -1,3 +1,0 @@
-pub mod Differing
-pub mod Answered
-pub mod Surely
