@@ -61,12 +61,7 @@ fn fence_brings_surely(marked: &MarkedPlan<'_>, asked: KeyRead, proc: Proc) -> b
 
 /// Whether a get of a process that brings it a key is before a get-now, given all gets that bring this key away. If
 /// any is, its first one is.
-fn get_brings_surely(
-    marked: &MarkedPlan<'_>,
-    gets: &[Event],
-    asked: KeyRead,
-    proc: Proc,
-) -> bool
+fn get_brings_surely(marked: &MarkedPlan<'_>, gets: &[Event], asked: KeyRead, proc: Proc) -> bool
     requires { AreCarrying (plan_of marked.now) asked.owner.number asked.key (map event_of gets.now) }
     ensures { IsTrue result ↔ IsSureByGet (plan_of marked.now) asked.owner.number asked.key proc.number (event_of asked.get_now) }
 {
@@ -89,11 +84,8 @@ pub(crate) fn has_surely(
     requires another { proc.number ≢ asked.owner.number }
     ensures { IsTrue result ↔ HasSurely (plan_of marked.now) asked.owner.number asked.key proc.number (event_of asked.get_now) }
 {
-    if fence_brings_surely(marked, asked, proc) {
-        return true;
-    }
-    let gets = table.carrying(marked.plan(), asked);
-    get_brings_surely(marked, gets, asked, proc)
+    fence_brings_surely(marked, asked, proc)
+        || get_brings_surely(marked, table.carrying(marked.plan(), asked), asked, proc)
 }
 
 /// Whether a process is another than the owner, and doesn't surely have the key before a get-now.

@@ -15,13 +15,12 @@ ghost use Rattle.wire_commands.specs.CheckSame.{IsSameEverywhere, IsSameVerdict,
 use crate::check_anywhere::answer_found;
 use std::alloc::Global;
 use std::thread::Threads;
-use wire_anywhere::find_anywhere;
 use wire_anywhere::laws::settled_exactly;
+use wire_anywhere::{find_anywhere, find_differing};
 use wire_anywhere_report::same_text;
 use wire_command::{
     Answer, AnswerStyle, Command, CommandOptions, CommandRun, Ended, Shared, run_command,
 };
-use wire_anywhere::find_differing;
 use wire_happens_before::{HappensBefore, MarkedPlan};
 use wire_plan::Plan;
 use wire_runs::placing_laws::settled_anywhere;

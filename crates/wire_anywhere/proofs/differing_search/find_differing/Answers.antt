@@ -6,4 +6,4 @@ pub stuck_events-requires : goal.stuck_events-requires
 stuck_events-requires c = settled_here (plan_of c.args.marked.now) c.requires
 
 pub all_differing-requires-clause-table : goal.all_differing-requires-clause-table
-all_differing-requires-clause-table c = rw c.plan.ensures at c.in_ok-of.ensures
+all_differing-requires-clause-table c = rw c.plan.ensures at c.in_ok-table.ensures
