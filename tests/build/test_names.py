@@ -23,13 +23,12 @@ OF_LANGUAGES = {
 # Each has one sense: of the findings or gets of one placement, and of those of all.
 OF_PLACEMENTS = {
     "AreGetLists", "AreGetsTo", "AreKeptGets", "ArePieces", "IsGroupedJson", "IsGroupedText",
-    "IsInSome", "IsKeptGet", "IsPiece", "IsSureAt", "IsSureByFence", "IsSureByGet", "ToldIn",
+    "IsInSome", "IsKeptGet", "IsPiece", "IsSureByFence", "IsSureByGet", "ToldIn",
 }
 
 # Each has one sense, for lists of events, of clocks or of fates, and for calls.
 OF_LISTS = {
-    "Clocks", "IsAmong", "IsCall", "IsEarliest", "IsFirstOf", "IsRising", "IsUntold",
-    "RefusesOrder",
+    "Clocks", "IsCall", "IsRising", "IsUntold", "RefusesOrder",
 }
 
 
