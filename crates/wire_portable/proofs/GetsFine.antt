@@ -8,7 +8,7 @@ use Rattle.wire_portable.specs.declared.listed.Unportable.{Unportable}
 use Rattle.wire_portable.specs.Libraries.{family_of}
 use Rattle.wire_portable.specs.Adding.{AddsUnportable}
 use Rattle.wire_portable.specs.Gets.{place_in, AreOpenGets}
-use Rattle.wire_portable.specs.Phases.{IsOfLaterPhase}
+use Rattle.wire_portable.specs.Phases.{IsThereUnlessEnded}
 use Rattle.wire_portable.specs.Sharing.{AreAskedGets}
 use Rattle.wire_portable.specs.Judging.{NoRewrites, IsEndedNear, IsEndedFar, AreFineMates}
 use Rattle.wire_portable.specs.Searched.{MayBe, may_be, HasNoMate, IsNearFine, IsFarFine}
@@ -57,7 +57,7 @@ module _ (library : Library) (plan : Plan) (p key : ℕ) (g : Event) where
   none_lacks anywhere never h other_key is other asked differ there not_first not_last commit lacks has = absurd (never commit lacks)
 
   -- where its key is stored in an earlier phase, g has none
-  pub none_of_phase : (anywhere : Bool) → IsOfLaterPhase plan p key g → HasNoMate anywhere library plan p key g
+  pub none_of_phase : (anywhere : Bool) → IsThereUnlessEnded plan p key g → HasNoMate anywhere library plan p key g
   none_of_phase anywhere later h other_key is other asked differ there not_first not_last commit lacks has =
       elim (later h p other_key is asked) [ inl e ↦ absurd (not_last e) | inr t ↦ t ]
 

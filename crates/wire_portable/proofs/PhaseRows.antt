@@ -17,7 +17,7 @@ use Rattle.wire_plan.specs.declared.kind.Kind.{Kind as CodeKind}
 use Rattle.wire_plan.specs.declared.kind.Kind.TheVariants as code
 use Rattle.wire_plan.specs.Kinds.{kind_of}
 use Rattle.wire_library_laws.specs.Portable.{IsAsked}
-use Rattle.wire_portable.specs.Phases.{IsOfAll, phase_of, IsPhaseRow, ArePhases, IsOfLaterPhase}
+use Rattle.wire_portable.specs.Phases.{IsOfAll, phase_of, IsPhaseRow, ArePhases, IsThereUnlessEnded}
 use Rattle.wire_portable.proofs.Parted.{parted}
 
 -- an event that isn't an arrival counts nothing
@@ -144,7 +144,7 @@ no_phases plan x h k p key is_x is_h asked lt = let a = one_phase x in let b = o
 
 -- a key that is stored in an earlier phase than a get's is there for all gets that haven't ended when it is asked
 pub later_phase : (plan : Plan) (rows : List (List ℕ)) (p key : ℕ) (x g : Event) (q other : ℕ) → ArePhases plan rows → x.proc ≡ p → Stores plan x key → kind plan g ≡ Some (Get q other) →
-    phase_of rows x < phase_of rows g → IsAsked plan g → IsOfLaterPhase plan p key g
+    phase_of rows x < phase_of rows g → IsAsked plan g → IsThereUnlessEnded plan p key g
 later_phase plan rows p key x g q other phases its stores is_g lt asked h r last is_h asked_h = elim (cases_lt (phase_of rows h) (phase_of rows g)) [
   | inl low ↦ inl (phases h g (Get r last) q other is_h is_g asked low)
   | inr high ↦ inr (record {

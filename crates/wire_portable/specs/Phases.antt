@@ -23,8 +23,8 @@ ArePhases plan rows =
     (x h : Event) (k : Kind) (p key : ℕ) → kind plan x ≡ Some k → kind plan h ≡ Some (Get p key) → IsAsked plan h → phase_of rows x < phase_of rows h
     → EndsFirst plan x h
 
--- each get has ended when g is asked, or p's key is there when that get is asked: so it is where the commit is of an earlier
+-- p's key is there when a get is asked, unless that get has ended when g is asked: so it is where the commit is of an earlier
 -- phase than g
-abbrev pub IsOfLaterPhase : Plan → ℕ → ℕ → Event → Type 0
-IsOfLaterPhase plan p key g =
+abbrev pub IsThereUnlessEnded : Plan → ℕ → ℕ → Event → Type 0
+IsThereUnlessEnded plan p key g =
     (h : Event) (q other : ℕ) → kind plan h ≡ Some (Get q other) → IsAsked plan h → EndsFirst plan h g ⊎ IsThereFirst plan p key h

@@ -7,7 +7,7 @@ ghost use Rattle.wire_runs.specs.Puts.{stored};
 ghost use Rattle.wire_scripts.specs.Planned.{plan_of};
 ghost use Rattle.wire_library_laws.specs.Portable.{IsAsked};
 ghost use Rattle.wire_portable.specs.Gets.{place_in, gets_under, first_under, AreGetsTo, AreGetLists, AreOpenGets, AreFirst, AreUnreadBeside, IsGetTable};
-ghost use Rattle.wire_portable.specs.Phases.{ArePhases, IsOfLaterPhase};
+ghost use Rattle.wire_portable.specs.Phases.{ArePhases, IsThereUnlessEnded};
 
 use crate::asked::is_asked;
 use crate::hearing::Hearing;
@@ -277,7 +277,7 @@ impl GetTable {
         requires phases { ArePhases (plan_of marked.now) self.now.phases }
         requires is { kind (plan_of marked.now) (event_of get) ≡ Some (Get asked.owner.number asked.key) }
         requires asked { IsAsked (plan_of marked.now) (event_of get) }
-        ensures { IsTrue result → IsOfLaterPhase (plan_of marked.now) asked.owner.number asked.key (event_of get) }
+        ensures { IsTrue result → IsThereUnlessEnded (plan_of marked.now) asked.owner.number asked.key (event_of get) }
     {
         match marked.plan().store_of(asked.owner, asked.key) {
             Some(store) => self.phases.phase(store) < self.phases.phase(get),

@@ -8,7 +8,7 @@ ghost use Rattle.wire_runs.specs.Plan.{Get, GetNow, Publish, Put, Unpublish, kin
 ghost use Rattle.wire_runs.specs.Races.{IsSettled};
 ghost use Rattle.wire_library_laws.specs.Portable.{IsAsked};
 ghost use Rattle.wire_portable.specs.Gets.{place_in, AreOpenGets, AreUnreadBeside, IsGetTable};
-ghost use Rattle.wire_portable.specs.Phases.{IsOfLaterPhase};
+ghost use Rattle.wire_portable.specs.Phases.{IsThereUnlessEnded};
 ghost use Rattle.wire_portable.specs.declared.libraries.Library.{Library as L};
 ghost use Rattle.wire_portable.specs.Adding.{AddsUnportable};
 ghost use Rattle.wire_portable.specs.Judging.{IsNoRewrite};
@@ -165,7 +165,7 @@ impl Search<'_> {
     fn is_of_later_phase(&self, get: Event, asked: Key) -> bool
         requires is { kind (plan_in self.now) (event_of get) ≡ Some (Get asked.owner.number asked.key) }
         requires asked { IsAsked (plan_in self.now) (event_of get) }
-        ensures { IsTrue result → IsOfLaterPhase (plan_in self.now) asked.owner.number asked.key (event_of get) }
+        ensures { IsTrue result → IsThereUnlessEnded (plan_in self.now) asked.owner.number asked.key (event_of get) }
     {
         match self.gets {
             Some(table) => table.is_of_later_phase(self.marked, get, asked),

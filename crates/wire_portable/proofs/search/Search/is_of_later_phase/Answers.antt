@@ -4,7 +4,7 @@ use Rattle.wire_runs.specs.Plan.{Get, kind, event_of}
 use Rattle.wire_scripts.specs.Planned.{plan_of}
 use Rattle.wire_library_laws.specs.Portable.{IsAsked}
 use Rattle.wire_portable.specs.Gets.{IsGetTable}
-use Rattle.wire_portable.specs.Phases.{IsOfLaterPhase}
+use Rattle.wire_portable.specs.Phases.{IsThereUnlessEnded}
 use Rattle.wire_portable.specs.Searched.{Searched}
 use Rattle.wire_portable.proofs.search.Search.is_of_later_phase.Goals as goal
 
@@ -22,5 +22,5 @@ is_of_later_phase-requires-clause-asked c = subst (λ s. IsAsked (plan_of s) (ev
 
 pub returns-in-Some : goal.returns-in-Some
 returns-in-Some c =
-    subst (λ s. IsTrue c.is_of_later_phase.result → IsOfLaterPhase (plan_of s) c.args.asked.owner.number c.args.asked.key (event_of c.args.get)) (ap (λ (v : Searched). v.scripts) c.self.view_is)
+    subst (λ s. IsTrue c.is_of_later_phase.result → IsThereUnlessEnded (plan_of s) c.args.asked.owner.number c.args.asked.key (event_of c.args.get)) (ap (λ (v : Searched). v.scripts) c.self.view_is)
     c.is_of_later_phase.ensures
