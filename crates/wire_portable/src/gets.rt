@@ -317,9 +317,9 @@ impl GetTable {
         self.lists.is_empty()
     }
 
-    /// What processes hear of each other, where gets are listed.
+    /// What processes hear of each other, where gets are listed by nodes: else nobody asks.
     pub(crate) fn hearing(&self, alloc: Global, plan: &Plan) -> Result<Hearing, AllocError> {
-        if self.is_empty() {
+        if self.together || self.is_empty() {
             return Ok(Hearing::empty(alloc));
         }
         Hearing::for_nows(alloc, plan, &self.phases)
