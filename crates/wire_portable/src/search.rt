@@ -17,7 +17,7 @@ ghost use Rattle.wire_portable.specs.Libraries.{family_of, has};
 ghost use Rattle.wire_portable.specs.Named.{FindsFree, FindsOwnName};
 ghost use Rattle.wire_portable.specs.Nows.{IsLiveNow, IsNearNowFine, IsFarNowFine};
 ghost use Rattle.wire_portable.specs.Searched.{plan_in, words_in, MayBe, may_be, HasNoMate, IsNearFine, IsFarFine, IsGetFine};
-ghost use Rattle.wire_portable.specs.Unportable.{AreUnportable, AreUnportableAnywhere, AreUnportableOn, IsUnblamed};
+ghost use Rattle.wire_portable.specs.Unportable.{AreUnportable, AreUnportableAnywhere, AreUnportableOn, EachNamesSome, IsUnblamed};
 
 use crate::asked::is_asked;
 use crate::fences::{SetTable, add_fence, all_if};
@@ -574,7 +574,8 @@ fn lines_of(
 }
 
 /// The calls of a plan by which it isn't portable, each once by each rule, in the order of processes, calls and rules
-/// (that they are these, once and in order, is only tested). For a library that none of them has, the plan is portable.
+/// (that they are these, once and in order, is only tested), with the libraries for which it isn't. For a library that
+/// none of them has, the plan is portable.
 /// `settled` says that nothing is found in the plan: then it is told by the plain run whether a name is there. The one
 /// fault is `Fault::Memory`.
 pub fn find_unportable(
@@ -585,9 +586,11 @@ pub fn find_unportable(
 ) -> Result<UnportableList, Fault>
     requires { settled ≡ true → IsSettled (plan_of marked.now) }
     ensures ok { IfOk result (AreUnportable marked.now spelling.now) }
+    ensures named { IfOk result EachNamesSome }
     ensures memory { IsOkUnless result Fault.Memory }
 {
     let found = lines_of(alloc, marked, spelling, settled, false)?;
+    found.each_names_some();
     Ok(found)
 }
 
@@ -601,8 +604,10 @@ pub fn find_unportable_anywhere(
 ) -> Result<UnportableList, Fault>
     requires { settled ≡ true → IsSettled (plan_of marked.now) }
     ensures ok { IfOk result (AreUnportableAnywhere marked.now spelling.now) }
+    ensures named { IfOk result EachNamesSome }
     ensures memory { IsOkUnless result Fault.Memory }
 {
     let found = lines_of(alloc, marked, spelling, settled, true)?;
+    found.each_names_some();
     Ok(found)
 }

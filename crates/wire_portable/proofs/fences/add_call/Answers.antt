@@ -9,7 +9,6 @@ use Rattle.wire_portable.specs.Adding.{AddsUnportable}
 use Rattle.wire_portable.specs.Libraries.{has}
 use Rattle.wire_portable.proofs.Added.{adds_all, adds_other}
 use Rattle.wire_portable.proofs.PlainFences.{arrives, arrivals_within, own_arrival, plain_call}
-use Rattle.wire_portable.proofs.Sets.{not_false}
 use Rattle.wire_portable.proofs.fences.add_call.Goals as goal
 
 pub all_arrivals-arrivals-requires : goal.all_arrivals-arrivals-requires
@@ -38,7 +37,7 @@ add_first-requires-clause-arrives c = arrives c.args.plan.now c.scripts.ensures.
 
 pub add_first-requires-clause-alike : goal.add_first-requires-clause-alike
 add_first-requires-clause-alike c =
-    sym c.number_at-number.ensures ∙ c.are_same.ensures.0 (not_false c.are_same.result c.if-not-are_same.false) ∙ c.spelt_first.ensures
+    sym c.number_at-number.ensures ∙ c.are_same.ensures.0 c.if-not-are_same.false ∙ c.spelt_first.ensures
 
 pub blame-requires : goal.blame-requires
 blame-requires c = event_within (plan_of c.args.plan.now) c.args.call.arrival.proc.number c.args.call.arrival.at _ c.requires.is
