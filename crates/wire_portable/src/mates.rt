@@ -14,8 +14,10 @@ ghost use Rattle.wire_portable.specs.Judging.{AreFineMates};
 ghost use Rattle.wire_portable.specs.Sharing.{AreAskedGets, AreTurns, IsApart};
 
 use crate::asked::ends_first;
+use crate::gets::AskedBeside;
 use crate::judge::{Judge, Key};
 use crate::libraries::Libraries;
+use crate::phases::Phases;
 use wire_fates::process_end;
 use wire_plan::Kind;
 use wire_types::{Event, Proc};
@@ -165,37 +167,54 @@ pub(crate) fn mates(
     found
 }
 
-/// Whether the gets beside an event are asked for: it is a get-now of another process's key, or a get of such a key that
-/// isn't there after some commit of the owner.
-fn is_beside_gets(judge: &Judge<'_>, event: Event) -> bool
+/// Whether a get may share its request with one that is answered too early, so that those beside it are asked for: its key
+/// isn't stored in an earlier phase, nor by the owner's first commit.
+fn may_have_mates(judge: &Judge<'_>, phases: &Phases, get: Event, asked: Key) -> bool {
+    !phases.is_stored_earlier(judge.plan(), get, asked) && judge.last_lacking(asked).is_some()
+}
+
+/// Takes up for what the gets beside an event are asked.
+fn take_asked(judge: &Judge<'_>, phases: &Phases, event: Event, asked: AskedBeside) -> AskedBeside
     requires { event.at < event_count (plan_of judge.now) event.proc.number }
 {
     match judge.plan().kind(event) {
-        Kind::GetNow { owner, .. } => owner.number != event.proc.number,
+        Kind::GetNow { owner, .. } => AskedBeside {
+            nows: asked.nows || owner.number != event.proc.number,
+            ..asked
+        },
         Kind::Get { owner, key } => {
-            owner.number != event.proc.number && judge.last_lacking(Key { owner, key }).is_some()
+            let mates = asked.mates
+                || (owner.number != event.proc.number
+                    && may_have_mates(judge, phases, event, Key { owner, key }));
+            AskedBeside { mates, ..asked }
         }
-        _ => false,
+        _ => asked,
     }
 }
 
-/// Whether some event of a process is such a one.
-fn some_beside_gets(judge: &Judge<'_>, proc: Proc) -> bool {
+/// Takes up the events of a process.
+fn take_all_asked(
+    judge: &Judge<'_>,
+    phases: &Phases,
+    proc: Proc,
+    before: AskedBeside,
+) -> AskedBeside {
+    let mut asked = before;
     for at in 0..judge.plan().event_count(proc) {
-        if is_beside_gets(judge, Event { proc, at }) {
-            return true;
-        }
+        asked = take_asked(judge, phases, Event { proc, at }, asked);
     }
-    false
+    asked
 }
 
-/// Whether the gets beside some event of a plan are asked for. They aren't in a plan without get-nows whose processes
-/// commit once each.
-pub(crate) fn asks_for_gets(judge: &Judge<'_>) -> bool {
+/// For what the gets beside events of a plan are asked. In a plan without get-nows whose processes commit once each, or
+/// get in later phases what they commit, they aren't.
+pub(crate) fn asked_beside(judge: &Judge<'_>, phases: &Phases) -> AskedBeside {
+    let mut asked = AskedBeside {
+        mates: false,
+        nows: false,
+    };
     for number in 0..judge.plan().process_count() {
-        if some_beside_gets(judge, Proc { number }) {
-            return true;
-        }
+        asked = take_all_asked(judge, phases, Proc { number }, asked);
     }
-    false
+    asked
 }

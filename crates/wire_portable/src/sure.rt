@@ -28,7 +28,7 @@ use wire_types::{Event, Proc};
 #[derive(Clone, Copy)]
 pub(crate) struct Beside<'a> {
     pub gets: &'a [Event],
-    pub table: Option<&'a GetTable>,
+    pub table: Option<&'a GetTable<'a>>,
     pub hearing: &'a Hearing,
 }
 
@@ -318,7 +318,7 @@ fn unsure(judge: &Judge<'_>, beside: Beside<'_>, get: Event, asked: Key, store: 
 }
 
 /// Whether a get where a get-now is may have brought a key that this commit stores.
-fn is_brought(judge: &Judge<'_>, table: Option<&GetTable>, get: Event, store: Event) -> bool
+fn is_brought(judge: &Judge<'_>, table: Option<&GetTable<'_>>, get: Event, store: Event) -> bool
     requires { get.proc.number < process_count (plan_of judge.now) }
 {
     match table {
