@@ -20,11 +20,12 @@ use wire_happens_before::MarkedPlan;
 use wire_plan::{Kind, Plan};
 use wire_types::{Event, Proc};
 
-/// For what the gets beside others are asked: for those with which a get may share its request, and for those that may
-/// bring a key to a get-now.
+/// How the processes of a plan read each other's keys: whether some get waits for one, whether some such key isn't
+/// stored by its owner's first commit, and whether some get doesn't wait.
 #[derive(Clone, Copy)]
-pub(crate) struct AskedBeside {
-    pub mates: bool,
+pub(crate) struct ReadWays {
+    pub gets: bool,
+    pub late: bool,
     pub nows: bool,
 }
 
@@ -228,13 +229,13 @@ impl<'a> GetTable<'a> {
         alloc: Global,
         marked: &MarkedPlan<'_>,
         phases: &'a Phases,
-        asked: AskedBeside,
+        reads: ReadWays,
         together: bool,
     ) -> Result<GetTable<'a>, AllocError>
         requires { ArePhases (plan_of marked.now) phases.now }
         ensures { IfOk result (λ table. IsGetTable together (plan_of marked.now) table) }
     {
-        let count = if asked.nows && !together {
+        let count = if reads.nows && !together {
             phases.count()
         } else {
             0

@@ -14,7 +14,7 @@ ghost use Rattle.wire_portable.specs.Judging.{AreFineMates};
 ghost use Rattle.wire_portable.specs.Sharing.{AreAskedGets, AreTurns, IsApart};
 
 use crate::asked::ends_first;
-use crate::gets::AskedBeside;
+use crate::gets::ReadWays;
 use crate::judge::{Judge, Key};
 use crate::libraries::Libraries;
 use crate::phases::Phases;
@@ -167,54 +167,96 @@ pub(crate) fn mates(
     found
 }
 
-/// Whether a get may share its request with one that is answered too early, so that those beside it are asked for: its key
-/// isn't stored in an earlier phase, nor by the owner's first commit.
-fn may_have_mates(judge: &Judge<'_>, phases: &Phases, get: Event, asked: Key) -> bool {
-    !phases.is_stored_earlier(judge.plan(), get, asked) && judge.last_lacking(asked).is_some()
+/// Whether a get's key isn't stored by the owner's first commit.
+fn is_late(judge: &Judge<'_>, asked: Key) -> bool {
+    judge.last_lacking(asked).is_some()
 }
 
-/// Takes up for what the gets beside an event are asked.
-fn take_asked(judge: &Judge<'_>, phases: &Phases, event: Event, asked: AskedBeside) -> AskedBeside
+/// Takes up an event among the reads of a plan.
+fn take_read(judge: &Judge<'_>, event: Event, reads: ReadWays) -> ReadWays
     requires { event.at < event_count (plan_of judge.now) event.proc.number }
 {
     match judge.plan().kind(event) {
-        Kind::GetNow { owner, .. } => AskedBeside {
-            nows: asked.nows || owner.number != event.proc.number,
-            ..asked
+        Kind::GetNow { owner, .. } => ReadWays {
+            nows: reads.nows || owner.number != event.proc.number,
+            ..reads
         },
         Kind::Get { owner, key } => {
-            let mates = asked.mates
-                || (owner.number != event.proc.number
-                    && may_have_mates(judge, phases, event, Key { owner, key }));
-            AskedBeside { mates, ..asked }
+            if owner.number == event.proc.number {
+                return reads;
+            }
+            ReadWays {
+                gets: true,
+                late: reads.late || is_late(judge, Key { owner, key }),
+                ..reads
+            }
         }
-        _ => asked,
+        _ => reads,
     }
 }
 
 /// Takes up the events of a process.
-fn take_all_asked(
-    judge: &Judge<'_>,
-    phases: &Phases,
-    proc: Proc,
-    before: AskedBeside,
-) -> AskedBeside {
-    let mut asked = before;
+fn take_all_reads(judge: &Judge<'_>, proc: Proc, before: ReadWays) -> ReadWays {
+    let mut reads = before;
     for at in 0..judge.plan().event_count(proc) {
-        asked = take_asked(judge, phases, Event { proc, at }, asked);
+        reads = take_read(judge, Event { proc, at }, reads);
     }
-    asked
+    reads
 }
 
-/// For what the gets beside events of a plan are asked. In a plan without get-nows whose processes commit once each, or
-/// get in later phases what they commit, they aren't.
-pub(crate) fn asked_beside(judge: &Judge<'_>, phases: &Phases) -> AskedBeside {
-    let mut asked = AskedBeside {
-        mates: false,
+/// How the processes of a plan read each other's keys.
+pub(crate) fn reads_of(judge: &Judge<'_>) -> ReadWays {
+    let mut reads = ReadWays {
+        gets: false,
+        late: false,
         nows: false,
     };
     for number in 0..judge.plan().process_count() {
-        asked = take_all_asked(judge, phases, Proc { number }, asked);
+        reads = take_all_reads(judge, Proc { number }, reads);
     }
-    asked
+    reads
+}
+
+/// Whether an event is a get that may share its request with one that is answered too early: of another process's key,
+/// which isn't stored in an earlier phase, nor by the owner's first commit.
+fn may_have_mates(judge: &Judge<'_>, phases: &Phases, event: Event) -> bool
+    requires { event.at < event_count (plan_of judge.now) event.proc.number }
+{
+    match judge.plan().kind(event) {
+        Kind::Get { owner, key } => {
+            let asked = Key { owner, key };
+            owner.number != event.proc.number
+                && !phases.is_stored_earlier(judge.plan(), event, asked)
+                && is_late(judge, asked)
+        }
+        _ => false,
+    }
+}
+
+/// Whether some event of a process is.
+fn some_have_mates(judge: &Judge<'_>, phases: &Phases, proc: Proc) -> bool {
+    for at in 0..judge.plan().event_count(proc) {
+        if may_have_mates(judge, phases, Event { proc, at }) {
+            return true;
+        }
+    }
+    false
+}
+
+/// Whether some event of a plan is.
+fn any_has_mates(judge: &Judge<'_>, phases: &Phases) -> bool {
+    for number in 0..judge.plan().process_count() {
+        if some_have_mates(judge, phases, Proc { number }) {
+            return true;
+        }
+    }
+    false
+}
+
+/// The same, where what is stored in an earlier phase isn't late.
+pub(crate) fn by_phases(judge: &Judge<'_>, phases: &Phases, reads: ReadWays) -> ReadWays {
+    ReadWays {
+        late: reads.late && any_has_mates(judge, phases),
+        ..reads
+    }
 }

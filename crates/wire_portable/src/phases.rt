@@ -223,7 +223,7 @@ impl Phases {
     }
 
     /// All that processes do is one phase.
-    fn one(alloc: Global) -> Phases
+    pub(crate) fn one(alloc: Global) -> Phases
         ensures { result ≡ [] }
     {
         Phases {

@@ -21,12 +21,12 @@ ghost use Rattle.wire_portable.specs.Unportable.{AreUnportable, AreUnportableAny
 
 use crate::asked::is_asked;
 use crate::fences::{SetTable, add_fence, all_if};
-use crate::gets::{AskedBeside, GetTable};
+use crate::gets::{GetTable, ReadWays};
 use crate::hearing::Hearing;
 use crate::judge::{Judge, Key};
 use crate::libraries::Libraries;
 use crate::listed::{Rule, UnportableList};
-use crate::mates::{asked_beside, mates};
+use crate::mates::{by_phases, mates, reads_of};
 use crate::names::{is_missed, is_published, stuck_lookups};
 use crate::nows::sees_remote;
 use crate::own_calls::now_anywhere;
@@ -515,28 +515,38 @@ impl Search<'_> {
     }
 }
 
-/// The phases of a plan.
-fn phases_of(alloc: Global, marked: &MarkedPlan<'_>) -> Result<Phases, AllocError>
-    ensures { IfOk result (λ phases. ArePhases (plan_of marked.now) phases) }
-{
-    Phases::of(alloc, marked.plan())
+/// Whether phases matter to how keys are read: to gets whose keys come late, and to get-nows beside gets.
+fn ask_for_phases(reads: ReadWays) -> bool {
+    reads.late || (reads.gets && reads.nows)
 }
 
-/// The gets of a plan, where some call asks for those beside it.
+/// The phases of a plan, where they matter. Else all is one phase.
+fn phases_of(alloc: Global, marked: &MarkedPlan<'_>, reads: ReadWays) -> Result<Phases, AllocError>
+    ensures { IfOk result (λ phases. ArePhases (plan_of marked.now) phases) }
+{
+    if ask_for_phases(reads) {
+        Phases::of(alloc, marked.plan())
+    } else {
+        Ok(Phases::one(alloc))
+    }
+}
+
+/// The gets of a plan, where those beside some call are asked for: beside a get-now, or a get that may share its request
+/// with one that is answered too early.
 fn gets_of<'a>(
     alloc: Global,
     marked: &MarkedPlan<'_>,
     phases: &'a Phases,
-    asked: AskedBeside,
+    reads: ReadWays,
     anywhere: bool,
 ) -> Result<Option<GetTable<'a>>, AllocError>
     requires { ArePhases (plan_of marked.now) phases.now }
     ensures { IfOk result (λ gets. MatchOption gets (Unit {0}) (λ g. IsGetTable anywhere (plan_of marked.now) g)) }
 {
-    if !asked.mates && !asked.nows {
+    if !reads.late && !reads.nows {
         return Ok(None);
     }
-    let gets = GetTable::of(alloc, marked, phases, asked, anywhere)?;
+    let gets = GetTable::of(alloc, marked, phases, reads, anywhere)?;
     Ok(Some(gets))
 }
 
@@ -545,10 +555,10 @@ fn hearing_of(
     alloc: Global,
     marked: &MarkedPlan<'_>,
     gets: Option<&GetTable<'_>>,
-    asked: AskedBeside,
+    reads: ReadWays,
 ) -> Result<Hearing, AllocError> {
     match gets {
-        Some(table) if asked.nows => table.hearing(alloc, marked.plan()),
+        Some(table) if reads.nows => table.hearing(alloc, marked.plan()),
         _ => Ok(Hearing::empty(alloc)),
     }
 }
@@ -567,10 +577,11 @@ fn lines_of(
     // Scripts are sound.
     let _ = marked.plan().scripts();
     let judge = Judge::of(alloc, marked)?;
-    let phases = phases_of(alloc, marked)?;
-    let asked = asked_beside(&judge, &phases);
-    let gets = gets_of(alloc, marked, &phases, asked, anywhere)?;
-    let hearing = hearing_of(alloc, marked, gets.as_ref(), asked)?;
+    let first_reads = reads_of(&judge);
+    let phases = phases_of(alloc, marked, first_reads)?;
+    let reads = by_phases(&judge, &phases, first_reads);
+    let gets = gets_of(alloc, marked, &phases, reads, anywhere)?;
+    let hearing = hearing_of(alloc, marked, gets.as_ref(), reads)?;
     let sets = SetTable::of(alloc, marked, spelling)?;
     let stuck = stuck_lookups(alloc, marked, settled)?;
     let search = Search {
