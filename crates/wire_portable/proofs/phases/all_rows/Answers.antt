@@ -1,6 +1,6 @@
-use Rattle.std.proofs.Common.{◌∙◌, ◌+◌, ◌≤◌, ◌≡◌, Some, map, ap, sym, subst, arith}
+use Rattle.std.proofs.Common.{◌∙◌, ◌+◌, ◌≤◌, map, ap, sym, subst, arith}
 use Rattle.std.proofs.lemmas.List.{map_push}
-use Rattle.wire_runs.specs.Plan.{process_count, set_of}
+use Rattle.wire_runs.specs.Plan.{process_count}
 use Rattle.wire_scripts.specs.Planned.{plan_of}
 use Rattle.wire_portable.specs.Phases.{IsMainRow}
 use Rattle.wire_portable.proofs.PhaseRows.{AreMainRowsTo, no_main_rows, main_row_added, main_rows}

@@ -1,4 +1,4 @@
-use Rattle.std.proofs.Common.{◌≡◌, ◌+◌, ◌<◌, inl, inr, ap, subst, sym, arith}
+use Rattle.std.proofs.Common.{◌≡◌, inl, inr, subst, sym, arith}
 use Rattle.std.proofs.lemmas.Bool.{cases_eq}
 use Rattle.wire_portable.specs.Phases.{main_of}
 use Rattle.wire_portable.proofs.phases.are_same.Goals as goal

@@ -1,8 +1,6 @@
-use Rattle.std.proofs.Common.{◌∙◌, ap, sym, subst, Some}
+use Rattle.std.proofs.Common.{◌∙◌, sym}
 use Rattle.std.proofs.lemmas.Option.{same_Some}
-use Rattle.wire_plan.specs.Kinds.{kind_of}
 use Rattle.wire_plan.proofs.KeptGets.{no_get}
-use Rattle.wire_portable.specs.Phases.{main_of}
 use Rattle.wire_portable.proofs.phases.is_within.Goals as goal
 
 pub returns-in_default : goal.returns-in_default
