@@ -137,18 +137,18 @@ pub data HasCome (family : Family) (plan : Plan) (past : List Moment) (node owne
       HasCome family plan past node owner key u
 
 -- a member of a fence on this node, of the owner's job
-pub record IsMate (words : Words) (plan : Plan) (members : List ℕ) (node owner mate : ℕ) : Type 0 where
-  pub member : is_member members mate ≡ true
-  pub there : node_of plan mate ≡ node
-  pub job : words.job mate ≡ words.job owner
+pub record IsJobMember (words : Words) (plan : Plan) (members : List ℕ) (node owner other : ℕ) : Type 0 where
+  pub member : is_member members other ≡ true
+  pub there : node_of plan other ≡ node
+  pub job : words.job other ≡ words.job owner
 
 -- by what it has surely come: where fences bring, a process of the node has left a fence that brings the key, all of
 -- whose calls collect, and some member there is of the owner's job; or a get there of a key that was committed no
 -- earlier has got its value. Measured: a node keeps what was brought to it; by a fence a node without a job gets no
 -- keys of it (4.2, 7.0)
 pub data SurelyCame (family : Family) (words : Words) (plan : Plan) (past : List Moment) (node owner key : ℕ) : Type 0 where
-  left : (members : List ℕ) (j mate : ℕ) (leave : Event) → family.brings ≡ true → FenceDelivers plan owner key node members j →
-      IsMate words plan members node owner mate → kind plan leave ≡ Some (Leave members) → arrivals plan leave.proc members leave.at ≡ j →
+  left : (members : List ℕ) (j other : ℕ) (leave : Event) → family.brings ≡ true → FenceDelivers plan owner key node members j →
+      IsJobMember words plan members node owner other → kind plan leave ≡ Some (Leave members) → arrivals plan leave.proc members leave.at ≡ j →
       node_of plan leave.proc ≡ node → IsDone (told plan past) leave → SurelyCame family words plan past node owner key
   got : (get put commit : Event) (other_key u : ℕ) → kind plan get ≡ Some (Get owner other_key) → node_of plan get.proc ≡ node →
       slice_get ((told plan past).replies get.proc) get.at ≡ Some (Value put) → commit.proc ≡ owner → Stores plan commit other_key →

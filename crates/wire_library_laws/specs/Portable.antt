@@ -11,7 +11,7 @@ use Rattle.wire_runs.specs.Names.{calls_name}
 use Rattle.wire_runs.specs.Step.{IsReachable, is_publisher}
 use Rattle.wire_runs.specs.Order.{Stores, IsArrival, Live, Before}
 use Rattle.wire_runs.specs.Races.{IsRewrite, Delivery, ByFence, ByGet, IsOf, FenceDelivers, ComesSurely}
-use Rattle.wire_library_laws.specs.Library.{Family, Words, IsMate, IsPlainFence}
+use Rattle.wire_library_laws.specs.Library.{Family, Words, IsJobMember, IsPlainFence}
 
 -- y is the event right before g in its process
 pub record IsRightBefore (y g : Event) : Type 0 where
@@ -106,8 +106,8 @@ SeesNothing plan p key g =
 -- each library of the family surely has p's key on the node of g: where fences bring, a process of the node has left one
 -- that brings it, before g, and some member there is of p's job; or a get there of a key that comes no earlier is before g
 pub data LibrariesHave (family : Family) (words : Words) (plan : Plan) (p key : ℕ) (g : Event) : Type 0 where
-  left : (members : List ℕ) (j mate : ℕ) (leave : Event) → family.brings ≡ true → FenceDelivers plan p key (node_of plan g.proc) members j →
-      IsMate words plan members (node_of plan g.proc) p mate → kind plan leave ≡ Some (Leave members) →
+  left : (members : List ℕ) (j other : ℕ) (leave : Event) → family.brings ≡ true → FenceDelivers plan p key (node_of plan g.proc) members j →
+      IsJobMember words plan members (node_of plan g.proc) p other → kind plan leave ≡ Some (Leave members) →
       arrivals plan leave.proc members leave.at ≡ j → node_of plan leave.proc ≡ node_of plan g.proc → Before plan leave g →
       LibrariesHave family words plan p key g
   got : (get commit : Event) (other_key u : ℕ) → kind plan get ≡ Some (Get p other_key) → node_of plan get.proc ≡ node_of plan g.proc →

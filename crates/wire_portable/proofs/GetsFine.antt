@@ -8,7 +8,7 @@ use Rattle.wire_portable.specs.declared.listed.Unportable.{Unportable}
 use Rattle.wire_portable.specs.Libraries.{family_of}
 use Rattle.wire_portable.specs.Adding.{AddsUnportable}
 use Rattle.wire_portable.specs.Gets.{place_in, AreOpenGets}
-use Rattle.wire_portable.specs.Phases.{IsOfLaterPhase}
+use Rattle.wire_portable.specs.Phases.{IsThereUnlessEnded}
 use Rattle.wire_portable.specs.Sharing.{AreAskedGets}
 use Rattle.wire_portable.specs.Judging.{NoRewrites, IsEndedNear, IsEndedFar, AreFineMates}
 use Rattle.wire_portable.specs.Searched.{MayBe, may_be, HasNoMate, IsNearFine, IsFarFine}
@@ -46,6 +46,10 @@ module _ (library : Library) (plan : Plan) (p key : ℕ) (g : Event) where
   pub far_alone : IsEndedFar (family_of library) plan p key g → (NoRewrites plan → IsFor plan p key false) → NoRewrites plan → IsPortableFar (family_of library) plan p key g
   far_alone ended for_it once = record { scope = for_it once; first = ended }
 
+  -- where no live commit lacks its key, it isn't answered too early by its own request
+  pub none_lacking : ((x : Event) → Lacks plan p key x → ⊥) → IsEndedFar (family_of library) plan p key g
+  none_lacking never at_once commit lacks = absurd (never commit lacks)
+
   pub no_mate : (anywhere : Bool) (hs : List Event) → AreOpenGets anywhere plan p (place_in anywhere plan g.proc) hs → AreFineMates (family_of library) plan p key g hs →
       HasNoMate anywhere library plan p key g
   no_mate anywhere hs are fine h other_key is other asked differ there =
@@ -57,9 +61,9 @@ module _ (library : Library) (plan : Plan) (p key : ℕ) (g : Event) where
   none_lacks anywhere never h other_key is other asked differ there not_first not_last commit lacks has = absurd (never commit lacks)
 
   -- where its key is stored in an earlier phase, g has none
-  pub none_of_phase : (anywhere : Bool) → IsOfLaterPhase plan p key g → HasNoMate anywhere library plan p key g
+  pub none_of_phase : (anywhere : Bool) → IsThereUnlessEnded plan p key g → HasNoMate anywhere library plan p key g
   none_of_phase anywhere later h other_key is other asked differ there not_first not_last commit lacks has =
-      elim (later h p other_key is asked) [ inl e ↦ absurd (not_last e) | inr t ↦ t ]
+      elim (later h other_key is asked) [ inl e ↦ absurd (not_last e) | inr t ↦ t ]
 
   pub far_fine : (anywhere : Bool) → (NoRewrites plan → IsPortableFar (family_of library) plan p key g) → HasNoMate anywhere library plan p key g → IsFarFine anywhere library plan p key g
   far_fine anywhere alone beside = record { alone = alone; beside = beside }

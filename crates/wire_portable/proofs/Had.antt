@@ -14,9 +14,11 @@ use Rattle.wire_runs.proofs.Basics.{stored_stays, stores_commit, event_within, p
 use Rattle.wire_runs.proofs.Due.{live_source, place_path}
 use Rattle.wire_runs.proofs.Histories.{before_live, joined, same_process}
 use Rattle.wire_runs.proofs.FenceChains.{leave_of, one_arrival_is_all}
-use Rattle.wire_plan.specs.Index.{IsDelivering, AreArrivals}
+use Rattle.wire_runs.specs.Fences.{is_member}
+use Rattle.wire_plan.specs.Index.{IsDelivering, AreArrivals, BringsDataBefore, IsSent}
 use Rattle.wire_plan.proofs.Delivering.{here}
-use Rattle.wire_fates.specs.Deliveries.{Arrives}
+use Rattle.wire_fates.specs.Deliveries.{Arrives, IsAmong}
+use Rattle.wire_fates.proofs.OwnFences.{member_there}
 use Rattle.wire_library_laws.specs.Library.{Family, Words}
 use Rattle.wire_library_laws.specs.Portable.{LibrariesHave, left, got}
 use Rattle.wire_library_laws.specs.Anywhere.{OwnCallsHave, left as left_it, got as got_it}
@@ -207,3 +209,37 @@ module _ (plan : Plan) (p key : ℕ) (g : Event) where
           let le = h.got.later in
           let u = there_after (suc h.got.commit.at) (omega (arith, le)) in
           got_it h.get h.got.commit h.got.key u.0 (subst (λ r. kind plan h.get ≡ Some (Get r h.got.key)) q h.got.is) i.own h.got.before (h.got.its ∙ q) h.got.stores u.1 u.2
+
+  -- so it is of the last fence with data that g's own process has left, where the owner has sent the key before its arrival there
+  pub left_last : (job : ℕ → ℕ) (own arrival : Event) (places : List Event) → IsLiveNow plan p key g → BringsDataBefore plan g own →
+      ((members : List ℕ) (j : ℕ) → IsArrival plan members j own → AreArrivals plan members j places) → IsAmong p arrival places → job g.proc ≡ job p → IsSent plan p key arrival.at →
+      IsLeft plan job p key (node_of plan g.proc) g
+  left_last job own arrival places now b those among same sent =
+      let are = those b.brings.members b.brings.j b.brings.arrival in
+      let mine = are.all own b.brings.arrival in
+      let arrived : HasArrived g places = record { k = mine.0; arrival = own; is = mine.1; own = b.same; earlier = b.earlier } in
+      let of_owner : IsArrival plan b.brings.members b.brings.j (here p arrival.at) =
+      subst (λ q. IsArrival plan b.brings.members b.brings.j (here q arrival.at)) among.proc (are.only among.k arrival among.is) in
+      let of_get = subst (λ q. is_member b.brings.members q ≡ true) b.same b.brings.arrival.member in
+      let brings : IsDelivering plan p key (node_of plan g.proc) arrival.at = record {
+        members = b.brings.members;
+        j = b.brings.j;
+        arrival = of_owner;
+        brings = record {
+          away = record {
+            full = b.brings.full;
+            collecting = b.brings.collecting;
+            member = of_owner.member;
+            at = arrival.at;
+            put = sent.put;
+            arrival = of_owner;
+            committed = sent.committed;
+            admitted = sent.admitted;
+          };
+          reaches = member_there plan b.brings.members g.proc of_get;
+        };
+      } in
+      left_by job (node_of plan g.proc) arrival.at brings places are (record {
+        other = arrived_member places job same arrived;
+        left = arrived_left places now (record { members = b.brings.members; j = b.brings.j; are = are }) arrived;
+      })

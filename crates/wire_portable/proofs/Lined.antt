@@ -1,6 +1,6 @@
 -- The list of lines as it grows, and in its order.
-use Rattle.std.proofs.Common.{◌≡◌, ℕ, zero, suc, ◌<◌, List, [], ◌∷◌, ◌++◌, Bool, true, false, refl, sym, ap, ◌∙◌, subst, length, get_or}
-use Rattle.std.specs.Prelude.{MatchBool, not}
+use Rattle.std.proofs.Common.{◌≡◌, ℕ, zero, suc, ◌<◌, List, [], ◌∷◌, ◌++◌, Bool, true, false, Some, refl, sym, ap, ◌∙◌, subst, length, get_or}
+use Rattle.std.specs.Prelude.{MatchBool, not, slice_get}
 use Rattle.std.specs.List.{AllByRecursion}
 use Rattle.std.specs.List.Retain.{DedupsFrom, IsDeduped}
 use Rattle.std.specs.List.Sorted.{IsPermutation}
@@ -16,6 +16,41 @@ use Rattle.wire_portable.specs.Adding.{AddsUnportable}
 use Rattle.wire_portable.specs.Libraries.{has, is_empty}
 use Rattle.wire_portable.specs.Unportable.{IsUnblamed}
 use Rattle.wire_portable.proofs.Gathered.{index_some}
+
+-- what holds of each line holds of each in another order, and of those that are left
+module _ (P : Unportable → Type 0) where
+  abbrev Each : List Unportable → Type 0
+  Each xs = (k : ℕ) (line : Unportable) → slice_get xs k ≡ Some line → P line
+
+  each_by_turn : (xs : List Unportable) → Each xs → AllByRecursion P xs
+  each_by_turn [] e = tt
+  each_by_turn (x ∷ xs) e = (e 0 x refl, each_by_turn xs (λ k line is. e (suc k) line is))
+
+  each_from_turn : (xs : List Unportable) → AllByRecursion P xs → Each xs
+  each_from_turn [] a k line is = absurd (none-some line is)
+  each_from_turn (x ∷ xs) a zero line is = subst P (same_Some _ _ is) a.0
+  each_from_turn (x ∷ xs) a (suc k) line is = each_from_turn xs a.1 k line is
+
+  pub each_moved : (xs ys : List Unportable) → IsPermutation xs ys → Each xs → Each ys
+  each_moved xs ys p e k line is =
+      let all = All-permutation P xs ys p (All-from_recursion P xs (each_by_turn xs e)) in
+      subst P (index_some ys k line line is) (all k line (slice_get_within ys k line is))
+
+  module _ {F : Type 0} (R : F → Unportable → Unportable → Bool → F → Unportable → Unportable → Type 0) (f : F)
+      (h : (x y : Unportable) (b : Bool) (f' : F) (x' y' : Unportable) → R f x y b f' x' y' → (f' ≡ f) × (x' ≡ x) × (y' ≡ y)) where
+    those_left : (xs : List Unportable) (g : F) (k : Unportable) (ys : List Unportable) → g ≡ f → DedupsFrom R g k xs ys → P k → AllByRecursion P xs → AllByRecursion P ys
+    those_left [] g k ys e t first a = subst (AllByRecursion P) (sym t) (first, tt)
+    those_left (x ∷ xs) g k ys e t first a =
+        let one = h x k t.0 t.1 t.2 t.3 (subst (λ (q : F). R q x k t.0 t.1 t.2 t.3) e t.4) in
+        let next = λ (y : Unportable) (zs : List Unportable) (rest : DedupsFrom R t.1 y xs zs) (here : P y). those_left xs t.1 y zs one.0 rest here a.1 in
+        (elim t.0 as (λ b. MatchBool b (DedupsFrom R t.1 t.3 xs ys) ((zs : List Unportable) × DedupsFrom R t.1 t.2 xs zs × (ys ≡ t.3 ∷ zs)) → AllByRecursion P ys) [
+          | true ↦ λ rest. next t.3 ys rest (subst P (sym one.2) first)
+          | false ↦ λ rest. subst (AllByRecursion P) (sym rest.2) (subst P (sym one.2) first, next t.2 rest.0 rest.1 (subst P (sym one.1) a.0))
+        ]) t.5
+
+    pub each_left : (xs ys : List Unportable) → IsDeduped R f xs ys → Each xs → Each ys
+    each_left [] ys d e = subst Each (sym d.told) e
+    each_left (x ∷ xs) ys d e = let a = each_by_turn (x ∷ xs) e in each_from_turn ys (those_left xs f x ys refl d.told a.0 a.1)
 
 module _ (library : Library) where
   abbrev IsFree : Unportable → Type 0

@@ -15,7 +15,7 @@ use Rattle.wire_plan.proofs.Grown.{place, Earlier, none_yet, one_more, one_other
 use Rattle.wire_library_laws.specs.Portable.{IsAsked}
 use Rattle.wire_portable.specs.declared.gets.GetTable.{GetTable}
 use Rattle.wire_portable.specs.Gets.{place_in, IsOpenGet, is_same, is_same_phase, events_in, gets_under, number_or_all, first_under, AreGetsTo, AreGetLists, AreUnreadIn, AreUnreadBeside, AreFirst, IsGetTable, AreOpenGets}
-use Rattle.wire_portable.specs.Phases.{phase_of}
+use Rattle.wire_portable.specs.Phases.{phase_of, reads}
 use Rattle.wire_portable.proofs.Keys.{missing_before}
 
 abbrev pub IsOther : ℕ × ℕ → ℕ × ℕ → Type 0
@@ -162,12 +162,12 @@ unread_below plan p key n x its stores le = missing_before plan p key n x.at le 
 
 -- the gets of a list are parted from a get, but those of its phase
 pub unread_beside : (plan : Plan) (p n first key : ℕ) (g : Event) (table : GetTable) (together : Bool) → IsGetTable together plan table → kind plan g ≡ Some (Get p key) → IsAsked plan g →
-    first ≡ first_under table (p, n, phase_of table.phases g) → (places : List Event) → AreOpenGets together plan p n places → AreUnreadBeside plan p first g places
-unread_beside plan p n first key g table together held is asked e places are k z other at its = elim (cases_eq (phase_of table.phases z) (phase_of table.phases g)) [
-  | inl same ↦ inl (subst (λ f. stored plan p other f ≡ None) (sym e) (held.firsts p n (phase_of table.phases g) listed.0 z other listed.1 same its))
-  | inr ne ↦ inr (elim (cases_lt (phase_of table.phases g) (phase_of table.phases z)) [
-    | inl later ↦ inl (held.phases g z (Get p key) p other is its mine.asked later)
-    | inr ge ↦ inr (held.phases z g (Get p other) p key its is asked (omega (arith, ge, ne)))
+    first ≡ first_under table (p, n, phase_of table.phases.now g) → (places : List Event) → AreOpenGets together plan p n places → AreUnreadBeside plan p first g places
+unread_beside plan p n first key g table together held is asked e places are k z other at its = elim (cases_eq (phase_of table.phases.now z) (phase_of table.phases.now g)) [
+  | inl same ↦ inl (subst (λ f. stored plan p other f ≡ None) (sym e) (held.firsts p n (phase_of table.phases.now g) listed.0 z other listed.1 same its))
+  | inr ne ↦ inr (elim (cases_lt (phase_of table.phases.now g) (phase_of table.phases.now z)) [
+    | inl later ↦ inl (held.phases p other g z (reads key is) its mine.asked later)
+    | inr ge ↦ inr (held.phases p key z g (reads other its) is asked (omega (arith, ge, ne)))
   ])
 ]
   where

@@ -1,17 +1,16 @@
--- What a fence of all processes parts: an event in front of it has ended when a get behind it is asked.
-use Rattle.std.proofs.Common.{◌≡◌, ℕ, suc, ◌-◌, ◌<◌, ◌≤◌, List, Some, inl, inr, refl, sym, ap, subst, arith}
+-- What a fence parts: an event of a member in front of it has ended when a get of a member behind it is asked.
+use Rattle.std.proofs.Common.{◌≡◌, ℕ, suc, ◌-◌, ◌<◌, ◌≤◌, List, true, Some, inl, inr, refl, sym, ap, subst, arith}
 use Rattle.std.proofs.lemmas.Bool.{cases_eq, cases_lt}
-use Rattle.wire_runs.specs.Plan.{Plan, Event, Kind, Get, Leave, kind, kind_at}
-use Rattle.wire_runs.specs.Fences.{arrivals}
+use Rattle.wire_runs.specs.Plan.{Plan, Event, Get, Leave, kind, kind_at}
+use Rattle.wire_runs.specs.Fences.{arrivals, is_member}
 use Rattle.wire_runs.specs.Order.{IsArrival, Before}
 use Rattle.wire_runs.proofs.Arrivals.{left_first, left_full}
-use Rattle.wire_runs.proofs.Basics.{arrivals_rise, arrivals_step, process_within}
+use Rattle.wire_runs.proofs.Basics.{arrivals_rise, arrivals_step}
 use Rattle.wire_runs.proofs.Brought.{nth_arrival}
 use Rattle.wire_runs.proofs.FenceChains.{leave_next, member_arrives, one_arrival_is_all}
 use Rattle.wire_runs.proofs.Histories.{before_live, joined, same_process}
 use Rattle.wire_plan.proofs.Grown.{place}
 use Rattle.wire_library_laws.specs.Portable.{EndsFirst, IsAsked}
-use Rattle.wire_portable.specs.Phases.{IsOfAll}
 
 -- p's arrival at a fence stands in front of its first m events, where these have as many arrivals, and behind its first n,
 -- where these have fewer
@@ -34,8 +33,8 @@ arrives_from plan members j p at n a lt = elim (cases_lt at n) [
       omega (arith, lt, rise, nth))
 ]
 
-module _ (plan : Plan) (members : List ℕ) (all : IsOfAll plan members) (x h : Event) (k : Kind) (p key : ℕ) (is_x : kind plan x ≡ Some k) (is_h : kind plan h ≡ Some (Get p key))
-    (asked : IsAsked plan h) where
+module _ (plan : Plan) (members : List ℕ) (x h : Event) (p key : ℕ) (of_x : is_member members x.proc ≡ true) (of_h : is_member members h.proc ≡ true)
+    (is_h : kind plan h ≡ Some (Get p key)) (asked : IsAsked plan h) where
   abbrev last : Event
   last = place h.proc (h.at - 1)
 
@@ -65,8 +64,8 @@ module _ (plan : Plan) (members : List ℕ) (all : IsOfAll plan members) (x h : 
   pub parted : arrivals plan x.proc members x.at < arrivals plan h.proc members h.at → EndsFirst plan x h
   parted lt =
       let j = suc (arrivals plan x.proc members x.at) in
-      let here = nth_arrival plan h.proc members j h.at (omega arith) (omega (arith, lt)) (all h.proc (process_within plan h.proc h.at _ is_h)) in
+      let here = nth_arrival plan h.proc members j h.at (omega arith) (omega (arith, lt)) of_h in
       let low = arrives_below plan members j h.proc here.0 h.at here.1 (omega (arith, lt)) in
       let full = left_full plan members j last (left_first members j here.1 (left_by_last j here.0 here.1 low)) in
-      let there = member_arrives plan members j x.proc (place h.proc here.0) full here.1 (all x.proc (process_within plan x.proc x.at _ is_x)) in
+      let there = member_arrives plan members j x.proc (place h.proc here.0) full here.1 of_x in
       met_first j here.0 there.0 here.1 low there.1 (arrives_from plan members j x.proc there.0 x.at there.1 (omega arith))

@@ -336,17 +336,16 @@ no_arrival sets (code.Unpublish name) other members collect is = cc
 no_arrival sets code.UnpublishAll other members collect is = cc
 no_arrival sets (code.Fixed reply) other members collect is = cc
 
--- four lines, none of which is the library's
-pub four_added : (a b c d e : List Unportable) (k l m n : Libraries) (P : Library → Type 0) →
-    ((library : Library) → has k library ≡ false → has l library ≡ false → has m library ≡ false → has n library ≡ false → P library) →
+-- three lines, none of which is the library's
+pub three_added : (a b c d : List Unportable) (k l m : Libraries) (P : Library → Type 0) →
+    ((library : Library) → has k library ≡ false → has l library ≡ false → has m library ≡ false → P library) →
     AddsUnportable a b (λ library. has k library ≡ false) → AddsUnportable b c (λ library. has l library ≡ false) → AddsUnportable c d (λ library. has m library ≡ false) →
-    AddsUnportable d e (λ library. has n library ≡ false) → AddsUnportable a e P
-four_added a b c d e k l m n P so one two three four = λ library u.
-    let z = four library u in
-    let y = three library z.0 in
+    AddsUnportable a d P
+three_added a b c d k l m P so one two three = λ library u.
+    let y = three library u in
     let x = two library y.0 in
     let w = one library x.0 in
-    (w.0, so library w.1 x.1 y.1 z.1)
+    (w.0, so library w.1 x.1 y.1)
 
 pub not_true : (b : Bool) → not b ≡ true → b ≡ false
 not_true true h = absurd (true≢false (sym h))

@@ -80,5 +80,5 @@ AreUnreadBeside plan p n g places =
 pub record IsGetTable (together : Bool) (plan : Plan) (table : GetTable) : Type 0 where
   pub where_it_is : table.together ≡ together
   pub lists : AreGetLists together plan table
-  pub phases : ArePhases plan table.phases
-  pub firsts : AreFirst plan table.phases table
+  pub phases : ArePhases plan table.phases.now
+  pub firsts : AreFirst plan table.phases.now table

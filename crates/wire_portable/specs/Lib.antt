@@ -1,5 +1,6 @@
 pub mod Libraries
 pub mod Words
+pub mod Listed
 pub mod Unportable
 pub mod Commits
 pub mod Judging

@@ -4,7 +4,7 @@ use Rattle.wire_scripts.specs.Scripts.{Scripts}
 use Rattle.wire_scripts.specs.Planned.{plan_of}
 use Rattle.wire_library_laws.specs.Portable.{IsPortable}
 use Rattle.wire_library_laws.specs.Anywhere.{IsPortableAnywhere}
-use Rattle.wire_portable.specs.Libraries.{family_of, has}
+use Rattle.wire_portable.specs.Libraries.{family_of, has, is_empty}
 use Rattle.wire_portable.specs.Words.{words_of}
 use Rattle.wire_portable.specs.declared.libraries.Library.{Library}
 use Rattle.wire_spelling.specs.declared.spelling.Spelt.{Spelt}
@@ -13,6 +13,10 @@ use Rattle.wire_portable.specs.declared.listed.Unportable.{Unportable}
 -- no line has the library
 abbrev pub IsUnblamed : Library → List Unportable → Type 0
 IsUnblamed library lines = (k : ℕ) (line : Unportable) → slice_get lines k ≡ Some line → has line.libraries library ≡ false
+
+-- each line names a library
+abbrev pub EachNamesSome : List Unportable → Type 0
+EachNamesSome lines = (k : ℕ) (line : Unportable) → slice_get lines k ≡ Some line → is_empty line.libraries ≡ false
 
 -- for each library that no line has, the plan of the scripts is portable
 abbrev pub AreUnportable : Scripts → List (List (Option Spelt)) → List Unportable → Type 0

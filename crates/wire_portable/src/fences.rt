@@ -352,13 +352,6 @@ fn repeating(spelt: Option<Spelt>) -> Libraries
     all_if(repeats(spelt))
 }
 
-/// The libraries for which a call doesn't spell its set as the table says.
-fn spelling_apart(sets: &SetTable, set: u32, spelt: Option<Spelt>) -> Libraries
-    ensures { (library : L) → has result library ≡ false → spec.number_of spelt ≡ spec.spelt_first sets.now set }
-{
-    all_if(!are_same(number_of(spelt), sets.spelt_first(set)))
-}
-
 /// How the call of an event spells its set.
 fn spelt_at(plan: &Plan, spelling: &Spelling, event: Event) -> Option<Spelt>
     requires { event.at < event_count (plan_of plan.now) event.proc.number }
@@ -367,7 +360,8 @@ fn spelt_at(plan: &Plan, spelling: &Spelling, event: Event) -> Option<Spelt>
     spelling.of(plan.call_of(event))
 }
 
-/// Adds what a call of a fence breaks, at the first arrival there that spells the set alike.
+/// Adds what a call of a fence breaks that spells its set as the table says, at the first arrival there that spells the
+/// set alike.
 fn add_first(
     plan: &Plan,
     spelling: &Spelling,
@@ -379,6 +373,7 @@ fn add_first(
     requires here { compared.call.arrival.at < event_count (plan_of plan.now) compared.call.arrival.proc.number }
     requires arrives { Arrives (plan_of plan.now) (event_of compared.call.arrival) }
     requires jobs { TellsJobs plan.now sets.now }
+    requires alike { spec.numbered plan.now spelling.now (event_of compared.call.arrival) ≡ spec.spelt_first sets.now compared.call.set }
     ensures { OnOk result (AddsUnportable found.old found.new (λ library.
         KeepsFenceRules library plan.now spelling.now sets.now (event_of compared.first) compared.call)) }
 {
@@ -387,11 +382,9 @@ fn add_first(
     let differing = all_if(differs(plan, spelling, first, call));
     let others = not_taking(sets, call.set);
     let twice = repeating(spelt);
-    let apart = spelling_apart(sets, call.set, spelt);
     found.blame(plan, first, Rule::FenceCollect, differing)?;
     found.blame(plan, first, Rule::FenceJobs, others)?;
-    found.blame(plan, first, Rule::FenceRepeats, twice)?;
-    found.blame(plan, first, Rule::FenceSpelling, apart)
+    found.blame(plan, first, Rule::FenceRepeats, twice)
 }
 
 /// Adds that a call doesn't spell its set as the first live call over it does.

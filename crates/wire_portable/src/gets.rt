@@ -7,7 +7,7 @@ ghost use Rattle.wire_runs.specs.Puts.{stored};
 ghost use Rattle.wire_scripts.specs.Planned.{plan_of};
 ghost use Rattle.wire_library_laws.specs.Portable.{IsAsked};
 ghost use Rattle.wire_portable.specs.Gets.{place_in, gets_under, first_under, AreGetsTo, AreGetLists, AreOpenGets, AreFirst, AreUnreadBeside, IsGetTable};
-ghost use Rattle.wire_portable.specs.Phases.{ArePhases, IsOfLaterPhase};
+ghost use Rattle.wire_portable.specs.Phases.{ArePhases};
 
 use crate::asked::is_asked;
 use crate::hearing::Hearing;
@@ -20,19 +20,28 @@ use wire_happens_before::MarkedPlan;
 use wire_plan::{Kind, Plan};
 use wire_types::{Event, Proc};
 
+/// How the processes of a plan read each other's keys: whether some get waits for one, whether some such key isn't
+/// stored by its owner's first commit, and whether some get doesn't wait.
+#[derive(Clone, Copy)]
+pub(crate) struct ReadWays {
+    pub gets: bool,
+    pub late: bool,
+    pub nows: bool,
+}
+
 /// The gets of each process's keys from each node, in process order; or from all nodes together. For each list
 /// and phase, how many events of the owner come before any key is there that the list's gets read in that phase; and how
 /// late the commits are that store those keys.
-pub(crate) struct GetTable {
+pub(crate) struct GetTable<'a> {
     lists: HashMap<(u32, u32), Vec<Event>>,
     firsts: HashMap<(u32, u32, u32), u32>,
     lasts: LastStores,
-    phases: Phases,
+    phases: &'a Phases,
     together: bool,
 }
 
 // By hand and not derived: so dropping one is a call, and the proof of a function that drops one doesn't take it apart.
-impl Drop for GetTable {
+impl Drop for GetTable<'_> {
     fn drop(self) {
         let GetTable {
             lists: _,
@@ -44,7 +53,7 @@ impl Drop for GetTable {
     }
 }
 
-impl GetTable {
+impl<'a> GetTable<'a> {
     /// Where a process's gets are listed.
     fn place_of(&self, marked: &MarkedPlan<'_>, proc: Proc) -> u32
         requires { proc.number < process_count (plan_of marked.now) }
@@ -146,7 +155,7 @@ impl GetTable {
         requires other { event.proc.number ≢ asked.owner.number }
         ensures added { OnOk result (AreGetsTo self.old.together (plan_of marked.now) event.proc.number event.at self.old →
             AreGetsTo self.old.together (plan_of marked.now) event.proc.number (suc event.at) self.new) }
-        ensures firsts { OnOk result (AreFirst (plan_of marked.now) self.old.phases self.old → AreFirst (plan_of marked.now) self.old.phases self.new) }
+        ensures firsts { OnOk result (AreFirst (plan_of marked.now) self.old.phases.now self.old → AreFirst (plan_of marked.now) self.old.phases.now self.new) }
         ensures kept { OnOk result (self.new.together ≡ self.old.together) }
         ensures phases { OnOk result (self.new.phases ≡ self.old.phases) }
     {
@@ -170,7 +179,7 @@ impl GetTable {
         requires { event.at < event_count (plan_of marked.now) event.proc.number }
         ensures added { OnOk result (AreGetsTo self.old.together (plan_of marked.now) event.proc.number event.at self.old →
             AreGetsTo self.old.together (plan_of marked.now) event.proc.number (suc event.at) self.new) }
-        ensures firsts { OnOk result (AreFirst (plan_of marked.now) self.old.phases self.old → AreFirst (plan_of marked.now) self.old.phases self.new) }
+        ensures firsts { OnOk result (AreFirst (plan_of marked.now) self.old.phases.now self.old → AreFirst (plan_of marked.now) self.old.phases.now self.new) }
         ensures kept { OnOk result (self.new.together ≡ self.old.together) }
         ensures phases { OnOk result (self.new.phases ≡ self.old.phases) }
     {
@@ -191,7 +200,7 @@ impl GetTable {
     ) -> Result<(), AllocError>
         ensures added { OnOk result (AreGetsTo self.old.together (plan_of marked.now) proc.number 0 self.old →
             AreGetsTo self.old.together (plan_of marked.now) (suc proc.number) 0 self.new) }
-        ensures firsts { OnOk result (AreFirst (plan_of marked.now) self.old.phases self.old → AreFirst (plan_of marked.now) self.old.phases self.new) }
+        ensures firsts { OnOk result (AreFirst (plan_of marked.now) self.old.phases.now self.old → AreFirst (plan_of marked.now) self.old.phases.now self.new) }
         ensures kept { OnOk result (self.new.together ≡ self.old.together) }
         ensures phases { OnOk result (self.new.phases ≡ self.old.phases) }
     {
@@ -205,7 +214,7 @@ impl GetTable {
     fn add_all(&mut self, alloc: Global, marked: &MarkedPlan<'_>) -> Result<(), AllocError>
         ensures added { OnOk result (AreGetsTo self.old.together (plan_of marked.now) 0 0 self.old →
             AreGetLists self.old.together (plan_of marked.now) self.new) }
-        ensures firsts { OnOk result (AreFirst (plan_of marked.now) self.old.phases self.old → AreFirst (plan_of marked.now) self.old.phases self.new) }
+        ensures firsts { OnOk result (AreFirst (plan_of marked.now) self.old.phases.now self.old → AreFirst (plan_of marked.now) self.old.phases.now self.new) }
         ensures kept { OnOk result (self.new.together ≡ self.old.together) }
         ensures phases { OnOk result (self.new.phases ≡ self.old.phases) }
     {
@@ -219,12 +228,18 @@ impl GetTable {
     pub(crate) fn of(
         alloc: Global,
         marked: &MarkedPlan<'_>,
+        phases: &'a Phases,
+        reads: ReadWays,
         together: bool,
-    ) -> Result<GetTable, AllocError>
+    ) -> Result<GetTable<'a>, AllocError>
+        requires { ArePhases (plan_of marked.now) phases.now }
         ensures { IfOk result (λ table. IsGetTable together (plan_of marked.now) table) }
     {
-        let phases = Phases::of(alloc, marked.plan())?;
-        let count = phases.count();
+        let count = if reads.nows && !together {
+            phases.count()
+        } else {
+            0
+        };
         let mut table = GetTable {
             lists: HashMap::new(alloc),
             firsts: HashMap::new(alloc),
@@ -272,19 +287,6 @@ impl GetTable {
         self.first((asked.owner.number, place, phase))
     }
 
-    /// Whether the commit that stores a key is of an earlier phase than a get.
-    pub(crate) fn is_of_later_phase(&self, marked: &MarkedPlan<'_>, get: Event, asked: Key) -> bool
-        requires phases { ArePhases (plan_of marked.now) self.now.phases }
-        requires is { kind (plan_of marked.now) (event_of get) ≡ Some (Get asked.owner.number asked.key) }
-        requires asked { IsAsked (plan_of marked.now) (event_of get) }
-        ensures { IsTrue result → IsOfLaterPhase (plan_of marked.now) asked.owner.number asked.key (event_of get) }
-    {
-        match marked.plan().store_of(asked.owner, asked.key) {
-            Some(store) => self.phases.phase(store) < self.phases.phase(get),
-            None => false,
-        }
-    }
-
     /// Whether one of those gets, of a phase no later than a get-now's, may have brought the key that a commit stores: it
     /// reads a key that comes no earlier. (That none has where it says no is only tested: else 5.0 is blamed needlessly.)
     pub(crate) fn is_brought(&self, marked: &MarkedPlan<'_>, get: Event, store: Event) -> bool
@@ -317,16 +319,16 @@ impl GetTable {
         self.lists.is_empty()
     }
 
-    /// What processes hear of each other, where gets are listed.
+    /// What processes hear of each other, where gets are listed by nodes: else nobody asks.
     pub(crate) fn hearing(&self, alloc: Global, plan: &Plan) -> Result<Hearing, AllocError> {
-        if self.is_empty() {
+        if self.together || self.is_empty() {
             return Ok(Hearing::empty(alloc));
         }
-        Hearing::for_nows(alloc, plan, &self.phases)
+        Hearing::of(alloc, plan, self.phases)
     }
 
     /// Whether a call's process has heard of another one in the call's phase.
     pub(crate) fn has_heard(&self, hearing: &Hearing, call: Event) -> bool {
-        hearing.has_heard(&self.phases, call)
+        hearing.has_heard(self.phases, call)
     }
 }

@@ -30,13 +30,24 @@ fn previous(event: Event) -> Event {
     }
 }
 
+/// The commit or the publish for which an event waits.
+fn awaited(plan: &Plan, event: Event) -> Option<Event>
+    requires { event.at < event_count (plan_of plan.now) event.proc.number }
+{
+    match plan.kind(event) {
+        Kind::Get { owner, key } => plan.store_of(owner, key),
+        Kind::LookupWait { name } => plan.once_published(name),
+        _ => None,
+    }
+}
+
 /// Whether the call for which an event waits is another process's, and of the event's phase.
 fn waits_inside(plan: &Plan, phases: &Phases, event: Event) -> bool
     requires { event.at < event_count (plan_of plan.now) event.proc.number }
 {
-    match plan.sources(event).awaited {
+    match awaited(plan, event) {
         Some(source) => {
-            source.proc.number != event.proc.number && phases.phase(source) >= phases.phase(event)
+            source.proc.number != event.proc.number && !phases.is_earlier(source, event)
         }
         None => false,
     }
@@ -64,16 +75,6 @@ fn row_of(alloc: Global, plan: &Plan, phases: &Phases, proc: Proc) -> Result<Vec
     Ok(row)
 }
 
-/// Whether a process calls get-now.
-fn has_now(plan: &Plan, proc: Proc) -> bool {
-    for at in 0..plan.event_count(proc) {
-        if let Kind::GetNow { .. } = plan.kind(Event { proc, at }) {
-            return true;
-        }
-    }
-    false
-}
-
 impl Hearing {
     /// That of no process.
     pub(crate) fn empty(alloc: Global) -> Hearing {
@@ -82,22 +83,8 @@ impl Hearing {
         }
     }
 
-    /// That of a plan, if some call of it is answered at once.
-    pub(crate) fn for_nows(
-        alloc: Global,
-        plan: &Plan,
-        phases: &Phases,
-    ) -> Result<Hearing, AllocError> {
-        for number in 0..plan.process_count() {
-            if has_now(plan, Proc { number }) {
-                return Hearing::of(alloc, plan, phases);
-            }
-        }
-        Ok(Hearing::empty(alloc))
-    }
-
     /// That of a plan.
-    fn of(alloc: Global, plan: &Plan, phases: &Phases) -> Result<Hearing, AllocError> {
+    pub(crate) fn of(alloc: Global, plan: &Plan, phases: &Phases) -> Result<Hearing, AllocError> {
         let mut hearing = Hearing::empty(alloc);
         for number in 0..plan.process_count() {
             let row = row_of(alloc, plan, phases, Proc { number })?;

@@ -156,8 +156,11 @@ impl<'a> Judge<'a> {
     pub(crate) fn is_outside(&self, asked: Key, near: bool) -> bool
         ensures { result ≡ false → NoRewrites (plan_of self.now) → IsFor (plan_of self.now) asked.owner.number asked.key near }
     {
+        if self.is_for(asked, near) {
+            return false;
+        }
         match self.live_store(asked) {
-            Some(_) => !self.is_for(asked, near),
+            Some(_) => true,
             None => false,
         }
     }

@@ -13,6 +13,7 @@ mod judge;
 mod last_stores;
 mod libraries;
 mod listed;
+mod main_sets;
 mod mates;
 mod names;
 mod nows;

@@ -1,12 +1,14 @@
 //! A call by which a plan isn't portable, and the list of these.
 
-ghost use Rattle.std.specs.Prelude.{◌≡◌, ◌==◌, ◌++◌, ◌∷◌, [], true, false, OnOk, length, slice_get, ◌<◌};
+ghost use Rattle.std.specs.Prelude.{◌≡◌, ◌==◌, ◌++◌, ◌∷◌, [], true, false, IfSome, OnOk, length, slice_get, ◌<◌};
+ghost use Rattle.std.specs.List.{list_any};
 ghost use Rattle.wire_runs.specs.Plan.{event_count};
 ghost use Rattle.wire_scripts.specs.Planned.{plan_of};
 ghost use Rattle.wire_portable.specs.declared.libraries.Library.{Library as L};
 ghost use Rattle.wire_portable.specs.Adding.{AddsUnportable};
-ghost use Rattle.wire_portable.specs.Libraries.{has};
-ghost use Rattle.wire_portable.specs.Unportable.{IsUnblamed};
+ghost use Rattle.wire_portable.specs.Libraries.{has, is_empty};
+ghost use Rattle.wire_portable.specs.Listed as spec;
+ghost use Rattle.wire_portable.specs.Unportable.{IsUnblamed, EachNamesSome};
 
 use crate::libraries::Libraries;
 use std::alloc::{AllocError, Global};
@@ -50,6 +52,31 @@ pub enum Rule {
     Unpublished,
 }
 
+impl Rule {
+    /// Its place in the order of the words that name rules.
+    pub fn number(self) -> u8
+        ensures { result ≡ spec.rule_number self }
+    {
+        match self {
+            Rule::FarGet => 0,
+            Rule::FarLocal => 1,
+            Rule::FenceCollect => 2,
+            Rule::FenceJobs => 3,
+            Rule::FenceRepeats => 4,
+            Rule::FenceSpelling => 5,
+            Rule::GetNow => 6,
+            Rule::Mates => 7,
+            Rule::NearGet => 8,
+            Rule::NearRemote => 9,
+            Rule::Published => 10,
+            Rule::Reserved => 11,
+            Rule::Rewrite => 12,
+            Rule::UnpublishAll => 13,
+            Rule::Unpublished => 14,
+        }
+    }
+}
+
 /// A call by which the plan isn't portable for these libraries.
 #[derive(Clone, Copy, PartialEq, Eq)]
 pub struct Unportable {
@@ -59,10 +86,32 @@ pub struct Unportable {
 }
 
 /// How two of them stand in the list.
-fn compare(x: &Unportable, y: &Unportable) -> Ordering {
-    x.call
-        .cmp(&y.call)
-        .then((x.rule as u8).cmp(&(y.rule as u8)))
+fn compare(x: &Unportable, y: &Unportable) -> Ordering
+    ensures { result ≡ spec.line_cmp x.now y.now }
+{
+    match x.call.cmp(&y.call) {
+        Ordering::Equal => x.rule.number().cmp(&y.rule.number()),
+        apart => apart,
+    }
+}
+
+/// Whether a line is of a call that doesn't spell its set as another one does.
+fn is_spelling(line: &Unportable) -> bool
+    ensures { result ≡ spec.is_spelling line.now }
+{
+    matches!(line.rule, Rule::FenceSpelling)
+}
+
+/// Whether some line is.
+fn any_spelling(lines: &[Unportable]) -> bool
+    ensures { result ≡ list_any spec.is_spelling lines.now }
+{
+    for line in lines {
+        if is_spelling(line) {
+            return true;
+        }
+    }
+    false
 }
 
 /// Whether two of them are the same.
@@ -87,10 +136,13 @@ impl Drop for UnportableList {
 impl Model for UnportableList {
     ghost use Rattle.std.specs.Prelude.{List};
     ghost use Rattle.wire_portable.specs.declared.listed.Unportable.{Unportable as Told};
+    ghost use Rattle.wire_portable.specs.Unportable.{EachNamesSome};
 
     ghost Value = { List Told };
 
     ghost view = { λ f. f.entries.items };
+
+    ghost invariant = { λ f. EachNamesSome f.entries.items };
 }
 
 impl UnportableList {
@@ -103,8 +155,16 @@ impl UnportableList {
         }
     }
 
+    /// Each of them names a library.
+    pub(crate) fn each_names_some(&self)
+        ensures { EachNamesSome self.now }
+    {
+        let _ = &self.entries;
+    }
+
     /// Puts a call behind the others.
     pub(crate) fn push(&mut self, unportable: Unportable) -> Result<(), AllocError>
+        requires { is_empty unportable.libraries ≡ false }
         ensures { OnOk result (self.new ≡ self.old ++ unportable ∷ []) }
     {
         self.entries.push(unportable)?;
@@ -146,13 +206,10 @@ impl UnportableList {
     }
 
     /// Whether calls over one set spell it in two ways.
-    pub(crate) fn has_spellings(&self) -> bool {
-        for line in &self.entries {
-            if line.rule == Rule::FenceSpelling {
-                return true;
-            }
-        }
-        false
+    pub(crate) fn has_spellings(&self) -> bool
+        ensures { result ≡ list_any spec.is_spelling self.now }
+    {
+        any_spelling(self.entries.as_slice())
     }
 
     /// Each once, in the order of processes, calls and rules.
@@ -188,7 +245,8 @@ impl UnportableList {
 
     /// The one of this number, from 0, if there is one.
     pub fn get(&self, index: usize) -> Option<Unportable>
-        ensures { result ≡ slice_get self.now index }
+        ensures there { result ≡ slice_get self.now index }
+        ensures named { IfSome result (λ line. is_empty line.libraries ≡ false) }
     {
         self.entries.get(index).copied()
     }

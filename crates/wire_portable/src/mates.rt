@@ -14,8 +14,10 @@ ghost use Rattle.wire_portable.specs.Judging.{AreFineMates};
 ghost use Rattle.wire_portable.specs.Sharing.{AreAskedGets, AreTurns, IsApart};
 
 use crate::asked::ends_first;
+use crate::gets::ReadWays;
 use crate::judge::{Judge, Key};
 use crate::libraries::Libraries;
+use crate::phases::Phases;
 use wire_fates::process_end;
 use wire_plan::Kind;
 use wire_types::{Event, Proc};
@@ -165,37 +167,96 @@ pub(crate) fn mates(
     found
 }
 
-/// Whether the gets beside an event are asked for: it is a get-now of another process's key, or a get of such a key that
-/// isn't there after some commit of the owner.
-fn is_beside_gets(judge: &Judge<'_>, event: Event) -> bool
+/// Whether a get's key isn't stored by the owner's first commit.
+fn is_late(judge: &Judge<'_>, asked: Key) -> bool {
+    judge.last_lacking(asked).is_some()
+}
+
+/// Takes up an event among the reads of a plan.
+fn take_read(judge: &Judge<'_>, event: Event, reads: ReadWays) -> ReadWays
     requires { event.at < event_count (plan_of judge.now) event.proc.number }
 {
     match judge.plan().kind(event) {
-        Kind::GetNow { owner, .. } => owner.number != event.proc.number,
+        Kind::GetNow { owner, .. } => ReadWays {
+            nows: reads.nows || owner.number != event.proc.number,
+            ..reads
+        },
         Kind::Get { owner, key } => {
-            owner.number != event.proc.number && judge.last_lacking(Key { owner, key }).is_some()
+            if owner.number == event.proc.number {
+                return reads;
+            }
+            ReadWays {
+                gets: true,
+                late: reads.late || is_late(judge, Key { owner, key }),
+                ..reads
+            }
+        }
+        _ => reads,
+    }
+}
+
+/// Takes up the events of a process.
+fn take_all_reads(judge: &Judge<'_>, proc: Proc, before: ReadWays) -> ReadWays {
+    let mut reads = before;
+    for at in 0..judge.plan().event_count(proc) {
+        reads = take_read(judge, Event { proc, at }, reads);
+    }
+    reads
+}
+
+/// How the processes of a plan read each other's keys.
+pub(crate) fn reads_of(judge: &Judge<'_>) -> ReadWays {
+    let mut reads = ReadWays {
+        gets: false,
+        late: false,
+        nows: false,
+    };
+    for number in 0..judge.plan().process_count() {
+        reads = take_all_reads(judge, Proc { number }, reads);
+    }
+    reads
+}
+
+/// Whether an event is a get that may share its request with one that is answered too early: of another process's key,
+/// which isn't stored in an earlier phase, nor by the owner's first commit.
+fn may_have_mates(judge: &Judge<'_>, phases: &Phases, event: Event) -> bool
+    requires { event.at < event_count (plan_of judge.now) event.proc.number }
+{
+    match judge.plan().kind(event) {
+        Kind::Get { owner, key } => {
+            let asked = Key { owner, key };
+            owner.number != event.proc.number
+                && !phases.is_stored_earlier(judge.plan(), event, asked)
+                && is_late(judge, asked)
         }
         _ => false,
     }
 }
 
-/// Whether some event of a process is such a one.
-fn some_beside_gets(judge: &Judge<'_>, proc: Proc) -> bool {
+/// Whether some event of a process is.
+fn some_have_mates(judge: &Judge<'_>, phases: &Phases, proc: Proc) -> bool {
     for at in 0..judge.plan().event_count(proc) {
-        if is_beside_gets(judge, Event { proc, at }) {
+        if may_have_mates(judge, phases, Event { proc, at }) {
             return true;
         }
     }
     false
 }
 
-/// Whether the gets beside some event of a plan are asked for. They aren't in a plan without get-nows whose processes
-/// commit once each.
-pub(crate) fn asks_for_gets(judge: &Judge<'_>) -> bool {
+/// Whether some event of a plan is.
+fn any_has_mates(judge: &Judge<'_>, phases: &Phases) -> bool {
     for number in 0..judge.plan().process_count() {
-        if some_beside_gets(judge, Proc { number }) {
+        if some_have_mates(judge, phases, Proc { number }) {
             return true;
         }
     }
     false
+}
+
+/// The same, where what is stored in an earlier phase isn't late.
+pub(crate) fn by_phases(judge: &Judge<'_>, phases: &Phases, reads: ReadWays) -> ReadWays {
+    ReadWays {
+        late: reads.late && any_has_mates(judge, phases),
+        ..reads
+    }
 }

@@ -8,7 +8,7 @@ ghost use Rattle.wire_runs.specs.Plan.{Get, GetNow, Publish, Put, Unpublish, kin
 ghost use Rattle.wire_runs.specs.Races.{IsSettled};
 ghost use Rattle.wire_library_laws.specs.Portable.{IsAsked};
 ghost use Rattle.wire_portable.specs.Gets.{place_in, AreOpenGets, AreUnreadBeside, IsGetTable};
-ghost use Rattle.wire_portable.specs.Phases.{IsOfLaterPhase};
+ghost use Rattle.wire_portable.specs.Phases.{ArePhases, IsThereUnlessEnded};
 ghost use Rattle.wire_portable.specs.declared.libraries.Library.{Library as L};
 ghost use Rattle.wire_portable.specs.Adding.{AddsUnportable};
 ghost use Rattle.wire_portable.specs.Judging.{IsNoRewrite};
@@ -17,19 +17,20 @@ ghost use Rattle.wire_portable.specs.Libraries.{family_of, has};
 ghost use Rattle.wire_portable.specs.Named.{FindsFree, FindsOwnName};
 ghost use Rattle.wire_portable.specs.Nows.{IsLiveNow, IsNearNowFine, IsFarNowFine};
 ghost use Rattle.wire_portable.specs.Searched.{plan_in, words_in, MayBe, may_be, HasNoMate, IsNearFine, IsFarFine, IsGetFine};
-ghost use Rattle.wire_portable.specs.Unportable.{AreUnportable, AreUnportableAnywhere, AreUnportableOn, IsUnblamed};
+ghost use Rattle.wire_portable.specs.Unportable.{AreUnportable, AreUnportableAnywhere, AreUnportableOn, EachNamesSome, IsUnblamed};
 
 use crate::asked::is_asked;
 use crate::fences::{SetTable, add_fence, all_if};
-use crate::gets::GetTable;
+use crate::gets::{GetTable, ReadWays};
 use crate::hearing::Hearing;
 use crate::judge::{Judge, Key};
 use crate::libraries::Libraries;
 use crate::listed::{Rule, UnportableList};
-use crate::mates::{asks_for_gets, mates};
+use crate::mates::{by_phases, mates, reads_of};
 use crate::names::{is_missed, is_published, stuck_lookups};
 use crate::nows::sees_remote;
 use crate::own_calls::now_anywhere;
+use crate::phases::Phases;
 use crate::puts::is_put_again;
 use crate::reserved::{is_known, is_unpublish};
 use crate::spelt_apart::{Ruled, all_blamed, as_spelt};
@@ -47,7 +48,8 @@ use wire_types::{Event, Fault, Proc};
 struct Search<'a> {
     marked: &'a MarkedPlan<'a>,
     judge: &'a Judge<'a>,
-    gets: Option<&'a GetTable>,
+    gets: Option<&'a GetTable<'a>>,
+    phases: &'a Phases,
     hearing: &'a Hearing,
     sets: &'a SetTable,
     spelling: &'a Spelling,
@@ -65,6 +67,7 @@ impl<'a> Model for Search<'a> {
     ghost use Rattle.wire_portable.specs.Fences.{TellsJobs};
     ghost use Rattle.wire_portable.specs.Gets.{IsGetTable};
     ghost use Rattle.wire_portable.specs.Named.{AreNever};
+    ghost use Rattle.wire_portable.specs.Phases.{ArePhases};
     ghost use Rattle.wire_portable.specs.Searched.{Searched};
 
     ghost Value = { Searched };
@@ -76,7 +79,8 @@ impl<'a> Model for Search<'a> {
         × IsSound s.marked.now
         × TellsJobs s.marked.now s.sets.now
         × (s.settled ≡ true → IsSettled (plan_of s.marked.now))
-        × AreNever (plan_of s.marked.now) (map event_of s.stuck.now) };
+        × AreNever (plan_of s.marked.now) (map event_of s.stuck.now)
+        × ArePhases (plan_of s.marked.now) s.phases.now };
 }
 
 impl Search<'_> {
@@ -162,15 +166,13 @@ impl Search<'_> {
     }
 
     /// Whether the commit that stores a key is of an earlier phase than a get.
-    fn is_of_later_phase(&self, get: Event, asked: Key) -> bool
+    fn is_stored_earlier(&self, get: Event, asked: Key) -> bool
         requires is { kind (plan_in self.now) (event_of get) ≡ Some (Get asked.owner.number asked.key) }
         requires asked { IsAsked (plan_in self.now) (event_of get) }
-        ensures { IsTrue result → IsOfLaterPhase (plan_in self.now) asked.owner.number asked.key (event_of get) }
+        ensures { IsTrue result → IsThereUnlessEnded (plan_in self.now) asked.owner.number asked.key (event_of get) }
     {
-        match self.gets {
-            Some(table) => table.is_of_later_phase(self.marked, get, asked),
-            None => false,
-        }
+        let plan = self.marked.plan();
+        self.phases.is_stored_earlier(plan, get, asked)
     }
 
     /// The libraries on which a get may get the answer of another one of its node, which lacks its key.
@@ -180,10 +182,7 @@ impl Search<'_> {
         ensures { (library : L) → has result library ≡ false →
             HasNoMate self.now.anywhere library (plan_in self.now) asked.owner.number asked.key (event_of get) }
     {
-        let Some(_) = self.judge.last_lacking(asked) else {
-            return Libraries::none();
-        };
-        if self.is_of_later_phase(get, asked) {
+        if self.is_stored_earlier(get, asked) {
             return Libraries::none();
         }
         let first = self.first_beside(get, asked);
@@ -210,8 +209,11 @@ impl Search<'_> {
             return Ok(());
         }
         let plan = self.marked.plan();
-        found.blame(plan, get, Rule::FarGet, far_get(self.judge, get, asked))?;
         found.blame(plan, get, Rule::FarLocal, outside(self.judge, asked, false))?;
+        let Some(_) = self.judge.last_lacking(asked) else {
+            return Ok(());
+        };
+        found.blame(plan, get, Rule::FarGet, far_get(self.judge, get, asked))?;
         found.blame(plan, get, Rule::Mates, self.with_mates(get, asked))
     }
 
@@ -513,19 +515,38 @@ impl Search<'_> {
     }
 }
 
-/// The gets of a plan, where some call asks for those beside it.
-fn gets_of(
+/// Whether phases matter to how keys are read: to gets whose keys come late, and to get-nows beside gets.
+fn ask_for_phases(reads: ReadWays) -> bool {
+    reads.late || (reads.gets && reads.nows)
+}
+
+/// The phases of a plan, where they matter. Else all is one phase.
+fn phases_of(alloc: Global, marked: &MarkedPlan<'_>, reads: ReadWays) -> Result<Phases, AllocError>
+    ensures { IfOk result (λ phases. ArePhases (plan_of marked.now) phases) }
+{
+    if ask_for_phases(reads) {
+        Phases::of(alloc, marked.plan())
+    } else {
+        Ok(Phases::one(alloc))
+    }
+}
+
+/// The gets of a plan, where those beside some call are asked for: beside a get-now, or a get that may share its request
+/// with one that is answered too early.
+fn gets_of<'a>(
     alloc: Global,
-    judge: &Judge<'_>,
     marked: &MarkedPlan<'_>,
+    phases: &'a Phases,
+    reads: ReadWays,
     anywhere: bool,
-) -> Result<Option<GetTable>, AllocError>
+) -> Result<Option<GetTable<'a>>, AllocError>
+    requires { ArePhases (plan_of marked.now) phases.now }
     ensures { IfOk result (λ gets. MatchOption gets (Unit {0}) (λ g. IsGetTable anywhere (plan_of marked.now) g)) }
 {
-    if !asks_for_gets(judge) {
+    if !reads.late && !reads.nows {
         return Ok(None);
     }
-    let gets = GetTable::of(alloc, marked, anywhere)?;
+    let gets = GetTable::of(alloc, marked, phases, reads, anywhere)?;
     Ok(Some(gets))
 }
 
@@ -533,11 +554,12 @@ fn gets_of(
 fn hearing_of(
     alloc: Global,
     marked: &MarkedPlan<'_>,
-    gets: Option<&GetTable>,
+    gets: Option<&GetTable<'_>>,
+    reads: ReadWays,
 ) -> Result<Hearing, AllocError> {
     match gets {
-        Some(table) => table.hearing(alloc, marked.plan()),
-        None => Ok(Hearing::empty(alloc)),
+        Some(table) if reads.nows => table.hearing(alloc, marked.plan()),
+        _ => Ok(Hearing::empty(alloc)),
     }
 }
 
@@ -555,14 +577,18 @@ fn lines_of(
     // Scripts are sound.
     let _ = marked.plan().scripts();
     let judge = Judge::of(alloc, marked)?;
-    let gets = gets_of(alloc, &judge, marked, anywhere)?;
-    let hearing = hearing_of(alloc, marked, gets.as_ref())?;
+    let first_reads = reads_of(&judge);
+    let phases = phases_of(alloc, marked, first_reads)?;
+    let reads = by_phases(&judge, &phases, first_reads);
+    let gets = gets_of(alloc, marked, &phases, reads, anywhere)?;
+    let hearing = hearing_of(alloc, marked, gets.as_ref(), reads)?;
     let sets = SetTable::of(alloc, marked, spelling)?;
     let stuck = stuck_lookups(alloc, marked, settled)?;
     let search = Search {
         marked,
         judge: &judge,
         gets: gets.as_ref(),
+        phases: &phases,
         hearing: &hearing,
         sets: &sets,
         spelling,
@@ -574,7 +600,8 @@ fn lines_of(
 }
 
 /// The calls of a plan by which it isn't portable, each once by each rule, in the order of processes, calls and rules
-/// (that they are these, once and in order, is only tested). For a library that none of them has, the plan is portable.
+/// (that they are these, once and in order, is only tested), with the libraries for which it isn't. For a library that
+/// none of them has, the plan is portable.
 /// `settled` says that nothing is found in the plan: then it is told by the plain run whether a name is there. The one
 /// fault is `Fault::Memory`.
 pub fn find_unportable(
@@ -585,9 +612,11 @@ pub fn find_unportable(
 ) -> Result<UnportableList, Fault>
     requires { settled ≡ true → IsSettled (plan_of marked.now) }
     ensures ok { IfOk result (AreUnportable marked.now spelling.now) }
+    ensures named { IfOk result EachNamesSome }
     ensures memory { IsOkUnless result Fault.Memory }
 {
     let found = lines_of(alloc, marked, spelling, settled, false)?;
+    found.each_names_some();
     Ok(found)
 }
 
@@ -601,8 +630,10 @@ pub fn find_unportable_anywhere(
 ) -> Result<UnportableList, Fault>
     requires { settled ≡ true → IsSettled (plan_of marked.now) }
     ensures ok { IfOk result (AreUnportableAnywhere marked.now spelling.now) }
+    ensures named { IfOk result EachNamesSome }
     ensures memory { IsOkUnless result Fault.Memory }
 {
     let found = lines_of(alloc, marked, spelling, settled, true)?;
+    found.each_names_some();
     Ok(found)
 }

@@ -127,24 +127,25 @@ impl Groups {
     }
 }
 
-/// How the first call that comes spells each set.
-struct Spelt {
-    first: HashMap<u32, usize>,
+/// For each set the number of how the first call that comes spells it.
+struct FirstSpellings {
+    numbers: HashMap<u32, usize>,
 }
 
-impl Drop for Spelt {
+// By hand and not derived: so dropping one is a call, and the proof of a function that drops one doesn't take it apart.
+impl Drop for FirstSpellings {
     fn drop(self) {
-        let Spelt { first: _ } = self;
+        let FirstSpellings { numbers: _ } = self;
     }
 }
 
-impl Spelt {
+impl FirstSpellings {
     /// Whether a group spells its set as the first one of that set does.
     fn is_as_first(&mut self, group: Group) -> Result<bool, AllocError> {
-        if let Some(number) = self.first.get(&group.set).copied() {
+        if let Some(number) = self.numbers.get(&group.set).copied() {
             return Ok(number == group.number);
         }
-        self.first.insert(group.set, group.number)?;
+        self.numbers.insert(group.set, group.number)?;
         Ok(true)
     }
 }
@@ -189,13 +190,13 @@ fn add_groups(
     found: &mut UnportableList,
     groups: &Groups,
 ) -> Result<(), AllocError> {
-    let mut spelt = Spelt {
-        first: HashMap::new(alloc),
+    let mut firsts = FirstSpellings {
+        numbers: HashMap::new(alloc),
     };
     for group in &groups.list {
         if has_calls(plan, *group) {
             add_group(plan, spelling, sets, found, *group)?;
-            let alike = spelt.is_as_first(*group)?;
+            let alike = firsts.is_as_first(*group)?;
             if !alike {
                 found.blame(plan, group.first, Rule::FenceSpelling, Libraries::all())?;
             }

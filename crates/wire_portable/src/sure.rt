@@ -28,7 +28,7 @@ use wire_types::{Event, Proc};
 #[derive(Clone, Copy)]
 pub(crate) struct Beside<'a> {
     pub gets: &'a [Event],
-    pub table: Option<&'a GetTable>,
+    pub table: Option<&'a GetTable<'a>>,
     pub hearing: &'a Hearing,
 }
 
@@ -222,6 +222,31 @@ fn is_left_there(judge: &Judge<'_>, arrivals: &[Event], get: Event, asked: Key) 
     has_left(judge, arrivals, get)
 }
 
+/// Whether the last fence with data that a get-now's own process has left before it brings the key, and the process is of
+/// the owner's job: mostly so, and then no fence needs to be looked for.
+fn is_left_last(judge: &Judge<'_>, get: Event, asked: Key) -> bool
+    requires get { IsLiveNow (plan_of judge.now) asked.owner.number asked.key (event_of get) }
+    requires once { IsPutOnce (plan_of judge.now) asked.owner.number asked.key }
+    ensures { IsTrue result → IsLeft (plan_of judge.now) (job_at judge.now.processes) asked.owner.number asked.key
+        (node_of (plan_of judge.now) get.proc.number) (event_of get) }
+{
+    let plan = judge.plan();
+    let scripts = plan.scripts();
+    let Some(own) = plan.last_bringing_arrival(get) else {
+        return false;
+    };
+    let Some(arrival) = own_arrival(all_arrivals(plan, own), asked.owner) else {
+        return false;
+    };
+    let its = job_of(scripts, get.proc);
+    let job = job_of(scripts, asked.owner);
+    if its == job {
+        plan.is_sent(asked.owner, asked.key, arrival.at)
+    } else {
+        false
+    }
+}
+
 /// Whether a library in which fences bring surely has the key by a fence that a process of the node has left.
 fn is_left(judge: &Judge<'_>, get: Event, asked: Key) -> bool
     requires get { IsLiveNow (plan_of judge.now) asked.owner.number asked.key (event_of get) }
@@ -229,6 +254,9 @@ fn is_left(judge: &Judge<'_>, get: Event, asked: Key) -> bool
     ensures { IsTrue result → IsLeft (plan_of judge.now) (job_at judge.now.processes) asked.owner.number asked.key
         (node_of (plan_of judge.now) get.proc.number) (event_of get) }
 {
+    if is_left_last(judge, get, asked) {
+        return true;
+    }
     let plan = judge.plan();
     let marked = judge.marked();
     let node = plan.node_of(get.proc);
@@ -318,7 +346,7 @@ fn unsure(judge: &Judge<'_>, beside: Beside<'_>, get: Event, asked: Key, store: 
 }
 
 /// Whether a get where a get-now is may have brought a key that this commit stores.
-fn is_brought(judge: &Judge<'_>, table: Option<&GetTable>, get: Event, store: Event) -> bool
+fn is_brought(judge: &Judge<'_>, table: Option<&GetTable<'_>>, get: Event, store: Event) -> bool
     requires { get.proc.number < process_count (plan_of judge.now) }
 {
     match table {

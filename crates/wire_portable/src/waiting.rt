@@ -44,9 +44,6 @@ pub(crate) fn far_get(judge: &Judge<'_>, get: Event, asked: Key) -> Libraries
     ensures { (library : L) → has result library ≡ false →
         IsEndedFar (family_of library) (plan_of judge.now) asked.owner.number asked.key (event_of get) }
 {
-    let Some(_) = judge.last_lacking(asked) else {
-        return Libraries::none();
-    };
     if judge.is_there_first(asked, get) {
         return Libraries::none();
     }

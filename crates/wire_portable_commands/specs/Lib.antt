@@ -1,5 +1,6 @@
 pub mod Words
 pub mod Lines
+pub mod Heads
 pub mod Json
 pub mod Text
 pub mod Read

@@ -6,6 +6,7 @@ use Rattle.wire_types.specs.declared.CallAt.{CallAt}
 use Rattle.wire_scripts.specs.Scripts.{Scripts}
 use Rattle.wire_report.specs.GroupedText.{said_call}
 use Rattle.wire_report.specs.Place.{place_text}
+use Rattle.wire_portable.specs.Listed.{rule_number}
 use Rattle.wire_portable.specs.declared.listed.Rule.{Rule}
 use Rattle.wire_portable.specs.declared.listed.Rule.TheVariants.{FarGet, FarLocal, FenceCollect, FenceJobs, FenceRepeats, FenceSpelling, GetNow}
 use Rattle.wire_portable.specs.declared.listed.Rule.TheVariants.{Mates, NearGet, NearRemote, Published, Reserved, Rewrite, UnpublishAll, Unpublished}
@@ -29,28 +30,11 @@ portable_line lines = codes "portable " ++ names_or_none (portable_in lines) ++ 
 abbrev pub plain_lines : Scripts → List Unportable → List ℕ
 plain_lines s lines = flat_map (unportable_line s) lines ++ portable_line lines
 
--- the rules, in the order of their words, and the place of each
+-- the rules, in the order of their words
 abbrev pub all_rules : List Rule
 all_rules =
     FarGet ∷ FarLocal ∷ FenceCollect ∷ FenceJobs ∷ FenceRepeats ∷ FenceSpelling ∷ GetNow ∷ Mates ∷ NearGet ∷ NearRemote ∷ Published ∷ Reserved ∷ Rewrite
     ∷ UnpublishAll ∷ Unpublished ∷ []
-
-abbrev pub rule_number : Rule → ℕ
-rule_number FarGet = 0
-rule_number FarLocal = 1
-rule_number FenceCollect = 2
-rule_number FenceJobs = 3
-rule_number FenceRepeats = 4
-rule_number FenceSpelling = 5
-rule_number GetNow = 6
-rule_number Mates = 7
-rule_number NearGet = 8
-rule_number NearRemote = 9
-rule_number Published = 10
-rule_number Reserved = 11
-rule_number Rewrite = 12
-rule_number UnpublishAll = 13
-rule_number Unpublished = 14
 
 -- the calls that are blamed by a rule
 abbrev pub is_by : Rule → Unportable → Bool

@@ -6,7 +6,7 @@ ghost use Rattle.wire_types.specs.Texts.{lists_of};
 ghost use Rattle.wire_portable_commands.specs.Lines as spec;
 
 use crate::lines::{push_portable, push_said};
-use crate::words::{blamed_in, names_text, rule_number, rule_word};
+use crate::words::{blamed_in, names_text, rule_word};
 use std::alloc::{AllocError, Global};
 use wire_portable::{Rule, Unportable};
 use wire_report::{SourceLines, push_place};
@@ -18,7 +18,7 @@ use wire_words::push_number;
 fn is_by(rule: Rule, line: Unportable) -> bool
     ensures { result ≡ spec.is_by rule line }
 {
-    rule_number(line.rule) == rule_number(rule)
+    line.rule.number() == rule.number()
 }
 
 /// Adds a call where it is blamed by a rule.

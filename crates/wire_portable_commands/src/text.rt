@@ -33,7 +33,7 @@ pub(crate) fn tell_libraries(
         (lists_of telling.entry.places.rows.now) scripts.now told.old.items lines.now) }
 {
     match telling.form {
-        OutputFormat::Lines => push_lines(told, scripts, lines),
+        OutputFormat::Lines => push_lines(alloc, told, scripts, lines),
         OutputFormat::Places => push_grouped(told, telling.places, scripts, lines),
         OutputFormat::Json | OutputFormat::PlacedJson => {
             open_object(told);

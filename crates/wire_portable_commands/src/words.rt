@@ -2,7 +2,6 @@
 
 ghost use Rattle.std.specs.Prelude.{◌≡◌};
 ghost use Rattle.wire_portable_commands.specs.Json.{names_json as the_json};
-ghost use Rattle.wire_portable_commands.specs.Lines.{rule_number as the_number};
 ghost use Rattle.wire_portable_commands.specs.Words as spec;
 
 use wire_portable::{Libraries, Rule, Unportable};
@@ -27,29 +26,6 @@ pub(crate) fn rule_word(rule: Rule) -> &'static str
         Rule::Rewrite => "rewrite",
         Rule::UnpublishAll => "unpublish-all",
         Rule::Unpublished => "unpublished",
-    }
-}
-
-/// The place of a rule in the order of their words.
-pub(crate) fn rule_number(rule: Rule) -> u8
-    ensures { result ≡ the_number rule }
-{
-    match rule {
-        Rule::FarGet => 0,
-        Rule::FarLocal => 1,
-        Rule::FenceCollect => 2,
-        Rule::FenceJobs => 3,
-        Rule::FenceRepeats => 4,
-        Rule::FenceSpelling => 5,
-        Rule::GetNow => 6,
-        Rule::Mates => 7,
-        Rule::NearGet => 8,
-        Rule::NearRemote => 9,
-        Rule::Published => 10,
-        Rule::Reserved => 11,
-        Rule::Rewrite => 12,
-        Rule::UnpublishAll => 13,
-        Rule::Unpublished => 14,
     }
 }
 

@@ -7,11 +7,7 @@ use Rattle.std.specs.List.{slice_split, onto_first}
 use Rattle.std.specs.Str.Lines.{strip_carriage_return}
 use Rattle.wire_lines.specs.Text.{is_blank, words_of}
 use Rattle.wire_spelling.specs.Spelling.{Call, said_of, said_with}
-use Rattle.wire_spelling.specs.Spelled.{begins_call}
-
--- the line that begins with this byte is such a call
-abbrev IsPlain : ℕ → Type 0
-IsPlain b = (bs : List ℕ) → said_of (words_of (strip_carriage_return (b ∷ bs))) ≡ Call None
+use Rattle.wire_spelling.specs.Spelled.{BeginsPlainCall}
 
 is_word : (b : ℕ) (word : List ℕ) → not (length (b ∷ word) == 0) ≡ true
 is_word b word = not_from_false (length (b ∷ word) == 0) (ne_eqb (length (b ∷ word)) 0 (λ e. omega (arith, e)))
@@ -36,7 +32,7 @@ module _ (b : ℕ) (plain : (w : List ℕ) (ws : List (List ℕ)) → said_with 
       cond_both (slice_index (b ∷ c ∷ cs) (suc n) == 13) (b ∷ take n (c ∷ cs)) (b ∷ c ∷ cs) (λ l. said_of (words_of l) ≡ Call None)
       (λ t. unstripped (take n (c ∷ cs))) (λ f. unstripped (c ∷ cs))
 
-  stripped : IsPlain b
+  stripped : BeginsPlainCall b
   stripped [] = cond_both (b == 13) [] (b ∷ []) (λ l. said_of (words_of l) ≡ Call None) (λ t. absurd (true≢false (sym t ∙ kept))) (λ f. unstripped [])
   stripped (c ∷ cs) = cut (length (b ∷ c ∷ cs) - 1) c cs (omega arith)
 
@@ -44,11 +40,12 @@ one_of : (x y : Bool) → (x || y) ≡ true → (x ≡ true) ⊎ (y ≡ true)
 one_of true y t = inl refl
 one_of false y t = inr t
 
-at_byte : (b n : ℕ) → (b == n) ≡ true → IsPlain n → IsPlain b
-at_byte b n e plain = subst IsPlain (sym (eqb-true b n e)) plain
+at_byte : (b n : ℕ) → (b == n) ≡ true → BeginsPlainCall n → BeginsPlainCall b
+at_byte b n e plain = subst BeginsPlainCall (sym (eqb-true b n e)) plain
 
-plain_line : (b : ℕ) → begins_call b ≡ true → IsPlain b
-plain_line b t = elim (one_of (b == 99) _ t) [
+-- so it is of a line that begins with `c`, `g`, `l`, `p` or `u`
+pub plain_call : (b : ℕ) → ((b == 99) || ((b == 103) || ((b == 108) || ((b == 112) || (b == 117))))) ≡ true → BeginsPlainCall b
+plain_call b t = elim (one_of (b == 99) _ t) [
   | inl e ↦ at_byte b 99 e (stripped 99 (λ w ws. refl) refl refl)
   | inr t ↦ elim (one_of (b == 103) _ t) [
     | inl e ↦ at_byte b 103 e (stripped 103 (λ w ws. refl) refl refl)
@@ -63,6 +60,6 @@ plain_line b t = elim (one_of (b == 99) _ t) [
 ]
 
 -- so it is of a line by its first byte
-pub plain_from : (line : List ℕ) → 1 ≤ length line → begins_call (get_or line 0 0) ≡ true → said_of (words_of (strip_carriage_return line)) ≡ Call None
+pub plain_from : (line : List ℕ) → 1 ≤ length line → BeginsPlainCall (get_or line 0 0) → said_of (words_of (strip_carriage_return line)) ≡ Call None
 plain_from [] some t = absurd (omega (arith, some))
-plain_from (b ∷ bs) some t = plain_line b t bs
+plain_from (b ∷ bs) some t = t bs

@@ -1,6 +1,8 @@
 -- What the lines of a text say, and the sets that are read so far: for the contracts of private functions.
-use Rattle.std.specs.Prelude.{ℕ, ◌==◌, ◌||◌, Bool, List, ◌∷◌, ◌++◌, Option, option_map}
+use Rattle.std.specs.Prelude.{◌≡◌, ℕ, List, ◌∷◌, ◌++◌, Option, None, option_map}
+use Rattle.std.specs.Str.Lines.{strip_carriage_return}
 use Rattle.std.specs.Borrow.{Bor}
+use Rattle.wire_lines.specs.Text.{words_of}
 use Rattle.wire_spelling.specs.Spelling.{SaidOfCalls, SpelledSet, CallRows}
 use Rattle.wire_spelling.specs.Spelling as spec
 use Rattle.wire_spelling.specs.declared.spelled.Said.{Said as CodeSaid}
@@ -19,10 +21,9 @@ said_by (Call set) = spec.Call (word_by set)
 abbrev pub set_by : CodeSet → SpelledSet
 set_by spelled = record { job = spelled.job.now; set = spelled.set.now }
 
--- the first bytes by which a line is taken for a call that isn't one of a fence: those of `commit`, `get`, `lookup`, `put`,
--- `unpublish` and the like
-abbrev pub begins_call : ℕ → Bool
-begins_call b = (b == 99) || ((b == 103) || ((b == 108) || ((b == 112) || (b == 117))))
+-- each line that begins with this byte is a call, and not one of a fence
+abbrev pub BeginsPlainCall : ℕ → Type 0
+BeginsPlainCall b = (bs : List ℕ) → spec.said_of (words_of (strip_carriage_return (b ∷ bs))) ≡ spec.Call None
 
 -- what is read so far: the job, the rows that are done, and the one that isn't
 pub record Progress : Type 0 where

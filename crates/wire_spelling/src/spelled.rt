@@ -100,9 +100,10 @@ fn said_of<'a>(words: &[&'a [u8]]) -> Said<'a>
     }
 }
 
-/// Whether a line that begins with this byte is a call, and not one of a fence.
+/// Whether a line that begins with this byte is a call, and not one of a fence: those of `commit`, `get`, `lookup`, `put`,
+/// `unpublish` and the like.
 fn begins_call(byte: u8) -> bool
-    ensures { result ≡ spelt.begins_call byte }
+    ensures { IsTrue result → spelt.BeginsPlainCall byte }
 {
     byte == b'c' || byte == b'g' || byte == b'l' || byte == b'p' || byte == b'u'
 }

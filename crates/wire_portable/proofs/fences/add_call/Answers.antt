@@ -1,4 +1,4 @@
-use Rattle.std.proofs.Common.{◌≡◌, false, map, subst}
+use Rattle.std.proofs.Common.{◌≡◌, ◌∙◌, false, map, subst, sym}
 use Rattle.std.proofs.lemmas.Result.{on_ok_weaker}
 use Rattle.wire_runs.specs.Plan.{event_of, set_of}
 use Rattle.wire_runs.proofs.Basics.{event_within}
@@ -34,6 +34,10 @@ add_first-requires-clause-here c = event_within (plan_of c.args.plan.now) c.args
 
 pub add_first-requires-clause-arrives : goal.add_first-requires-clause-arrives
 add_first-requires-clause-arrives c = arrives c.args.plan.now c.scripts.ensures.sound (event_of c.args.call.arrival) _ c.args.call.collect c.requires.is
+
+pub add_first-requires-clause-alike : goal.add_first-requires-clause-alike
+add_first-requires-clause-alike c =
+    sym c.number_at-number.ensures ∙ c.are_same.ensures.0 c.if-not-are_same.false ∙ c.spelt_first.ensures
 
 pub blame-requires : goal.blame-requires
 blame-requires c = event_within (plan_of c.args.plan.now) c.args.call.arrival.proc.number c.args.call.arrival.at _ c.requires.is

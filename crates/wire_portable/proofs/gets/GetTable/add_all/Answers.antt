@@ -21,7 +21,7 @@ loop-number-preserved c = (
       subst (λ p. AreGetsTo c.args.self.now.together (plan_of c.args.marked.now) p 0 c.add_process.new.self) next (told (c.loop-number.invariant.0 start))),
   c.in_ok-add_process.ensures.kept ∙ c.loop-number.invariant.1,
   (λ start.
-      subst (λ rows. AreFirst (plan_of c.args.marked.now) rows c.loop-number.self → AreFirst (plan_of c.args.marked.now) rows c.add_process.new.self) c.loop-number.invariant.3 c.in_ok-add_process.ensures.firsts
+      subst (λ phases. AreFirst (plan_of c.args.marked.now) phases.now c.loop-number.self → AreFirst (plan_of c.args.marked.now) phases.now c.add_process.new.self) c.loop-number.invariant.3 c.in_ok-add_process.ensures.firsts
       (c.loop-number.invariant.2 start)),
   c.in_ok-add_process.ensures.phases ∙ c.loop-number.invariant.3,
 )

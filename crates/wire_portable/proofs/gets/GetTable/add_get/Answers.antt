@@ -25,5 +25,5 @@ returns-else-is_asked-clause-added c =
 
 pub returns-in_ok-add-clause-firsts : goal.returns-in_ok-add-clause-firsts
 returns-in_ok-add-clause-firsts c = λ are.
-    still_first (plan_of c.args.marked.now) c.args.self.now.phases c.args.asked.owner.number c.place_of-place.result c.phase-phase.result c.args.asked.key (event_of c.args.event) c.args.self.now
+    still_first (plan_of c.args.marked.now) c.args.self.now.phases.now c.args.asked.owner.number c.place_of-place.result c.phase-phase.result c.args.asked.key (event_of c.args.event) c.args.self.now
     c.lower_to.new.self c.add.new.self c.requires.is (sym c.phase-phase.ensures) c.in_ok-lower_to.ensures.lower c.in_ok-lower_to.ensures.less c.in_ok-lower_to.ensures.lists c.in_ok-add.ensures.firsts c.in_ok-add.ensures.here c.in_ok-add.ensures.others are

@@ -21,7 +21,7 @@ loop-at-preserved c = (
       subst (λ i. AreGetsTo c.args.self.now.together (plan_of c.args.marked.now) c.args.proc.number i c.add_event.new.self) next (told (c.loop-at.invariant.0 start))),
   c.in_ok-add_event.ensures.kept ∙ c.loop-at.invariant.1,
   (λ start.
-      subst (λ rows. AreFirst (plan_of c.args.marked.now) rows c.loop-at.self → AreFirst (plan_of c.args.marked.now) rows c.add_event.new.self) c.loop-at.invariant.3 c.in_ok-add_event.ensures.firsts
+      subst (λ phases. AreFirst (plan_of c.args.marked.now) phases.now c.loop-at.self → AreFirst (plan_of c.args.marked.now) phases.now c.add_event.new.self) c.loop-at.invariant.3 c.in_ok-add_event.ensures.firsts
       (c.loop-at.invariant.2 start)),
   c.in_ok-add_event.ensures.phases ∙ c.loop-at.invariant.3,
 )

@@ -7,5 +7,5 @@ abbrev pub invariant-loop-at : goal.invariant-loop-at
 invariant-loop-at l =
     (AreGetsTo l.fn.self.together (plan_of l.marked) l.proc.number 0 l.fn.self → AreGetsTo l.fn.self.together (plan_of l.marked) l.proc.number l.at l.self)
     × (l.self.together ≡ l.fn.self.together)
-    × (AreFirst (plan_of l.marked) l.fn.self.phases l.fn.self → AreFirst (plan_of l.marked) l.fn.self.phases l.self)
+    × (AreFirst (plan_of l.marked) l.fn.self.phases.now l.fn.self → AreFirst (plan_of l.marked) l.fn.self.phases.now l.self)
     × (l.self.phases ≡ l.fn.self.phases)

@@ -13,6 +13,6 @@ returns c =
     let empty : GetTable = record { lists = c.new.result; firsts = c.new-2.result; lasts = c.empty.result; phases = c.add_all.new.self.phases; together = c.args.together } in record {
       where_it_is = c.in_ok-add_all.ensures.kept;
       lists = c.in_ok-add_all.ensures.added (none_added c.args.together plan empty (empty_under empty c.new.ensures.empty));
-      phases = subst (ArePhases plan) (sym kept) (rw c.plan.ensures at c.in_ok-phases.ensures);
-      firsts = subst (λ rows. AreFirst plan rows c.add_all.new.self) (sym kept) (c.in_ok-add_all.ensures.firsts (none_first plan _ empty (empty_under empty c.new.ensures.empty)));
+      phases = subst (λ phases. ArePhases plan phases.now) (sym kept) c.requires;
+      firsts = subst (λ phases. AreFirst plan phases.now c.add_all.new.self) (sym kept) (c.in_ok-add_all.ensures.firsts (none_first plan _ empty (empty_under empty c.new.ensures.empty)));
     }
