@@ -6,15 +6,15 @@ a use that follows from other lines has none. The colour of a box tells the laye
 With --check it writes nothing, and ends with status 1 if the picture isn't the one of crates.txt.
 """
 import argparse
-import os
 import sys
 from collections.abc import Iterable, Mapping, Sequence
 from dataclasses import dataclass, field
+from pathlib import Path
 from xml.sax.saxutils import escape
 
-TOP = os.path.dirname(os.path.dirname(__file__))
-TABLE = os.path.join(TOP, "crates.txt")
-PICTURE = os.path.join(TOP, "docs", "crates.svg")
+TOP = Path(__file__).parent.parent
+TABLE = TOP / "crates.txt"
+PICTURE = TOP / "docs" / "crates.svg"
 
 # All lengths are in pixels.
 WIDTH = 900
@@ -179,7 +179,7 @@ def average_place(spot: Spot, places: Mapping[int, int], beside: Sequence[Spot])
     return sum(known) / len(known) if known else places[id(spot)]
 
 
-def sweep_order(rows: Sequence[list[Spot]], is_up: bool) -> None:
+def sweep_order(rows: Sequence[list[Spot]], *, is_up: bool) -> None:
     """Puts each row in the order of what is joined with it, from the lowest row up or back."""
     for row in rows if is_up else reversed(rows):
         places = {id(spot): place for other in rows for place, spot in enumerate(other)}
@@ -193,7 +193,7 @@ def sweep_order(rows: Sequence[list[Spot]], is_up: bool) -> None:
 def put_in_order(rows: Sequence[list[Spot]]) -> None:
     """Puts each row in an order in which few lines cross."""
     for sweep in range(SWEEPS):
-        sweep_order(rows, sweep % 2 == 0)
+        sweep_order(rows, is_up=sweep % 2 == 0)
 
 
 def push_right(row: Sequence[Spot], wanted: Sequence[float], edge: float) -> list[float]:

@@ -15,6 +15,7 @@ import subprocess
 import sys
 from collections.abc import Callable, Iterator, Mapping, Sequence
 from dataclasses import dataclass
+from pathlib import Path
 
 from build import kit
 from build.counted_runs import Ran, run_counted
@@ -76,7 +77,7 @@ def find_pytest() -> str | None:
     """A python that has pytest and what it has to have; None where there is none."""
     of_system = shutil.which("python3", path=os.defpath)
     for python in sys.executable, shutil.which("python3"), of_system:
-        if python and os.path.exists(python):
+        if python and Path(python).exists():
             words = [python, "-c", f"import {MODULES}"]
             look = subprocess.run(words, capture_output=True, check=False)
             if look.returncode == 0:
@@ -109,13 +110,13 @@ def told_of(lines: Sequence[str]) -> list[str]:
 
 @dataclass(frozen=True)
 class Session:
-    """How tests run: whether only those of a quick run, the settings in their environment, the log
-    to which all that is printed is added, and what is told how far they are."""
+    """How tests run: the settings in their environment, the log to which all that is printed is
+    added, what is told how far they are, and whether only those of a quick run do."""
 
-    is_quick: bool
     settings: Mapping[str, str]
-    log: str
+    log: Path
     now: Callable[[str], None]
+    is_quick: bool
 
 
 def run_part(part: Part, python: str, session: Session) -> Ran:
@@ -171,7 +172,8 @@ def main(words: Sequence[str]) -> int:
     is_quick, counts = "--quick" in words, Counts()
     name = "quick" if is_quick else "tests"
     with Progress("tests", minutes_of()[name]) as line:
-        for ran in run_tests(Session(is_quick, {}, log_at(f"{name}.log"), line.now)):
+        session = Session({}, log_at(f"{name}.log"), line.now, is_quick=is_quick)
+        for ran in run_tests(session):
             line.note(ran.whole())
             counts += ran.counts
     print(counts, flush=True)

@@ -13,6 +13,7 @@ import os
 import re
 import tempfile
 import unittest
+from pathlib import Path
 
 from build.trying import run_cases
 from tests import support
@@ -52,7 +53,7 @@ def tables() -> list[str]:
 class TriedTables(unittest.TestCase):
     """The tables that are asked for."""
 
-    def runs(self, room: str) -> dict[str, RowRun]:
+    def runs(self, room: Path) -> dict[str, RowRun]:
         """All runs, by what they are called."""
         found = {}
         for table in tables():
@@ -63,8 +64,9 @@ class TriedTables(unittest.TestCase):
         return found
 
     def test_rows(self) -> None:
-        with tempfile.TemporaryDirectory() as other, tempfile.TemporaryDirectory() as room:
-            runs = self.runs(other)
+        with tempfile.TemporaryDirectory() as other, tempfile.TemporaryDirectory() as folder:
+            room = Path(folder)
+            runs = self.runs(Path(other))
             for number, run in enumerate(runs.values()):
                 written(room, f"run{number}", run.plan)
                 words = "".join(f"{word}\n" for word in run.words)

@@ -1,12 +1,12 @@
 """Tests how races are shown in a program, as far as that needs no MPI: names of calls, traces, what
 differs, where a process stood, the server, options, and the head of a plan."""
-import os
 import socket
 import tempfile
 import threading
 import time
 import unittest
 from collections.abc import Sequence
+from pathlib import Path
 
 from wire_up_tools.checker import Checker
 from wire_up_tools.failures import Refused
@@ -40,18 +40,18 @@ LOOKUP = Target("app:1", 1, 0, 1, "lookup port", 1, "lookup")
 BOTH = (PUBLISH, LOOKUP)
 
 
-def write_tapes(folder: str, tapes: Sequence[Tape]) -> None:
+def write_tapes(folder: Path, tapes: Sequence[Tape]) -> None:
     """Writes recordings, with the zeros that may follow them."""
     for number, tape in enumerate(tapes):
-        with open(os.path.join(folder, f"job.{number}.n0.{number}.recording"), "wb") as to:
+        with open(folder / f"job.{number}.n0.{number}.recording", "wb") as to:
             to.write("".join(f"{line}\n" for line in tape.lines).encode() + b"\0" * 10)
 
 
 def make_traces(tapes: Sequence[Tape]) -> Traces:
     """The traces of recordings."""
-    with tempfile.TemporaryDirectory() as folder:
-        write_tapes(folder, tapes)
-        return read_traces(folder)
+    with tempfile.TemporaryDirectory() as room:
+        write_tapes(Path(room), tapes)
+        return read_traces(Path(room))
 
 
 def make_run(
@@ -67,7 +67,7 @@ def make_run(
         for what, end in calls:
             tapes[-1].call(what, end)
     found = dict(enumerate(courses, 1))
-    return HeldRun(Holds(BOTH), "", status, 0.0, 1.0, found, make_traces(tapes), output)
+    return HeldRun(Holds(BOTH), Path(), status, 0.0, 1.0, found, make_traces(tapes), output)
 
 
 class NamesTest(unittest.TestCase):
@@ -100,17 +100,12 @@ class NamesTest(unittest.TestCase):
     def test_names_of_a_plan_are_those_of_its_recordings(self) -> None:
         """The count over the lines of a plan alone is that of the recording, in each that ships,
         but for calls of several names and of fences that others stand for."""
-        for name in sorted(os.listdir(SHIPPED)):
-            folder = os.path.join(SHIPPED, name)
-            if not os.path.isdir(folder) or not any(
-                ".rec" in each_name for each_name in os.listdir(folder)
-            ):
-                continue
+        for folder in sorted(path for path in SHIPPED.iterdir() if any(path.glob("*.rec*"))):
             try:
-                plan = make_plan(read_recordings([folder], LARGE), Choices(most=LARGE))
+                plan = make_plan(read_recordings([str(folder)], LARGE), Choices(most=LARGE))
             except Refused:
                 continue
-            with self.subTest(name):
+            with self.subTest(folder.name):
                 self.hold_names(read_traces(folder), plan)
 
     def hold_names(self, traces: Traces, plan: Plan) -> None:
@@ -267,7 +262,7 @@ class OwnTest(unittest.TestCase):
 
     def leave_out(self, held: Sequence[HeldRun], plain: Sequence[HeldRun]) -> Compared:
         """What is left of the differences between two runs."""
-        session = Session((), (), "", None, None, Patience(1, 1))
+        session = Session((), (), Path(), None, None, Patience(1, 1))
         compared = compare(held, BOTH)
         return leave_out_own(compared, held, BOTH, PlainRuns(session, list(plain)))
 
@@ -340,7 +335,7 @@ class SameProgramTest(unittest.TestCase):
             "rank n0\nlookup port\nlookup more\n"
         )
         plan = read_plan(text.encode())
-        session = Session((), (), "", None, None, Patience(1, 1))
+        session = Session((), (), Path(), None, None, Patience(1, 1))
         trial = Trial(session, None, plan, text, Naming(plan), {}, PlainRuns(session))
         return hold_to_plan(trial, make_run(own))
 
@@ -362,8 +357,8 @@ class LostTest(unittest.TestCase):
     def test_what_a_recorder_says(self) -> None:
         said = b"out\nwire_up-record: /a/b.recording: no room; what follows isn't recorded\nout\n"
         with self.assertRaisesRegex(Refused, "b.recording: no room; what follows isn't recorded$"):
-            refuse_lost("/", said)
-        refuse_lost("/", b"out\n")
+            refuse_lost(Path("/"), said)
+        refuse_lost(Path("/"), b"out\n")
 
 
 class NothingToShowTest(ProgramCase):
@@ -374,7 +369,7 @@ class NothingToShowTest(ProgramCase):
         for body, is_rewrite in ((put, False), (put * 2, True)):
             said: list[str] = []
             plan = read_plan((head + body).encode())
-            session = Session((), (), "", None, None, Patience(1, 1))
+            session = Session((), (), Path(), None, None, Patience(1, 1))
             trial = Trial(
                 session, Checker(self.program), plan, head + body, Naming(plan), {},
                 PlainRuns(session),
@@ -397,7 +392,7 @@ class PairsTest(ProgramCase):
     def find(self, verbs: Sequence[str]) -> list[tuple[str, str]]:
         """The pairs, by their calls."""
         plan = read_plan(self.text.encode())
-        session = Session((), (), "", None, None, Patience(1, 1))
+        session = Session((), (), Path(), None, None, Patience(1, 1))
         trial = Trial(
             session, Checker(self.program), plan, self.text, Naming(plan), {}, PlainRuns(session)
         )
@@ -418,7 +413,7 @@ class ServerTest(unittest.TestCase):
     def setUp(self) -> None:
         folder = tempfile.TemporaryDirectory()
         self.addCleanup(folder.cleanup)
-        self.folder = folder.name
+        self.folder = Path(folder.name)
 
     def make_server(self, holds: Holds, hold: float) -> Server:
         """A server, whose hall is open until the test is over."""
@@ -485,7 +480,7 @@ class ServerTest(unittest.TestCase):
         server = self.make_server(Holds(BOTH, {2: [Wait(1)]}), hold=3)
         course, server.moved = server.courses[2], 100.0
         course.came = 100.0
-        with open(os.path.join(self.folder, "job.0.n0.1.recording"), "ab", 0) as to:
+        with open(self.folder / "job.0.n0.1.recording", "ab", 0) as to:
             for now in range(101, 120):
                 to.write(b"= 0 1 0.000001 other more\n")
                 server.look(now)
@@ -515,8 +510,7 @@ class ServerTest(unittest.TestCase):
 
     def test_file_of_holds(self) -> None:
         write_holds(Holds(BOTH), self.folder, "/a/talk", "word")
-        with open(os.path.join(self.folder, "hold"), encoding="ascii") as file:
-            said = file.read()
+        said = (self.folder / "hold").read_text(encoding="ascii")
         self.assertEqual(
             "server /a/talk word\ncall 0 0 1 publish port\ncall 0 1 1 lookup port\n", said
         )
@@ -546,7 +540,7 @@ class CommandTest(unittest.TestCase):
                 ran = run_recorder("-o", "plan", *words, "true")
                 self.assertEqual(125, ran.returncode)
                 self.assertIn(said, ran.stderr.splitlines()[0])
-                self.assertFalse(os.path.exists("plan"))
+                self.assertFalse(Path("plan").exists())
 
     def test_what_goes_with_no_command(self) -> None:
         ran = run_recorder("-o", "plan", "--show", "--from", SHIPPED)
@@ -557,9 +551,8 @@ class CommandTest(unittest.TestCase):
 
     def test_plan_that_was_not_recorded(self) -> None:
         with tempfile.TemporaryDirectory() as folder:
-            path = os.path.join(folder, "plan")
-            with open(path, "w", encoding="ascii") as to:
-                to.write("rehearsal 1\nnode n0\njob app\nrank n0\n")
+            path = Path(folder, "plan")
+            path.write_text("rehearsal 1\nnode n0\njob app\nrank n0\n", encoding="ascii")
             ran = run_recorder("--of", path, "--show", "true")
             self.assertEqual((125, ""), (ran.returncode, ran.stdout))
             self.assertIn("isn't a plan that wire_up-record wrote", ran.stderr)

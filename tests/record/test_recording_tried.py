@@ -5,6 +5,7 @@ import tempfile
 import time
 import unittest
 from collections.abc import Sequence
+from pathlib import Path
 
 from wire_up_tools.checker import Checker
 from wire_up_tools.failures import Refused
@@ -37,7 +38,7 @@ PUBLISHED: Recorded = ("publish blocks port=text:v -", "0")
 
 def make_session(until: float = float("inf")) -> Session:
     """A session that runs nothing."""
-    return Session((), (), "", None, None, Patience(2, 60), 300, until)
+    return Session((), (), Path(), None, None, Patience(2, 60), 300, until)
 
 
 def name_pairs(pairs: Sequence[Pair]) -> list[tuple[str, str]]:
@@ -262,7 +263,7 @@ class PaceTest(unittest.TestCase):
         """Begins two runs that may hold two calls in vain, after a first that took so long."""
         text = f"{HEAD}rank n0\n"
         plan, session, said = read_plan(text.encode()), make_session(), list[str]()
-        first = HeldRun(Holds(()), "", 0, 0.0, seconds, {}, {})
+        first = HeldRun(Holds(()), Path(), 0, 0.0, seconds, {}, {})
         plains = PlainRuns(session, [first])
         trial = Trial(session, None, plan, text, Naming(plan), {}, plains)
         return begin_pace(trial, "2 orders", 2, 2, said.append), said
@@ -286,7 +287,7 @@ class PaceTest(unittest.TestCase):
 
     def test_no_run_begins_later(self) -> None:
         with tempfile.TemporaryDirectory() as room, self.assertRaises(OutOfTime):
-            run_held(make_session(0.0), Holds(()), os.path.join(room, "run"))
+            run_held(make_session(0.0), Holds(()), f"{room}/run")
 
 
 @unittest.skipUnless(find_library(support.TOP, OF_PMIX), "the recorder isn't built")
@@ -297,11 +298,10 @@ class RefusedRaceTest(unittest.TestCase):
         """What comes of a race with a plan that is there: the status, what is said, and whether the
         command ran."""
         with tempfile.TemporaryDirectory() as room:
-            plan, ran = os.path.join(room, "plan"), os.path.join(room, "ran")
-            with open(plan, "w", encoding="ascii") as to:
-                to.write(text)
+            plan, ran = Path(room, "plan"), Path(room, "ran")
+            plan.write_text(text, encoding="ascii")
             tried = run_recorder("-o", plan, "--show-race", race, "touch", ran)
-            return tried.returncode, tried.stderr, os.path.exists(ran)
+            return tried.returncode, tried.stderr, ran.exists()
 
     def test_orders_of_mpi(self) -> None:
         head = "# Recorded by wire_up-record on 2026-12-01: 2 processes\n"
@@ -318,6 +318,23 @@ class RefusedRaceTest(unittest.TestCase):
         self.assertTrue(self.try_race(f"{head}nonsense\nrank\n", "app:0 2 app:1 1")[2])
 
 
+def ask_race(race: tuple[str, int, str, int] | None) -> Asked:
+    """Asks for two calls of the plan of this run, and for nothing else."""
+    return Asked(
+        does_show=False,
+        race=race,
+        does_turn=False,
+        turn_waits=0,
+        of=None,
+        most=8,
+        hold=None,
+        limit=None,
+        within=300.0,
+        source=None,
+        shown=None,
+    )
+
+
 class EarlierRaceTest(unittest.TestCase):
     """Calls that are named by the numbers of an earlier plan."""
 
@@ -328,11 +345,10 @@ class EarlierRaceTest(unittest.TestCase):
         first, second = (f"rank n0\n{more}publish {name} v\n", "rank n0\nlookup a\n")
         race = read_race("race app:0 1 app:1 1 name a")
         with tempfile.TemporaryDirectory() as room:
-            path = os.path.join(room, "plan")
-            with open(path, "w", encoding="ascii") as to:
-                to.write(f"{head}{HEAD}rank n0\npublish a v\n{second}")
-            earlier = find_earlier(race, path)
-        asked = Asked(False, race, False, 0, None, 8, None, None, 300.0, None, None)
+            path = Path(room, "plan")
+            path.write_text(f"{head}{HEAD}rank n0\npublish a v\n{second}", encoding="ascii")
+            earlier = find_earlier(race, str(path))
+        asked = ask_race(race)
         return follow_race(asked, earlier, f"{head}{HEAD}{first}{second}", said.append).race, said
 
     def test_the_same_numbers(self) -> None:
@@ -348,7 +364,7 @@ class EarlierRaceTest(unittest.TestCase):
             self.follow("", "b")
 
     def test_no_earlier_plan(self) -> None:
-        asked = Asked(False, ("a:0", 1, "a:1", 1), False, 0, None, 8, None, None, 300.0, None, None)
+        asked = ask_race(("a:0", 1, "a:1", 1))
         self.assertEqual((), find_earlier(asked.race, os.devnull))
         self.assertEqual(asked, follow_race(asked, (), "", self.fail))
 

@@ -2,13 +2,13 @@
 import contextlib
 import ipaddress
 import json
-import os
 import socket
 import subprocess
 import sys
 import tempfile
 import unittest
 from collections.abc import Sequence
+from pathlib import Path
 from xml.etree import ElementTree
 
 from wire_up_tools.failures import Refused
@@ -34,7 +34,7 @@ from wire_up_tools.run.suite_answers import (
 from wire_up_tools.run.tables import read_table, write_table
 from tests.support import TOP
 
-COMMAND = os.path.join(TOP, "wire_up-run")
+COMMAND = TOP / "wire_up-run"
 # A host elsewhere, of those that are kept for documents.
 OTHER = "192.0.2.77"
 PLAN = b"""\
@@ -126,7 +126,7 @@ class Launchers(unittest.TestCase):
 
     def write(self, kind: Kind, has_several_jobs: bool) -> str:
         """The command line of a launcher for two ranks."""
-        start = Start(["program"], ["n0", "n1"], has_several_jobs, "/f", "/f/agent")
+        start = Start(["program"], ["n0", "n1"], has_several_jobs, Path("/f"), Path("/f/agent"))
         return " ".join(launchers.write_command(Launcher(kind, ["it"], ""), start))
 
     def test_command_lines(self) -> None:
@@ -155,7 +155,7 @@ class Halls(unittest.TestCase):
     def test_hosts_that_are_this_machine(self) -> None:
         """Then nothing outside can reach it."""
         for hosts in (["localhost"], [socket.gethostname(), "127.0.0.1"]):
-            with contextlib.closing(channels.open_hall(".", hosts)) as hall:
+            with contextlib.closing(channels.open_hall(Path(), hosts)) as hall:
                 (listener,) = hall.listeners
                 self.assertEqual("127.0.0.1", listener.getsockname()[0])
                 self.assertEqual(f"127.0.0.1:{listener.getsockname()[1]}", hall.address)
@@ -217,7 +217,7 @@ class Scripts(unittest.TestCase):
         plan = read_plan(PLAN)
         live = make_live("n0", "h0", ["PMIX_SUCCESS", ranks.TIMEOUT])
         calls = plan.calls_of["a:0"]
-        told = [ranks.write_reply(call, live, {}, False) for call in calls]
+        told = [ranks.write_reply(call, live, {}, is_held=False) for call in calls]
         self.assertEqual(["PMIX_SUCCESS", "waiting"], told)
 
 
@@ -285,9 +285,9 @@ class SuiteAnswers(unittest.TestCase):
     def test_table(self) -> None:
         """A table says again what was written; what couldn't be run isn't in it."""
         with tempfile.TemporaryDirectory() as room:
-            path = os.path.join(room, "it")
-            with open(path, "w", encoding="ascii") as file:
-                file.write(write_table({"library": "it"}, self.make_all().verdicts))
+            path = Path(room, "it")
+            text = write_table({"library": "it"}, self.make_all().verdicts)
+            path.write_text(text, encoding="ascii")
             table = read_table(path)
         self.assertEqual({"library": "it"}, table.head)
         found = {name: [str(d) for d in plan.differences] for name, plan in table.plans.items()}

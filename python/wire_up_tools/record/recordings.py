@@ -8,7 +8,8 @@ from collections import Counter
 from collections.abc import Mapping, Sequence
 from dataclasses import dataclass, field
 from functools import cached_property
-from typing import NoReturn, Union
+from pathlib import Path
+from typing import NoReturn
 
 from wire_up_tools.failures import Refused, Unusable
 from wire_up_tools.limits import Limits
@@ -71,7 +72,7 @@ class Address:
 
 
 # Where in the program a call comes from: an address, or `function (file.c:42)`.
-Place = Union[Address, str]
+Place = Address | str
 # How many functions that called each other are followed from a call outwards.
 MOST_FRAMES = 8
 
@@ -449,9 +450,9 @@ def read_recording(path: str, data: bytes) -> Recording:
     )
 
 
-def has_recordings(folder: str) -> bool:
+def has_recordings(folder: Path) -> bool:
     """Whether there is a recording in a folder. Raises OSError."""
-    return any(name.endswith(ENDING) for name in os.listdir(folder))
+    return any(path.name.endswith(ENDING) for path in folder.iterdir())
 
 
 def find_file(path: str) -> str:

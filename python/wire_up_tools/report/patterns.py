@@ -9,6 +9,7 @@ import os
 import re
 from collections.abc import Iterator, Sequence
 from dataclasses import dataclass
+from pathlib import Path
 
 from wire_up_tools import words
 from wire_up_tools.failures import Refused
@@ -51,7 +52,7 @@ class Pattern:
     @property
     def name(self) -> str:
         """The name of its file."""
-        return os.fsencode(os.path.basename(self.path)).decode("utf-8", "replace")
+        return os.fsencode(Path(self.path).name).decode("utf-8", "replace")
 
     @property
     def head(self) -> Sequence[str]:
@@ -123,7 +124,7 @@ def judge_pattern(path: str, asker: Asker) -> CleanPattern | Counterexample:
     pattern = Pattern(path, split_lines(asker.data))
     if answer.status == FOUND and answer.stdout.startswith(FIRST_COMMENT):
         return Counterexample(pattern, answer.stdout.encode())
-    said = read_settled(answer.stdout.splitlines(), answer.status == CLEAN)
+    said = read_settled(answer.stdout.splitlines(), is_complete=answer.status == CLEAN)
     if not said:
         raise asker.refuse("verdict on a pattern")
     sized = None if said.is_answered else find_sized(small, list_groups(pattern), said)

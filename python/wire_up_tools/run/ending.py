@@ -6,12 +6,12 @@ whichever was killed. Until then the launcher's end isn't taken: so no other pro
 session, can have its number.
 """
 import contextlib
-import glob
 import os
 import signal
 import subprocess
 import time
 from collections.abc import Callable
+from pathlib import Path
 
 from wire_up_tools.run.saying import say
 
@@ -62,7 +62,7 @@ def is_left(process: int, session: int) -> bool:
 
 def list_left(session: int) -> list[int]:
     """The processes of a session that haven't ended."""
-    every = (int(os.path.basename(path)) for path in glob.glob("/proc/[0-9]*"))
+    every = (int(path.name) for path in Path("/proc").glob("[0-9]*"))
     return [number for number in every if is_left(number, session)]
 
 
@@ -96,7 +96,7 @@ def ask_to_end(process: "subprocess.Popen[bytes]") -> None:
         ends_within(process, PATIENCE)
 
 
-def wait_until_gone(process: "subprocess.Popen[bytes]", is_fake: bool, limit: float) -> None:
+def wait_until_gone(process: "subprocess.Popen[bytes]", limit: float, *, is_fake: bool) -> None:
     """Waits until what was killed is gone: a launcher, with fake nodes all of its session. A line
     says what isn't gone in time."""
     left = list_left(process.pid) if is_fake else []
@@ -110,7 +110,7 @@ def wait_until_gone(process: "subprocess.Popen[bytes]", is_fake: bool, limit: fl
         say(f"killed, and not gone in {limit:g} seconds: process {numbers}")
 
 
-def end_process(process: "subprocess.Popen[bytes]", is_fake: bool, limit: float = LIMIT) -> None:
+def end_process(process: "subprocess.Popen[bytes]", limit: float = LIMIT, *, is_fake: bool) -> None:
     """Ends a launcher with all that it started. Once this returns, what was killed is gone, or a
     line says so."""
     if is_fake:
@@ -119,5 +119,5 @@ def end_process(process: "subprocess.Popen[bytes]", is_fake: bool, limit: float 
         ask_to_end(process)
     with contextlib.suppress(ProcessLookupError):
         os.killpg(process.pid, signal.SIGKILL)
-    wait_until_gone(process, is_fake, limit)
+    wait_until_gone(process, limit, is_fake=is_fake)
     process.poll()
