@@ -18,7 +18,7 @@ use Rattle.wire_plan.specs.declared.kind.Kind.{Kind as CodeKind}
 use Rattle.wire_plan.specs.declared.kind.Kind.TheVariants as code
 use Rattle.wire_plan.specs.Kinds.{kind_of}
 use Rattle.wire_library_laws.specs.Portable.{EndsFirst, IsAsked}
-use Rattle.wire_portable.specs.Phases.{phase_of, IsPhaseRow, IsOfOwner, owned, reads, ArePhases, IsThereUnlessEnded, main_of, AreMembers, AreWithin, IsMainRow, AreMainRows}
+use Rattle.wire_portable.specs.Phases.{phase_of, IsPhaseRow, IsOfOwner, owned, reads, ArePhases, IsThereUnlessEnded, main_of, AreMembers, AreReadWithin, IsMainRow, AreMainRows}
 use Rattle.wire_portable.proofs.Parted.{parted}
 
 -- an event that isn't an arrival counts nothing
@@ -132,12 +132,12 @@ kind_of_owner plan p x (owned k is same) = (k, is)
 kind_of_owner plan p x (reads key is) = (Get p key, is)
 
 -- who reads a key of p has p's main set, and so has p
-one_main : (plan : Plan) (sets : List (Option ℕ)) (p : ℕ) (x : Event) → AreWithin plan sets → IsOfOwner plan p x → main_of sets x.proc ≡ main_of sets p
+one_main : (plan : Plan) (sets : List (Option ℕ)) (p : ℕ) (x : Event) → AreReadWithin plan sets → IsOfOwner plan p x → main_of sets x.proc ≡ main_of sets p
 one_main plan sets p x within (owned k is same) = ap (main_of sets) same
 one_main plan sets p x within (reads key is) = within x p key is
 
 -- rows by main sets are phases, where keys are read within these
-module _ (s : Scripts) (sets : List (Option ℕ)) (rows : List (List ℕ)) (members : AreMembers s sets) (within : AreWithin (plan_of s) sets) (are : AreMainRows s sets rows) where
+module _ (s : Scripts) (sets : List (Option ℕ)) (rows : List (List ℕ)) (members : AreMembers s sets) (within : AreReadWithin (plan_of s) sets) (are : AreMainRows s sets rows) where
   abbrev plan : Plan
   plan = plan_of s
 

@@ -36,8 +36,8 @@ abbrev pub AreMembers : Scripts → List (Option ℕ) → Type 0
 AreMembers s sets = (p set : ℕ) → main_of sets p ≡ Some set → is_member (set_of (set_at s.sets set)) p ≡ true
 
 -- whoever reads a key of p has the main set that p has
-abbrev pub AreWithin : Plan → List (Option ℕ) → Type 0
-AreWithin plan sets = (h : Event) (p key : ℕ) → kind plan h ≡ Some (Get p key) → main_of sets h.proc ≡ main_of sets p
+abbrev pub AreReadWithin : Plan → List (Option ℕ) → Type 0
+AreReadWithin plan sets = (h : Event) (p key : ℕ) → kind plan h ≡ Some (Get p key) → main_of sets h.proc ≡ main_of sets p
 
 -- it says at how many fences over these members p has arrived before each of its events
 abbrev pub IsPhaseRow : Plan → List ℕ → ℕ → List ℕ → Type 0

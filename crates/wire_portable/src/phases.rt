@@ -6,7 +6,7 @@ ghost use Rattle.wire_runs.specs.Plan.{Get, event_of, event_count, kind, kind_at
 ghost use Rattle.wire_scripts.specs.Planned.{plan_of};
 ghost use Rattle.wire_scripts.specs.Scripts.{set_at};
 ghost use Rattle.wire_library_laws.specs.Portable.{IsAsked};
-ghost use Rattle.wire_portable.specs.Phases.{AreMainRows, AreMembers, ArePhases, AreWithin, IsMainRow, IsPhaseRow, IsThereUnlessEnded, main_of, phase_of};
+ghost use Rattle.wire_portable.specs.Phases.{AreMainRows, AreMembers, ArePhases, AreReadWithin, IsMainRow, IsPhaseRow, IsThereUnlessEnded, main_of, phase_of};
 
 use crate::judge::Key;
 use crate::main_sets::{Choice, main_sets};
@@ -107,7 +107,7 @@ fn are_same(plan: &Plan, sets: &[Option<u32>]) -> bool
 
 /// Whether each process reads keys of those with its main set alone.
 fn are_within(plan: &Plan, sets: &[Option<u32>]) -> bool
-    ensures { IsTrue result → AreWithin (plan_of plan.now) sets.now }
+    ensures { IsTrue result → AreReadWithin (plan_of plan.now) sets.now }
 {
     // Scripts are sound, so owners of keys are processes.
     let _ = plan.scripts();
