@@ -18,7 +18,7 @@ use Rattle.wire_plan.specs.declared.kind.Kind.{Kind as CodeKind}
 use Rattle.wire_plan.specs.declared.kind.Kind.TheVariants as code
 use Rattle.wire_plan.specs.Kinds.{kind_of}
 use Rattle.wire_library_laws.specs.Portable.{EndsFirst, IsAsked}
-use Rattle.wire_portable.specs.Phases.{phase_of, IsPhaseRow, IsOfOwner, owned, reads, ArePhases, IsThereUnlessEnded, main_of, AreMembers, AreReadWithin, IsMainRow, AreMainRows}
+use Rattle.wire_portable.specs.Phases.{phase_of, IsPhaseRow, IsOfOwner, owned, reads, ArePhases, IsThereUnlessEnded, main_of, AreMainSets, AreReadWithin, IsMainRow, AreMainRows}
 use Rattle.wire_portable.proofs.Parted.{parted}
 
 -- an event that isn't an arrival counts nothing
@@ -137,7 +137,7 @@ one_main plan sets p x within (owned k is same) = ap (main_of sets) same
 one_main plan sets p x within (reads key is) = within x p key is
 
 -- rows by main sets are phases, where keys are read within these
-module _ (s : Scripts) (sets : List (Option ℕ)) (rows : List (List ℕ)) (members : AreMembers s sets) (within : AreReadWithin (plan_of s) sets) (are : AreMainRows s sets rows) where
+module _ (s : Scripts) (sets : List (Option ℕ)) (rows : List (List ℕ)) (members : AreMainSets s sets) (within : AreReadWithin (plan_of s) sets) (are : AreMainRows s sets rows) where
   abbrev plan : Plan
   plan = plan_of s
 
@@ -191,7 +191,7 @@ in_set xs k q is = member_set xs q ∙ there_is_member xs k q is
 -- the main sets of the first n processes
 pub record AreMembersTo (s : Scripts) (n : ℕ) (sets : List (Option ℕ)) : Type 0 where
   pub size : length sets ≡ n
-  pub members : AreMembers s sets
+  pub members : AreMainSets s sets
 
 pub no_members : (s : Scripts) → AreMembersTo s 0 []
 no_members s = record { size = refl; members = λ p set is. absurd (none-some set is) }

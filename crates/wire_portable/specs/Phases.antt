@@ -32,8 +32,8 @@ abbrev pub main_of : List (Option ℕ) → ℕ → Option ℕ
 main_of sets p = slice_index_or sets p None
 
 -- each process is a member of its main set
-abbrev pub AreMembers : Scripts → List (Option ℕ) → Type 0
-AreMembers s sets = (p set : ℕ) → main_of sets p ≡ Some set → is_member (set_of (set_at s.sets set)) p ≡ true
+abbrev pub AreMainSets : Scripts → List (Option ℕ) → Type 0
+AreMainSets s sets = (p set : ℕ) → main_of sets p ≡ Some set → is_member (set_of (set_at s.sets set)) p ≡ true
 
 -- whoever reads a key of p has the main set that p has
 abbrev pub AreReadWithin : Plan → List (Option ℕ) → Type 0

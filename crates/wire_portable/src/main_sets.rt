@@ -4,7 +4,7 @@ ghost use Rattle.std.specs.Prelude.{◌≡◌, true, Some, IfOk, IsTrue, MatchOp
 ghost use Rattle.wire_runs.specs.Fences.{is_member};
 ghost use Rattle.wire_runs.specs.Plan.{set_of};
 ghost use Rattle.wire_scripts.specs.Scripts.{numbers_of, set_at};
-ghost use Rattle.wire_portable.specs.Phases.{AreMembers};
+ghost use Rattle.wire_portable.specs.Phases.{AreMainSets};
 
 use std::alloc::{AllocError, Global};
 use wire_plan::{Kind, Plan};
@@ -154,7 +154,7 @@ pub(crate) fn main_sets(
     plan: &Plan,
     choice: Choice,
 ) -> Result<Vec<Option<u32>>, AllocError>
-    ensures { IfOk result (λ sets. AreMembers plan.now sets.items) }
+    ensures { IfOk result (λ sets. AreMainSets plan.now sets.items) }
 {
     let best = best_sets(alloc, plan, choice)?;
     let mut sets = Vec::new(alloc);

@@ -6,7 +6,7 @@ ghost use Rattle.wire_runs.specs.Plan.{Get, event_of, event_count, kind, kind_at
 ghost use Rattle.wire_scripts.specs.Planned.{plan_of};
 ghost use Rattle.wire_scripts.specs.Scripts.{set_at};
 ghost use Rattle.wire_library_laws.specs.Portable.{IsAsked};
-ghost use Rattle.wire_portable.specs.Phases.{AreMainRows, AreMembers, ArePhases, AreReadWithin, IsMainRow, IsPhaseRow, IsThereUnlessEnded, main_of, phase_of};
+ghost use Rattle.wire_portable.specs.Phases.{AreMainRows, AreMainSets, ArePhases, AreReadWithin, IsMainRow, IsPhaseRow, IsThereUnlessEnded, main_of, phase_of};
 
 use crate::judge::Key;
 use crate::main_sets::{Choice, main_sets};
@@ -172,7 +172,7 @@ fn main_row(
 
 /// The rows of all processes.
 fn all_rows(alloc: Global, plan: &Plan, sets: &[Option<u32>]) -> Result<Vec<Vec<u32>>, AllocError>
-    requires { AreMembers plan.now sets.now }
+    requires { AreMainSets plan.now sets.now }
     ensures { IfOk result (λ rows. AreMainRows plan.now sets.now (map (λ row. row.items) rows.items)) }
 {
     let mut rows = Vec::new(alloc);
@@ -188,7 +188,7 @@ fn all_rows(alloc: Global, plan: &Plan, sets: &[Option<u32>]) -> Result<Vec<Vec<
 impl Phases {
     /// Those by these main sets, if each process reads keys of those with its own alone.
     fn by(alloc: Global, plan: &Plan, sets: Vec<Option<u32>>) -> Result<Option<Phases>, AllocError>
-        requires { AreMembers plan.now sets.items }
+        requires { AreMainSets plan.now sets.items }
         ensures { IfOk result (λ found. MatchOption found (Unit {0}) (λ phases. ArePhases (plan_of plan.now) phases)) }
     {
         if !are_within(plan, sets.as_slice()) {
