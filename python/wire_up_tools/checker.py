@@ -4,6 +4,7 @@ import re
 import shutil
 import subprocess
 from dataclasses import dataclass
+from pathlib import Path
 
 NAME = "wire_up"
 # The commands that don't take the option --large.
@@ -62,6 +63,6 @@ def find_checker(folder: str) -> str | None:
 
     None where there is none.
     """
-    beside = os.path.join(folder, NAME)
-    is_there = os.access(beside, os.X_OK) and os.path.isfile(beside)
-    return beside if is_there else shutil.which(NAME)
+    beside = Path(folder, NAME)
+    is_there = os.access(beside, os.X_OK) and beside.is_file()
+    return str(beside) if is_there else shutil.which(NAME)

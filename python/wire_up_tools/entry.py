@@ -1,8 +1,8 @@
 """The commands, as a package that pip installs starts them (pyproject.toml). The scripts at the top
 of the repository do the same, and find the package first."""
-import os
 import sys
 from collections.abc import Callable, Sequence
+from pathlib import Path
 
 INTERRUPTED = 130
 
@@ -10,11 +10,11 @@ INTERRUPTED = 130
 def start(main: Callable[[Sequence[str], str], int]) -> int:
     """Runs a command on the words of this process. What is built in C, and `wire_up`, is looked for
     beside the command. Answers its status."""
-    here = os.path.dirname(os.path.realpath(sys.argv[0]))
+    here = str(Path(sys.argv[0]).resolve().parent)
     try:
         return main(sys.argv[1:], here)
     except KeyboardInterrupt:
-        print(f"{os.path.basename(sys.argv[0])}: interrupted", file=sys.stderr)
+        print(f"{Path(sys.argv[0]).name}: interrupted", file=sys.stderr)
         return INTERRUPTED
 
 

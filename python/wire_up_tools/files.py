@@ -1,4 +1,9 @@
-"""Writes files: whole or not at all, or as they are."""
+"""Writes files: whole or not at all, or as they are.
+
+A path that a user gave stays a text, as it is printed again, and `os.path` looks at it: a `Path`
+has no `./` and no slash at the end, takes the empty name for the folder that is open, and raises
+where `os.path` answers that there is nothing. What the programs make has a `Path`.
+"""
 import contextlib
 import errno
 import os
@@ -6,6 +11,7 @@ import stat
 import sys
 import tempfile
 from collections.abc import Iterator, Sequence
+from pathlib import Path
 
 STANDARD_OUTPUT = "-"
 # How many links are followed, as many as Linux follows.
@@ -21,9 +27,9 @@ def naming(path: str) -> Iterator[None]:
         raise OSError(why.errno, why.strerror, path) from None
 
 
-def write_file(path: str, text: str) -> None:
+def write_file(path: str | Path, text: str) -> None:
     """Writes a text, as UTF-8, to a file. Raises OSError, with its path."""
-    with naming(path), open(path, "w", encoding="utf-8") as to:
+    with naming(str(path)), open(path, "w", encoding="utf-8") as to:
         to.write(text)
 
 

@@ -7,6 +7,7 @@ import threading
 import time
 import unittest
 from collections.abc import Sequence
+from pathlib import Path
 
 from wire_up_tools.checker import Checker
 from wire_up_tools.failures import Refused
@@ -51,7 +52,7 @@ def make_traces(tapes: Sequence[Tape]) -> Traces:
     """The traces of recordings."""
     with tempfile.TemporaryDirectory() as folder:
         write_tapes(folder, tapes)
-        return read_traces(folder)
+        return read_traces(Path(folder))
 
 
 def make_run(
@@ -67,7 +68,7 @@ def make_run(
         for what, end in calls:
             tapes[-1].call(what, end)
     found = dict(enumerate(courses, 1))
-    return HeldRun(Holds(BOTH), "", status, 0.0, 1.0, found, make_traces(tapes), output)
+    return HeldRun(Holds(BOTH), Path(), status, 0.0, 1.0, found, make_traces(tapes), output)
 
 
 class NamesTest(unittest.TestCase):
@@ -111,7 +112,7 @@ class NamesTest(unittest.TestCase):
             except Refused:
                 continue
             with self.subTest(name):
-                self.hold_names(read_traces(folder), plan)
+                self.hold_names(read_traces(Path(folder)), plan)
 
     def hold_names(self, traces: Traces, plan: Plan) -> None:
         """Compares the names of the calls of a plan with those of its recordings."""
@@ -267,7 +268,7 @@ class OwnTest(unittest.TestCase):
 
     def leave_out(self, held: Sequence[HeldRun], plain: Sequence[HeldRun]) -> Compared:
         """What is left of the differences between two runs."""
-        session = Session((), (), "", None, None, Patience(1, 1))
+        session = Session((), (), Path(), None, None, Patience(1, 1))
         compared = compare(held, BOTH)
         return leave_out_own(compared, held, BOTH, PlainRuns(session, list(plain)))
 
@@ -340,7 +341,7 @@ class SameProgramTest(unittest.TestCase):
             "rank n0\nlookup port\nlookup more\n"
         )
         plan = read_plan(text.encode())
-        session = Session((), (), "", None, None, Patience(1, 1))
+        session = Session((), (), Path(), None, None, Patience(1, 1))
         trial = Trial(session, None, plan, text, Naming(plan), {}, PlainRuns(session))
         return hold_to_plan(trial, make_run(own))
 
@@ -362,8 +363,8 @@ class LostTest(unittest.TestCase):
     def test_what_a_recorder_says(self) -> None:
         said = b"out\nwire_up-record: /a/b.recording: no room; what follows isn't recorded\nout\n"
         with self.assertRaisesRegex(Refused, "b.recording: no room; what follows isn't recorded$"):
-            refuse_lost("/", said)
-        refuse_lost("/", b"out\n")
+            refuse_lost(Path("/"), said)
+        refuse_lost(Path("/"), b"out\n")
 
 
 class NothingToShowTest(ProgramCase):
@@ -374,7 +375,7 @@ class NothingToShowTest(ProgramCase):
         for body, is_rewrite in ((put, False), (put * 2, True)):
             said: list[str] = []
             plan = read_plan((head + body).encode())
-            session = Session((), (), "", None, None, Patience(1, 1))
+            session = Session((), (), Path(), None, None, Patience(1, 1))
             trial = Trial(
                 session, Checker(self.program), plan, head + body, Naming(plan), {},
                 PlainRuns(session),
@@ -397,7 +398,7 @@ class PairsTest(ProgramCase):
     def find(self, verbs: Sequence[str]) -> list[tuple[str, str]]:
         """The pairs, by their calls."""
         plan = read_plan(self.text.encode())
-        session = Session((), (), "", None, None, Patience(1, 1))
+        session = Session((), (), Path(), None, None, Patience(1, 1))
         trial = Trial(
             session, Checker(self.program), plan, self.text, Naming(plan), {}, PlainRuns(session)
         )
@@ -425,7 +426,7 @@ class ServerTest(unittest.TestCase):
         halls = open_hall_for(None)
         hall = halls.__enter__()
         self.addCleanup(halls.__exit__, None, None, None)
-        return Server(hall, holds, Motion(self.folder), Patience(hold, PATIENCE))
+        return Server(hall, holds, Motion(Path(self.folder)), Patience(hold, PATIENCE))
 
     def serve(self, holds: Holds, hold: float) -> Server:
         """Begins to serve, until the test is over."""
@@ -514,7 +515,7 @@ class ServerTest(unittest.TestCase):
             second.recv(9)
 
     def test_file_of_holds(self) -> None:
-        write_holds(Holds(BOTH), self.folder, "/a/talk", "word")
+        write_holds(Holds(BOTH), Path(self.folder), "/a/talk", "word")
         with open(os.path.join(self.folder, "hold"), encoding="ascii") as file:
             said = file.read()
         self.assertEqual(

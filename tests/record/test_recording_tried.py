@@ -5,6 +5,7 @@ import tempfile
 import time
 import unittest
 from collections.abc import Sequence
+from pathlib import Path
 
 from wire_up_tools.checker import Checker
 from wire_up_tools.failures import Refused
@@ -37,7 +38,7 @@ PUBLISHED: Recorded = ("publish blocks port=text:v -", "0")
 
 def make_session(until: float = float("inf")) -> Session:
     """A session that runs nothing."""
-    return Session((), (), "", None, None, Patience(2, 60), 300, until)
+    return Session((), (), Path(), None, None, Patience(2, 60), 300, until)
 
 
 def name_pairs(pairs: Sequence[Pair]) -> list[tuple[str, str]]:
@@ -262,7 +263,7 @@ class PaceTest(unittest.TestCase):
         """Begins two runs that may hold two calls in vain, after a first that took so long."""
         text = f"{HEAD}rank n0\n"
         plan, session, said = read_plan(text.encode()), make_session(), list[str]()
-        first = HeldRun(Holds(()), "", 0, 0.0, seconds, {}, {})
+        first = HeldRun(Holds(()), Path(), 0, 0.0, seconds, {}, {})
         plains = PlainRuns(session, [first])
         trial = Trial(session, None, plan, text, Naming(plan), {}, plains)
         return begin_pace(trial, "2 orders", 2, 2, said.append), said

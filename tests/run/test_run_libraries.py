@@ -3,6 +3,7 @@ rules, which predict it. The tables are held to those that a forerunner made."""
 import os
 import unittest
 from collections.abc import Mapping
+from pathlib import Path
 
 from wire_up_tools.plan_reading import read_plan
 from wire_up_tools.run.expected import Expected
@@ -210,7 +211,7 @@ class Agreement(unittest.TestCase):
         """They are alike, but for the plans that are listed."""
         for name, listed in UNLIKE.items():
             with self.subTest(name):
-                earlier = read_table(os.path.join(EARLIER, f"{name}.txt")).plans
+                earlier = read_table(Path(EARLIER, f"{name}.txt")).plans
                 now = read_table(LIBRARIES[name].table).plans
                 self.assertEqual(set(), earlier.keys() - now.keys())
                 self.assertGreater(len(earlier), 95)

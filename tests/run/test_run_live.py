@@ -4,6 +4,7 @@ import json
 import os
 import socket
 import unittest
+from pathlib import Path
 
 from wire_up_tools.run.tables import read_table
 from tests import support
@@ -68,7 +69,8 @@ class Live(LiveRuns):
             self.assertIn("\nnot-kept scope-local 1 of 1 plans: ", ran.stdout)
             self.assertIn("\nknown openpmix-4.2 explains ", ran.stdout)
             self.assertNotIn("\nunexplained", ran.stdout)
-        self.assertEqual({"fence-single", "scope-local-direct", *names}, {*read_table(table).plans})
+        found = read_table(Path(table)).plans
+        self.assertEqual({"fence-single", "scope-local-direct", *names}, {*found})
 
     def test_a_host_file(self) -> None:
         """The node of a plan is this machine."""

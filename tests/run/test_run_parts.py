@@ -9,6 +9,7 @@ import sys
 import tempfile
 import unittest
 from collections.abc import Sequence
+from pathlib import Path
 from xml.etree import ElementTree
 
 from wire_up_tools.failures import Refused
@@ -126,7 +127,7 @@ class Launchers(unittest.TestCase):
 
     def write(self, kind: Kind, has_several_jobs: bool) -> str:
         """The command line of a launcher for two ranks."""
-        start = Start(["program"], ["n0", "n1"], has_several_jobs, "/f", "/f/agent")
+        start = Start(["program"], ["n0", "n1"], has_several_jobs, Path("/f"), Path("/f/agent"))
         return " ".join(launchers.write_command(Launcher(kind, ["it"], ""), start))
 
     def test_command_lines(self) -> None:
@@ -155,7 +156,7 @@ class Halls(unittest.TestCase):
     def test_hosts_that_are_this_machine(self) -> None:
         """Then nothing outside can reach it."""
         for hosts in (["localhost"], [socket.gethostname(), "127.0.0.1"]):
-            with contextlib.closing(channels.open_hall(".", hosts)) as hall:
+            with contextlib.closing(channels.open_hall(Path(), hosts)) as hall:
                 (listener,) = hall.listeners
                 self.assertEqual("127.0.0.1", listener.getsockname()[0])
                 self.assertEqual(f"127.0.0.1:{listener.getsockname()[1]}", hall.address)
@@ -288,7 +289,7 @@ class SuiteAnswers(unittest.TestCase):
             path = os.path.join(room, "it")
             with open(path, "w", encoding="ascii") as file:
                 file.write(write_table({"library": "it"}, self.make_all().verdicts))
-            table = read_table(path)
+            table = read_table(Path(path))
         self.assertEqual({"library": "it"}, table.head)
         found = {name: [str(d) for d in plan.differences] for name, plan in table.plans.items()}
         self.assertEqual([DIFFERS], found["lookup-different"])

@@ -8,6 +8,7 @@ from collections import Counter
 from collections.abc import Mapping, Sequence
 from dataclasses import dataclass, field
 from functools import cached_property
+from pathlib import Path
 from typing import NoReturn, Union
 
 from wire_up_tools.failures import Refused, Unusable
@@ -449,9 +450,9 @@ def read_recording(path: str, data: bytes) -> Recording:
     )
 
 
-def has_recordings(folder: str) -> bool:
+def has_recordings(folder: Path) -> bool:
     """Whether there is a recording in a folder. Raises OSError."""
-    return any(name.endswith(ENDING) for name in os.listdir(folder))
+    return any(path.name.endswith(ENDING) for path in folder.iterdir())
 
 
 def find_file(path: str) -> str:

@@ -5,6 +5,7 @@ import signal
 import subprocess
 import tempfile
 from collections.abc import Mapping, Sequence
+from pathlib import Path
 from typing import IO, NamedTuple
 
 from wire_up_tools.failures import Refused
@@ -22,7 +23,7 @@ PATIENCE = 1
 OF_PMIX, OF_MPI = "record.so", "record-mpi.so"
 # Where the libraries are, seen from the folder of the command: in the repository, and where
 # `make install` puts them.
-LIBRARIES = ("record", os.path.join("..", "lib", "wire_up"))
+LIBRARIES = ("record", "../lib/wire_up")
 PRELOAD, TO_FOLDER = "LD_PRELOAD", "WIRE_UP_RECORD"
 # A program that is built with AddressSanitizer doesn't start with other libraries before that of
 # the sanitizer, unless it is told so. Of options that stand twice the last counts.
@@ -51,9 +52,9 @@ class Stopped(Exception):
 def find_library(folder: str, name: str) -> str | None:
     """The path of a built library, by the folder of the command; None where it isn't built."""
     for beside in LIBRARIES:
-        path = os.path.realpath(os.path.join(folder, beside, name))
-        if os.path.exists(path):
-            return path
+        path = Path(folder, beside, name).resolve()
+        if path.exists():
+            return str(path)
     return None
 
 

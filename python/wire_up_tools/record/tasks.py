@@ -7,6 +7,7 @@ import sys
 import time
 from collections.abc import Callable, Mapping, Sequence
 from dataclasses import dataclass, replace
+from pathlib import Path
 from typing import Union
 
 from wire_up_tools.checker import Checker, find_checker
@@ -347,7 +348,7 @@ def run_first(asked: CommandRequest, environment: Mapping[str, str]) -> Ended:
 
 
 def find_material(
-    asked: CommandRequest | ShowRequest, text: str, room: str, folder: str
+    asked: CommandRequest | ShowRequest, text: str, room: Path, folder: str
 ) -> Material:
     """What there is to show races of a plan with, in runs whose recordings go to a room. `folder`
     is that of the recorder. Raises Refused, OSError."""
@@ -370,7 +371,7 @@ def show_of_plan(asked: ShowRequest, folder: str) -> int:
         data = file.read()
     if not read_plan(data).is_recorded:
         raise Refused(f"{asked.asked.of}: isn't a plan that wire_up-record wrote")
-    room = make_folder(asked.output.plan, asked.output.kept)
+    room = Path(make_folder(asked.output.plan, asked.output.kept))
     try:
         show(asked.asked, find_material(asked, data.decode("ascii", "replace"), room, folder), say)
     finally:
@@ -386,12 +387,12 @@ def record(asked: CommandRequest, folder: str) -> int:
     libraries = find_libraries(folder, output.with_mpi)
     hold_writable(output)
     earlier = find_earlier(asked.asked.race if asked.asked else None, output.plan)
-    recordings, is_made = make_folder(output.plan, output.kept), False
+    recordings, is_made = Path(make_folder(output.plan, output.kept)), False
     if asked.asked:
         mark_compared(recordings)
     began = time.monotonic()
     try:
-        status, is_stopped = run_first(asked, make_environment(libraries, recordings))
+        status, is_stopped = run_first(asked, make_environment(libraries, str(recordings)))
         seconds = time.monotonic() - began
         if status:
             how = f"with status {status}" if status > 0 else f"by signal {-status}"
@@ -400,7 +401,7 @@ def record(asked: CommandRequest, folder: str) -> int:
         # What goes to standard output goes there once, with what is shown.
         is_put_off = shows is not None and output.plan == STANDARD_OUTPUT
         made = replace(output, plan=os.devnull) if is_put_off else output
-        text = make(made, [recordings], folder)
+        text = make(made, [str(recordings)], folder)
         is_made = True
         if shows:
             material = find_material(asked, text, recordings, folder)
@@ -413,7 +414,7 @@ def record(asked: CommandRequest, folder: str) -> int:
     finally:
         if not output.kept and (is_made or not has_recordings(recordings)):
             shutil.rmtree(recordings, ignore_errors=True)
-        elif not is_made and os.path.isdir(recordings) and has_recordings(recordings):
+        elif not is_made and recordings.is_dir() and has_recordings(recordings):
             say(f"the recordings are in {recordings}")
 
 

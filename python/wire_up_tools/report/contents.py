@@ -3,6 +3,7 @@ import os
 import time
 from collections.abc import Sequence
 from dataclasses import dataclass, field, replace
+from pathlib import Path
 
 from wire_up_tools import words
 from wire_up_tools.limits import VERSION_2
@@ -87,7 +88,7 @@ class Report:
     @property
     def name(self) -> str:
         """The name of the plan's file."""
-        return os.fsencode(os.path.basename(self.path)).decode("utf-8", "replace")
+        return os.fsencode(Path(self.path).name).decode("utf-8", "replace")
 
     @property
     def plan_name(self) -> str:

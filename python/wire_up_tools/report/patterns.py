@@ -9,6 +9,7 @@ import os
 import re
 from collections.abc import Iterator, Sequence
 from dataclasses import dataclass
+from pathlib import Path
 
 from wire_up_tools import words
 from wire_up_tools.failures import Refused
@@ -51,7 +52,7 @@ class Pattern:
     @property
     def name(self) -> str:
         """The name of its file."""
-        return os.fsencode(os.path.basename(self.path)).decode("utf-8", "replace")
+        return os.fsencode(Path(self.path).name).decode("utf-8", "replace")
 
     @property
     def head(self) -> Sequence[str]:

@@ -6,6 +6,7 @@ import re
 import urllib.parse
 from collections.abc import Mapping, Sequence
 from dataclasses import dataclass
+from pathlib import Path
 from typing import Any
 
 from wire_up_tools.plan import Call, Plan
@@ -109,7 +110,7 @@ def find_files(folder: str) -> Paths:
     for path, folders, names in os.walk(folder):
         folders[:] = [each_folder for each_folder in folders if not each_folder.startswith(".")]
         for name in names:
-            found[name].append(os.path.relpath(os.path.join(path, name), folder))
+            found[name].append(str(Path(path, name).relative_to(folder)))
     return found
 
 
@@ -181,11 +182,12 @@ def locate(report: Report, call: Call, source: Source) -> Location:
 def locate_in_plan(report: Report, call: Call, source: Source) -> Location:
     """Where a call stands in the plan, which may be below the folder of the source. One of a
     counterexample stands in no file: then it is its line in the pattern."""
-    path = os.path.realpath(report.path)
-    if source.folder:
-        relative = os.path.relpath(path, os.path.realpath(source.folder))
-        path = path if relative.split(os.sep)[0] == os.pardir else relative
-    return Location(path, report.pattern_lines.get(call, 1) if report.pattern else call.line)
+    path = Path(report.path).resolve()
+    folder = Path(source.folder).resolve() if source.folder else None
+    if folder and path.is_relative_to(folder):
+        path = path.relative_to(folder)
+    line = report.pattern_lines.get(call, 1) if report.pattern else call.line
+    return Location(str(path), line)
 
 
 def make_location(source: Source, where: Location, said: str) -> dict[str, Any]:
@@ -196,7 +198,7 @@ def make_location(source: Source, where: Location, said: str) -> dict[str, Any]:
 
 def name_file(source: Source, where: Location) -> dict[str, str]:
     """The file of a location, by an absolute URI or one that is relative to the source."""
-    if os.path.isabs(where.path):
+    if Path(where.path).is_absolute():
         return {"uri": make_absolute(where.path)}
     uri = urllib.parse.quote(os.fsencode(where.path))
     return {"uri": uri, "uriBaseId": ROOT} if source.folder else {"uri": uri}

@@ -7,6 +7,7 @@ import selectors
 import socket
 from collections.abc import Iterable, Iterator, Sequence
 from dataclasses import dataclass, field
+from pathlib import Path
 
 from wire_up_tools.failures import Refused
 
@@ -108,7 +109,7 @@ class Hall:
             listener.close()
 
 
-def open_hall(folder: str, hosts: Iterable[str] | None) -> Hall:
+def open_hall(folder: Path, hosts: Iterable[str] | None) -> Hall:
     """Opens a hall: at a port that the hosts reach, or without hosts for ranks of this machine, in
     a folder. Raises Refused, OSError."""
     if hosts is None:
@@ -122,9 +123,9 @@ def open_hall(folder: str, hosts: Iterable[str] | None) -> Hall:
     return hall
 
 
-def listen_here(folder: str) -> tuple[list[socket.socket], str]:
+def listen_here(folder: Path) -> tuple[list[socket.socket], str]:
     """A socket in a folder, and its path. Raises Refused, OSError."""
-    path = os.path.join(folder, "talk")
+    path = str(folder / "talk")
     if len(os.fsencode(path)) > PATH_BYTES:
         raise Refused(f"{folder}: the path is too long for a socket: set TMPDIR")
     listener = socket.socket(socket.AF_UNIX)

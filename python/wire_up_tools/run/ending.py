@@ -6,12 +6,12 @@ whichever was killed. Until then the launcher's end isn't taken: so no other pro
 session, can have its number.
 """
 import contextlib
-import glob
 import os
 import signal
 import subprocess
 import time
 from collections.abc import Callable
+from pathlib import Path
 
 from wire_up_tools.run.saying import say
 
@@ -62,7 +62,7 @@ def is_left(process: int, session: int) -> bool:
 
 def list_left(session: int) -> list[int]:
     """The processes of a session that haven't ended."""
-    every = (int(os.path.basename(path)) for path in glob.glob("/proc/[0-9]*"))
+    every = (int(path.name) for path in Path("/proc").glob("[0-9]*"))
     return [number for number in every if is_left(number, session)]
 
 

@@ -1,8 +1,8 @@
 """What the rules say of a plan: the checker is asked."""
-import os
 import tempfile
 from collections.abc import Sequence
 from dataclasses import dataclass
+from pathlib import Path
 
 from wire_up_tools.checker import Answer, Checker
 from wire_up_tools.failures import Refused
@@ -66,9 +66,9 @@ def expect(checker: Checker, plan: bytes) -> Expected:
 def expect_in_order(checker: Checker, plan: bytes, order: str) -> Expected:
     """What becomes of a plan in an order, by the rules. Raises Refused, OSError."""
     with tempfile.TemporaryDirectory(prefix="wire_up-run-") as folder:
-        path = os.path.join(folder, "order")
+        path = Path(folder, "order")
         write_file(path, order)
-        said = hold_answered(checker.ask("follow", path, plan=plan), SETTLED)
+        said = hold_answered(checker.ask("follow", str(path), plan=plan), SETTLED)
     return Expected(read_report(said), read_order(order))
 
 

@@ -7,6 +7,7 @@ import os
 import re
 import shutil
 from collections.abc import Iterable
+from pathlib import Path
 
 from wire_up_tools.failures import Refused
 from wire_up_tools.files import write_file
@@ -39,13 +40,13 @@ def hold_possible() -> None:
             raise Refused(f"fake nodes need {name}, which Debian has in the package {package}")
 
 
-def write_agent(folder: str) -> str:
+def write_agent(folder: Path) -> Path:
     """Writes the remote shell into a folder, and answers its path. Raises Refused, OSError."""
-    path = os.path.join(folder, "agent")
-    if len(path.split()) > 1:
+    path = folder / "agent"
+    if len(str(path).split()) > 1:
         raise Refused(f"{folder}: a launcher takes no path with a blank: set TMPDIR")
     write_file(path, AGENT)
-    os.chmod(path, 0o700)
+    path.chmod(0o700)
     return path
 
 
@@ -55,9 +56,9 @@ def name_host(index: int, node: str) -> str:
     return node if is_plain else f"wire-up-node-{index}"
 
 
-def write_names(folder: str, hosts: Iterable[str]) -> str:
+def write_names(folder: Path, hosts: Iterable[str]) -> Path:
     """Writes a table of the names of hosts into a folder, and answers its path. Raises OSError."""
-    path = os.path.join(folder, "names")
+    path = folder / "names"
     # Addresses that are kept for documents.
     others = enumerate(each_host for each_host in dict.fromkeys(hosts) if each_host != HEAD)
     lines = [f"198.51.100.{at % 254 + 1} {host}\n" for at, host in others]
@@ -65,7 +66,7 @@ def write_names(folder: str, hosts: Iterable[str]) -> str:
     return path
 
 
-def write_start(names: str | None) -> list[str]:
+def write_start(names: Path | None) -> list[str]:
     """The words before a command that is to run among fake nodes: with a table of names, or
     without."""
     user = ["--user", "--map-root-user"] if os.geteuid() else []
@@ -74,4 +75,4 @@ def write_start(names: str | None) -> list[str]:
     # The shell stays, in the session of `unshare`: it is the first process, and takes the ends of
     # those without a parent.
     script = f'{first} || exit 1; shift; "$@"; exit $?'
-    return ["unshare", *user, *apart, "sh", "-c", script, "sh", names or ""]
+    return ["unshare", *user, *apart, "sh", "-c", script, "sh", str(names or "")]

@@ -7,6 +7,7 @@ import shutil
 import subprocess
 from collections.abc import Mapping, Sequence
 from dataclasses import dataclass
+from pathlib import Path
 
 from wire_up_tools.failures import Refused
 
@@ -38,7 +39,7 @@ class Launcher:
     @property
     def name(self) -> str:
         """How messages name it."""
-        return os.path.basename(self.words[0])
+        return Path(self.words[0]).name
 
     @property
     def makes_fake_nodes(self) -> bool:
@@ -62,13 +63,13 @@ class Start:
     program: Sequence[str]
     hosts: Sequence[str]
     has_several_jobs: bool
-    folder: str
-    agent: str | None
+    folder: Path
+    agent: Path | None
 
     @property
-    def host_file(self) -> str:
+    def host_file(self) -> Path:
         """The path of the file that has the hosts."""
-        return os.path.join(self.folder, "hosts")
+        return self.folder / "hosts"
 
 
 def tell_kind(said: str) -> Kind | None:
@@ -135,10 +136,10 @@ def write_hosts(launcher: Launcher, start: Start) -> str:
 
 def write_open_mpi_4(start: Start) -> list[str]:
     """The options of `mpirun` of Open MPI 4."""
-    words = ["--oversubscribe", "--bind-to", "none", "--hostfile", start.host_file]
+    words = ["--oversubscribe", "--bind-to", "none", "--hostfile", str(start.host_file)]
     if start.agent:
-        words += ["--mca", "plm_rsh_agent", start.agent, "--mca", "oob_tcp_if_include", "lo"]
-        words += ["--mca", "orte_tmpdir_base", start.folder]
+        words += ["--mca", "plm_rsh_agent", str(start.agent), "--mca", "oob_tcp_if_include", "lo"]
+        words += ["--mca", "orte_tmpdir_base", str(start.folder)]
     if start.has_several_jobs:
         return [*words, "-np", "1", "--map-by", "slot"]
     return [*words, "--mca", "rmaps", "seq", "-np", str(len(start.hosts))]
@@ -146,10 +147,11 @@ def write_open_mpi_4(start: Start) -> list[str]:
 
 def write_prrte(start: Start) -> list[str]:
     """The options of `prterun`, and of `mpirun` of Open MPI 5."""
-    words = ["--bind-to", "none", "--hostfile", start.host_file]
+    words = ["--bind-to", "none", "--hostfile", str(start.host_file)]
     if start.agent:
-        words += ["--prtemca", "plm_ssh_agent", start.agent, "--prtemca", "prte_if_include", "v0"]
-        words += ["--prtemca", "prte_tmpdir_base", start.folder]
+        words += ["--prtemca", "plm_ssh_agent", str(start.agent)]
+        words += ["--prtemca", "prte_if_include", "v0"]
+        words += ["--prtemca", "prte_tmpdir_base", str(start.folder)]
     if start.has_several_jobs:
         return [*words, "-np", "1", "--map-by", "slot:OVERSUBSCRIBE"]
     return [*words, "--map-by", "seq:OVERSUBSCRIBE", "-np", str(len(start.hosts))]
@@ -182,7 +184,7 @@ def make_environment(launcher: Launcher, start: Start) -> Mapping[str, str]:
     if start.agent or not os.geteuid():
         made.update(AS_ROOT)
     if launcher.kind is Kind.SLURM:
-        made["SLURM_HOSTFILE"] = start.host_file
+        made["SLURM_HOSTFILE"] = str(start.host_file)
     if start.agent:
-        made["TMPDIR"] = start.folder
+        made["TMPDIR"] = str(start.folder)
     return made

@@ -8,6 +8,7 @@ import threading
 import time
 from collections.abc import Iterator, Sequence
 from dataclasses import dataclass, field
+from pathlib import Path
 
 from wire_up_tools.failures import Refused
 from wire_up_tools.files import write_file
@@ -303,7 +304,7 @@ def list_reached(task: Task, setting: Setting) -> Sequence[str] | None:
     return choose_hosts(task.plan, task.plan.ranks, setting.hosts)
 
 
-def make_start(task: Task, setting: Setting, folder: str, hall: Hall) -> Start:
+def make_start(task: Task, setting: Setting, folder: Path, hall: Hall) -> Start:
     """What is started. Raises Refused, OSError."""
     plan, launcher = task.plan, setting.launcher
     jobs = list_jobs(plan)
@@ -320,7 +321,7 @@ def make_start(task: Task, setting: Setting, folder: str, hall: Hall) -> Start:
     return Start(program, hosts, has_several, folder, agent)
 
 
-def start_process(task: Task, setting: Setting, folder: str, hall: Hall) -> Run:
+def start_process(task: Task, setting: Setting, folder: Path, hall: Hall) -> Run:
     """Starts a run. Raises Refused, OSError."""
     start, launcher = make_start(task, setting, folder, hall), setting.launcher
     write_file(start.host_file, write_hosts(launcher, start))
@@ -350,7 +351,7 @@ def end(run: Run) -> None:
 @contextlib.contextmanager
 def started(task: Task, setting: Setting) -> Iterator[Run]:
     """A run that has started. At the end nothing of it is left. Raises Refused, OSError."""
-    folder = tempfile.mkdtemp(prefix="wire_up-run-")
+    folder = Path(tempfile.mkdtemp(prefix="wire_up-run-"))
     try:
         # To ask for the addresses of hosts can take long.
         with released():

@@ -1,11 +1,10 @@
 """The conformance suite: its plans, and what a library does with them."""
 import concurrent.futures
 import enum
-import glob
-import os
 import sys
 from collections.abc import Iterator, Sequence
 from dataclasses import dataclass
+from pathlib import Path
 
 from wire_up_tools.checker import Checker
 from wire_up_tools.failures import Refused
@@ -18,7 +17,7 @@ from wire_up_tools.run.live import Outcome, Setting, Task, run_plan
 from wire_up_tools.run.profile import BY_LABEL, ProfileRule
 from wire_up_tools.run.reports import Difference
 
-FOLDER = os.path.join(os.path.dirname(__file__), "plans")
+FOLDER = Path(__file__).parent / "plans"
 # The lines that stand for a letter at the beginning of a plan.
 HEADS = {
     "A": ["rehearsal 1", "node n0", "node n1", "job app"],
@@ -79,10 +78,10 @@ def write_plan(short: str) -> str:
     return "".join(f"{head}\n" for head in [*HEADS.get(lines[0], lines[:1]), *lines[1:]])
 
 
-def read_plans(path: str) -> Iterator[SuitePlan]:
+def read_plans(path: Path) -> Iterator[SuitePlan]:
     """The plans of a file of the suite. Raises OSError."""
     rule = ProfileRule.MIXED
-    with open(path, encoding="ascii") as file:
+    with path.open(encoding="ascii") as file:
         for line in (text.strip() for text in file):
             if line.startswith("["):
                 rule = BY_LABEL[line.strip("[]")]
@@ -93,7 +92,7 @@ def read_plans(path: str) -> Iterator[SuitePlan]:
 
 def read_suite() -> list[SuitePlan]:
     """All plans of the suite, those about one rule first. Raises OSError."""
-    paths = sorted(glob.glob(os.path.join(FOLDER, "*.txt")), reverse=True)
+    paths = sorted(FOLDER.glob("*.txt"), reverse=True)
     return [plan for path in paths for plan in read_plans(path)]
 
 

@@ -2,6 +2,7 @@
 import re
 from collections.abc import Mapping, Sequence
 from dataclasses import dataclass
+from pathlib import Path
 
 from wire_up_tools.run.reports import Difference, Place
 from wire_up_tools.run.suite import Kind, Verdict
@@ -29,21 +30,20 @@ class Table:
     plans: Mapping[str, Recorded]
 
 
-def read_table(path: str) -> Table:
+def read_table(path: Path) -> Table:
     """Reads a table. Raises OSError."""
     head: dict[str, str] = {}
     found: dict[str, tuple[Kind, int, list[Difference]]] = {}
-    with open(path, encoding="ascii") as file:
-        for line in file.read().splitlines():
-            plan, call = PLAN.fullmatch(line), CALL.fullmatch(line)
-            if plan:
-                found[plan[2]] = (Kind(plan[1]), int(plan[3]), [])
-            elif call:
-                place = Place(call[1], int(call[2]), call[3])
-                found[list(found)[-1]][2].append(Difference(place, call[4], call[5]))
-            elif line.startswith(HEAD):
-                word, _, rest = line.partition(" ")
-                head[word] = rest
+    for line in path.read_text(encoding="ascii").splitlines():
+        plan, call = PLAN.fullmatch(line), CALL.fullmatch(line)
+        if plan:
+            found[plan[2]] = (Kind(plan[1]), int(plan[3]), [])
+        elif call:
+            place = Place(call[1], int(call[2]), call[3])
+            found[list(found)[-1]][2].append(Difference(place, call[4], call[5]))
+        elif line.startswith(HEAD):
+            word, _, rest = line.partition(" ")
+            head[word] = rest
     return Table(head, {name: Recorded(*pair) for name, pair in found.items()})
 
 

@@ -5,6 +5,7 @@ import shutil
 import socket
 from collections.abc import Sequence
 from dataclasses import dataclass
+from pathlib import Path
 from typing import Union
 
 from wire_up_tools.checker import Checker, find_checker
@@ -36,7 +37,7 @@ SAME, DIFFERENT = 0, 1
 # The process that makes the calls, and where it is, seen from the folder of the command: in the
 # repository, and where `make install` puts it.
 RANK = "wire_up-rank"
-PLACES = ("run", os.path.join("..", "lib", "wire_up"))
+PLACES = ("run", "../lib/wire_up")
 
 
 @dataclass(frozen=True)
@@ -121,9 +122,9 @@ def choose_checker(choices: Choices, folder: str) -> Checker:
 def find_rank(folder: str) -> str:
     """The program that makes the calls. Raises Refused if it isn't built."""
     for beside in PLACES:
-        path = os.path.realpath(os.path.join(folder, beside, RANK))
+        path = Path(folder, beside, RANK).resolve()
         if os.access(path, os.X_OK):
-            return path
+            return str(path)
     raise Refused(f"there is no {RANK}: `make ranks` builds it, with the package libpmix-dev")
 
 
@@ -189,7 +190,7 @@ def run_freely(asked: PlanRequest, choices: Choices, folder: str) -> int:
     write = answers.write_json if choices.is_json else answers.write_text
     texts = [(STANDARD_OUTPUT, write(runs))]
     if choices.junit:
-        name = os.path.basename(asked.plan)
+        name = Path(asked.plan).name
         texts.append((choices.junit, answers.write_junit(name, answers.list_cases(name, runs))))
     write_each(texts)
     return DIFFERENT if runs.differs else SAME

@@ -7,6 +7,7 @@ import subprocess
 import time
 from collections.abc import Mapping, Sequence
 from dataclasses import dataclass, field
+from pathlib import Path
 
 from wire_up_tools.failures import Refused
 from wire_up_tools.record.running import BY_SIGNAL, HANDED_ON, NOT_RUN, NotRun, make_environment
@@ -34,7 +35,7 @@ class Session:
 
     command: Sequence[str]
     libraries: Sequence[str]
-    room: str
+    room: Path
     source: str | None
     hosts: list[str] | None
     patience: Patience
@@ -68,7 +69,7 @@ class HeldRun:
     and what it wrote."""
 
     holds: Holds
-    folder: str
+    folder: Path
     status: int | None
     began: float
     seconds: float
@@ -119,11 +120,11 @@ def watch(process: "subprocess.Popen[bytes]", server: Server, limit: float) -> i
     return find_status(process)
 
 
-def launch(session: Session, folder: str) -> "subprocess.Popen[bytes]":
+def launch(session: Session, folder: Path) -> "subprocess.Popen[bytes]":
     """Begins a run, whose output goes to a file in its folder. Raises NotRun, OSError."""
-    environment = make_environment(session.libraries, folder)
+    environment = make_environment(session.libraries, str(folder))
     source = session.source or os.devnull
-    with open(os.path.join(folder, OUTPUT), "wb") as to, open(source, "rb") as come:
+    with open(folder / OUTPUT, "wb") as to, open(source, "rb") as come:
         try:
             return subprocess.Popen(
                 session.command,
@@ -137,7 +138,7 @@ def launch(session: Session, folder: str) -> "subprocess.Popen[bytes]":
             raise NotRun(f"{session.command[0]}: {why.strerror}", NOT_RUN) from None
 
 
-def refuse_lost(folder: str, output: bytes) -> None:
+def refuse_lost(folder: Path, output: bytes) -> None:
     """Raises Refused where a recorder said that it couldn't write, or has no room to say so: a run
     that is recorded in part differs from another by that."""
     said = LOST.search(output)
@@ -153,8 +154,8 @@ def run_held(session: Session, holds: Holds, name: str) -> HeldRun:
     NotRun, OSError."""
     if time.monotonic() > session.until:
         raise OutOfTime
-    folder = os.path.join(session.room, name)
-    os.mkdir(folder)
+    folder = session.room / name
+    folder.mkdir()
     since, began = time.time(), time.monotonic()
     with open_hall_for(session.hosts) as hall:
         write_holds(holds, folder, hall.address, hall.word)
@@ -165,8 +166,7 @@ def run_held(session: Session, holds: Holds, name: str) -> HeldRun:
         finally:
             end_launcher(process)
     seconds = time.monotonic() - began
-    with open(os.path.join(folder, OUTPUT), "rb") as written:
-        output = written.read()
+    output = (folder / OUTPUT).read_bytes()
     refuse_lost(folder, output)
     traces = read_traces(folder)
     return HeldRun(holds, folder, status, since, seconds, server.courses, traces, output)

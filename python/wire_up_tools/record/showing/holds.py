@@ -3,6 +3,7 @@ import enum
 import os
 from collections.abc import Mapping, Sequence
 from dataclasses import dataclass, field
+from pathlib import Path
 
 from wire_up_tools.record.showing.naming import Target
 
@@ -46,20 +47,19 @@ class Course:
     is_passed: bool = False
 
 
-def mark_compared(folder: str) -> None:
+def mark_compared(folder: Path) -> None:
     """Lets recorders know that a run in which nothing is held is compared with others. Raises
     OSError."""
-    with open(os.path.join(folder, FILE), "wb"):
-        pass
+    (folder / FILE).write_bytes(b"")
 
 
-def write_holds(holds: Holds, folder: str, address: str, word: str) -> None:
+def write_holds(holds: Holds, folder: Path, address: str, word: str) -> None:
     """Writes the file by which recorders know the server and the named calls. Raises OSError."""
     lines = [f"server {address} {word}"]
     lines += [
         f"call {target.job} {target.rank} {target.ordinal} {target.name}"
         for target in holds.targets
     ]
-    opened = os.open(os.path.join(folder, FILE), os.O_WRONLY | os.O_CREAT | os.O_EXCL, 0o600)
+    opened = os.open(folder / FILE, os.O_WRONLY | os.O_CREAT | os.O_EXCL, 0o600)
     with open(opened, "w", encoding="ascii") as to:
         to.writelines(f"{line}\n" for line in lines)

@@ -6,6 +6,7 @@ import time
 from collections.abc import Callable, Sequence
 from dataclasses import dataclass, field
 from datetime import datetime, timezone
+from pathlib import Path
 from typing import Any
 
 from wire_up_tools.checker import Checker
@@ -49,7 +50,7 @@ class Material:
     text: str
     path: str
     checker: Checker | None
-    room: str
+    room: Path
     first: First | None = None
 
 

@@ -1,6 +1,6 @@
 """Whether anything moves in a run: its recordings grow, or a process sleeps for a known time."""
-import os
 from dataclasses import dataclass, field
+from pathlib import Path
 
 from wire_up_tools.record.recordings import ENDING
 
@@ -32,10 +32,10 @@ class Grown:
     end: int = 0
     switches: str = ""
 
-    def has_grown(self, path: str) -> bool:
+    def has_grown(self, path: Path) -> bool:
         """Whether there is more of it than at the last look. Raises OSError."""
         before = self.end
-        with open(path, "rb") as file:
+        with path.open("rb") as file:
             file.seek(self.end)
             while read := file.read(BLOCK):
                 zeros = read.find(b"\0")
@@ -57,16 +57,17 @@ class Grown:
 class Motion:
     """Looks at the recordings of a folder, again and again."""
 
-    folder: str
+    folder: Path
     seen: dict[str, Grown] = field(default_factory=dict)
 
     def has_moved(self) -> bool:
         """Whether something has moved since the last look. Raises OSError."""
         moved = False
-        for name in os.listdir(self.folder):
-            if name.endswith(ENDING):
-                number = name.split(".")[-2]
-                of = self.seen.setdefault(name, Grown(int(number) if number.isdecimal() else 0))
-                moved = of.has_grown(os.path.join(self.folder, name)) or moved
+        for path in self.folder.iterdir():
+            if path.name.endswith(ENDING):
+                number = path.name.split(".")[-2]
+                new = Grown(int(number) if number.isdecimal() else 0)
+                of = self.seen.setdefault(path.name, new)
+                moved = of.has_grown(path) or moved
                 moved = of.has_slept() or moved
         return moved

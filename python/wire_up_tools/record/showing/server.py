@@ -5,6 +5,7 @@ import tempfile
 import time
 from collections.abc import Iterator
 from dataclasses import dataclass, field
+from pathlib import Path
 
 from wire_up_tools.record.showing.holds import Course, Holds, Until, Wait
 from wire_up_tools.record.showing.motion import Motion
@@ -26,7 +27,7 @@ class Patience:
 @contextlib.contextmanager
 def open_hall_for(hosts: list[str] | None) -> Iterator[Hall]:
     """A hall that processes of hosts can reach; None: of this machine. Raises Refused, OSError."""
-    folder = tempfile.mkdtemp(prefix="wire_up-show-")
+    folder = Path(tempfile.mkdtemp(prefix="wire_up-show-"))
     try:
         hall = open_hall(folder, hosts)
         try:

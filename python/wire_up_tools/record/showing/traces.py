@@ -1,10 +1,10 @@
 """Recordings as traces: what each process called and how that ended, whatever the namespace, the
 numbers, the times and the places. Traces of several runs can be compared."""
-import os
 import re
 from collections import Counter
 from collections.abc import Mapping, Sequence
 from dataclasses import dataclass, field
+from pathlib import Path
 
 from wire_up_tools.record.directives import TIMEOUT, gives_up
 from wire_up_tools.record.forms import read_begin
@@ -187,11 +187,10 @@ class Reader:
             self.trace.has_finalized = True
 
 
-def read_trace(path: str) -> Trace | None:
+def read_trace(path: Path) -> Trace | None:
     """Reads a recording as a trace, up to the zeros and without a cut line; None where it has no
     head yet. Raises OSError."""
-    with open(path, "rb") as file:
-        data = file.read().rstrip(b"\0").decode("ascii", "replace")
+    data = path.read_bytes().rstrip(b"\0").decode("ascii", "replace")
     lines = data[: data.rfind("\n") + 1].splitlines(keepends=True)
     if len(lines) < HEAD_LINES:
         return None
@@ -203,13 +202,9 @@ def read_trace(path: str) -> Trace | None:
     return trace
 
 
-def read_traces(folder: str) -> Traces:
+def read_traces(folder: Path) -> Traces:
     """The traces of a folder, by the names that a plan gives to processes. Raises OSError."""
-    paths = [
-        os.path.join(folder, each_name)
-        for each_name in sorted(os.listdir(folder))
-        if each_name.endswith(ENDING)
-    ]
+    paths = sorted(path for path in folder.iterdir() if path.name.endswith(ENDING))
     found = [trace for trace in map(read_trace, paths) if trace]
     begun: dict[str, float] = {}
     for trace in found:

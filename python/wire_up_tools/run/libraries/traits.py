@@ -1,15 +1,15 @@
 """Which rules each library has, and how: read off the tables of what it did."""
 import enum
-import os
 import re
 from collections.abc import Mapping
 from dataclasses import dataclass
+from pathlib import Path
 
 from wire_up_tools.failures import Refused
 from wire_up_tools.run.launchers import Kind
 from wire_up_tools.run.libraries.rules import Rule
 
-TABLES = os.path.join(os.path.dirname(os.path.dirname(__file__)), "tables")
+TABLES = Path(__file__).parent.parent / "tables"
 OUTSIDE, NOT_FOUND = "PMIX_ERR_EXISTS_OUTSIDE_SCOPE", "PMIX_ERR_NOT_FOUND"
 
 
@@ -114,9 +114,9 @@ class Library:
     traits: Traits
 
     @property
-    def table(self) -> str:
+    def table(self) -> Path:
         """The path of the table of what it did."""
-        return os.path.join(TABLES, f"{self.name}.txt")
+        return TABLES / f"{self.name}.txt"
 
 
 # Each was measured by itself and stands by itself: lines that two share aren't put together, since
