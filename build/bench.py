@@ -16,6 +16,7 @@ import os
 import sys
 import tempfile
 from collections.abc import Callable, Sequence
+from pathlib import Path
 
 from build.bench_plans import KINDS, Kind, calls_in
 from build.parts import build_parts
@@ -68,13 +69,13 @@ def command_of(program: str, words: Sequence[str]) -> Timed:
 
 def plain_run(path: str) -> Command:
     """The run by one thread that always serves the lowest ready rank, without a check before it."""
-    return Command([PARTS, "plain"], path)
+    return Command([str(PARTS), "plain"], path)
 
 
 class Bench:
     """The rows of the tables, as they are measured."""
 
-    def __init__(self, args: argparse.Namespace, room: str) -> None:
+    def __init__(self, args: argparse.Namespace, room: Path) -> None:
         self.programs = [os.path.abspath(item) for item in (args.program, args.beside) if item]
         self.room, self.runs, self.is_small = room, args.runs, args.small
 
@@ -84,10 +85,9 @@ class Bench:
         if self.is_small:
             ranks, rounds = min(kind.ranks, SMALL_RANKS), SMALL_ROUNDS
         text = kind.text(ranks, rounds)
-        path = os.path.join(self.room, f"{kind.name}-{share}.plan")
-        with open(path, "w", encoding="ascii") as file:
-            file.write(text)
-        return path, text
+        path = self.room / f"{kind.name}-{share}.plan"
+        path.write_text(text, encoding="ascii")
+        return str(path), text
 
     def tell_file(self, kind: Kind) -> None:
         """Prints a row of the table of files."""
@@ -125,7 +125,7 @@ class Bench:
         path, _ = self.file_of(kind, WHOLE)
         if findings_in([self.programs[0], "check", path]):
             return
-        runs = [Command([PARTS, "plain"], path), Command([PARTS, "workers"], path)]
+        runs = [Command([str(PARTS), word], path) for word in ("plain", "workers")]
         for workers in ("1", "2", "4"):
             runs.append(Command([self.programs[0], "replay", path, "--workers", workers], path))
         took = [[run(each_run).seconds for each_run in runs] for _ in range(self.runs)]
@@ -168,7 +168,7 @@ def arguments() -> argparse.Namespace:
     parser = argparse.ArgumentParser(
         description=__doc__, formatter_class=argparse.RawDescriptionHelpFormatter
     )
-    parser.add_argument("program", nargs="?", default=WIRE_UP)
+    parser.add_argument("program", nargs="?", default=str(WIRE_UP))
     parser.add_argument("--beside")
     parser.add_argument("--only", default="")
     parser.add_argument("--runs", type=int, default=5)
@@ -181,7 +181,7 @@ def arguments() -> argparse.Namespace:
     return args
 
 
-def other_program() -> str | None:
+def other_program() -> Path | None:
     """The unproved program, where it can be built. Says that it is taken, or why it isn't."""
     path, why = build_plain()
     left_out = f"the unproved program is left out: {why}"
@@ -195,7 +195,7 @@ def main() -> int:
     if not build_parts():
         sys.exit("crates/one_function can't be built: out/parts.log says why")
     with tempfile.TemporaryDirectory(prefix="wire-up-") as room:
-        Bench(args, room).tell_all([kind for kind in KINDS if args.only in kind.name])
+        Bench(args, Path(room)).tell_all([kind for kind in KINDS if args.only in kind.name])
     return 0
 
 

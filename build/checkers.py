@@ -5,7 +5,6 @@ Prints what each finds, and what is left out since its program isn't there, and 
 failed'.
 """
 import glob
-import os
 import shutil
 import subprocess
 import sys
@@ -27,7 +26,7 @@ PYTHON = (
     "wire_up-run",
 )
 # The script that checks C, and how it says what it can't check.
-LINT_C, LEFT_OUT = os.path.join(TOP, "record", "lint"), "left out:"
+LINT_C, LEFT_OUT = str(TOP / "record" / "lint"), "left out:"
 
 
 @dataclass(frozen=True)

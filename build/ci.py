@@ -5,9 +5,9 @@ all that is below it. Some versions of the kit keep what `rt ci` proved in a sto
 crate that was proved on this machine before, from the same files over the same libraries, isn't
 proved again then.
 """
-import os
 import re
 from collections.abc import Callable
+from pathlib import Path
 
 from build import kit, logs
 from build.counts import Counts, counts_in
@@ -38,17 +38,17 @@ class Course:
             self.line.now(f"{self.proved} of {self.total} crates proved, last {judged[1]}")
 
 
-def run(room: str, log: str, take: Callable[[str], None]) -> int:
+def run(room: Path, log: Path, take: Callable[[str], None]) -> int:
     """Runs `rt ci` in the copy, adds all that it prints to the log, hands each line on, and answers
     its status."""
     # It is the top of a repository, wherever it stands, and `rt ci` has a place there for what it
     # moves aside.
-    os.makedirs(os.path.join(room, ".git"), exist_ok=True)
+    (room / ".git").mkdir(exist_ok=True)
     words = ["env", f"RT_JOBS={lanes_for(crates_at(room, Crate))}", "rt", "ci"]
     return logs.keep(words, room, log, take, kit.guarded())
 
 
-def reasons(log: str) -> str:
+def reasons(log: Path) -> str:
     """What a log of `rt ci` says of what failed: all about each crate that isn't proved, and the
     last lines."""
     block: list[str] = []

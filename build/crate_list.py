@@ -1,17 +1,18 @@
 """Reads crates.txt: the names of the crates, and what each uses."""
-import os
+
+from pathlib import Path
 
 from build.places import TOP
 
 
-def uses_at(top: str) -> dict[str, list[str]]:
+def uses_at(top: Path) -> dict[str, list[str]]:
     """The crates and libraries that each crate uses, by its name."""
-    with open(os.path.join(top, "crates.txt"), encoding="utf-8") as file:
-        lines = [line.partition("#")[0].partition(":") for line in file]
+    text = (top / "crates.txt").read_text(encoding="utf-8")
+    lines = [line.partition("#")[0].partition(":") for line in text.splitlines()]
     return {left.split()[0]: right.split() for left, _, right in lines if left.strip()}
 
 
-def names_below(name: str | None, top: str = TOP) -> list[str]:
+def names_below(name: str | None, top: Path = TOP) -> list[str]:
     """The crate of this name and all below it, each after those that it uses; without a name
     all crates of the repository."""
     uses, found = uses_at(top), dict[str, None]()

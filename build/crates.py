@@ -5,12 +5,13 @@ import os
 import shutil
 import threading
 from collections.abc import Iterator, Sequence
+from pathlib import Path
 from typing import TypeVar
 
 from build import crate_list, kit
 
 # The path, the times and the size of each file of a crate.
-Looks = list[tuple[str, int, int, int]]
+Looks = list[tuple[Path, int, int, int]]
 # What is made in any folder, and isn't copied.
 MADE = shutil.ignore_patterns("out", "*.so", "__pycache__")
 
@@ -18,14 +19,14 @@ MADE = shutil.ignore_patterns("out", "*.so", "__pycache__")
 class Seen(threading.local):
     """What was seen of the files of each crate, by its folder, while one question is answered."""
 
-    looks: dict[str, Looks] | None = None
+    looks: dict[Path, Looks] | None = None
 
 
 SEEN = Seen()
 
 
 @contextlib.contextmanager
-def look_once() -> Iterator[dict[str, Looks]]:
+def look_once() -> Iterator[dict[Path, Looks]]:
     """Within this, the files of each crate are looked at once, as long as one question is
     answered."""
     outer = SEEN.looks
@@ -36,9 +37,9 @@ def look_once() -> Iterator[dict[str, Looks]]:
         SEEN.looks = outer
 
 
-def looks_of(folder: str) -> Looks:
+def looks_of(folder: Path) -> Looks:
     """The path, the times and the size of each file of a crate."""
-    found = [(path, os.stat(path)) for path in kit.files_of(folder)]
+    found = [(path, path.stat()) for path in kit.files_of(folder)]
     return [(path, item.st_mtime_ns, item.st_ctime_ns, item.st_size) for path, item in found]
 
 
@@ -53,6 +54,11 @@ class Crate(kit.KitCrate):
         self.known_own: tuple[Looks, str] = [], ""
         super().__init__(folder, root, known)
 
+    @property
+    def place(self) -> Path:
+        """Its folder."""
+        return Path(self.folder)
+
     def below(self) -> list["Crate"]:
         if self.known_below is None:
             self.known_below = super().below()
@@ -65,11 +71,11 @@ class Crate(kit.KitCrate):
         """A sum of what the crate is made from, but for the libraries of the repository below it:
         its texts, the names of what it uses, and the kit."""
         with look_once() as seen:
-            looks = seen.setdefault(self.folder, looks_of(self.folder))
+            looks = seen.setdefault(self.place, looks_of(self.place))
             if self.known_own[0] != looks:
                 uses = [self.of_kit, [dep.name for dep in self.deps]]
                 files = [
-                    (os.path.relpath(pair[0], self.folder), kit.sum_of(pair[0])) for pair in looks
+                    (str(pair[0].relative_to(self.folder)), kit.sum_of(pair[0])) for pair in looks
                 ]
                 made_from = repr([kit.identity(), uses, files])
                 self.known_own = looks, hashlib.sha256(made_from.encode()).hexdigest()
@@ -81,9 +87,9 @@ class Crate(kit.KitCrate):
         with look_once() as seen:
             looks = []
             for crate in [self, *self.below()]:
-                if crate.folder not in seen:
-                    seen[crate.folder] = looks_of(crate.folder)
-                looks.append(seen[crate.folder])
+                if crate.place not in seen:
+                    seen[crate.place] = looks_of(crate.place)
+                looks.append(seen[crate.place])
             if self.known_stamp[0] != looks:
                 self.known_stamp = looks, super().stamp()
         return self.known_stamp
@@ -92,33 +98,32 @@ class Crate(kit.KitCrate):
 AnyCrate = TypeVar("AnyCrate", bound=Crate)
 
 
-def crates_at(top: str, kind: type[AnyCrate]) -> list[AnyCrate]:
+def crates_at(top: Path, kind: type[AnyCrate]) -> list[AnyCrate]:
     """The crates of a repository, each after those that it uses."""
     known: dict[str, Crate] = {}
     found = []
     for name in crate_list.names_below(None, top):
-        folder = os.path.join(top, "crates", name)
-        crate = kind(folder, top, known)
+        folder = str(top / "crates" / name)
+        crate = kind(folder, str(top), known)
         known[folder] = crate
         kit.read_words(crate)
         found.append(crate)
     return sorted(found, key=lambda item: len(item.below()))
 
 
-def crates_for(name: str, top: str) -> list[Crate]:
+def crates_for(name: str, top: Path) -> list[Crate]:
     """The crate of this name and all below it, each after those that it uses."""
     wanted = crate_list.names_below(name, top)
     return [crate for crate in crates_at(top, Crate) if crate.name in wanted]
 
 
-def copy_to(room: str, top: str) -> None:
+def copy_to(room: Path, top: Path) -> None:
     """Copies a repository, without what was made in it and without its history."""
-    for name in os.listdir(top):
-        path = os.path.join(top, name)
-        if os.path.isfile(path) and name != "wire_up":
+    for path in top.iterdir():
+        if path.is_file() and path.name != "wire_up":
             shutil.copy(path, room)
-        elif os.path.isdir(path) and name not in (".git", "out"):
-            shutil.copytree(path, os.path.join(room, name), ignore=MADE)
+        elif path.is_dir() and path.name not in (".git", "out"):
+            shutil.copytree(path, room / path.name, ignore=MADE)
 
 
 @contextlib.contextmanager

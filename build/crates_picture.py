@@ -6,15 +6,15 @@ a use that follows from other lines has none. The colour of a box tells the laye
 With --check it writes nothing, and ends with status 1 if the picture isn't the one of crates.txt.
 """
 import argparse
-import os
 import sys
 from collections.abc import Iterable, Mapping, Sequence
 from dataclasses import dataclass, field
+from pathlib import Path
 from xml.sax.saxutils import escape
 
-TOP = os.path.dirname(os.path.dirname(__file__))
-TABLE = os.path.join(TOP, "crates.txt")
-PICTURE = os.path.join(TOP, "docs", "crates.svg")
+TOP = Path(__file__).parent.parent
+TABLE = TOP / "crates.txt"
+PICTURE = TOP / "docs" / "crates.svg"
 
 # All lengths are in pixels.
 WIDTH = 900

@@ -8,7 +8,6 @@ so do all parts of a type and all files of one name: rather too much counts than
 """
 import functools
 import glob
-import os
 import re
 from collections.abc import Iterable, Iterator
 from dataclasses import dataclass
@@ -125,8 +124,7 @@ def constructors(item: Item) -> list[str]:
 @functools.cache
 def file_at(path: str) -> File:
     """A file, by its path below the folder of all crates."""
-    with open(os.path.join(CRATES, path), encoding="utf-8") as file:
-        text = file.read()
+    text = (CRATES / path).read_text(encoding="utf-8")
     items: dict[str, list[Item]] = {}
     for item in spec_items(path, text) if path.endswith(".antt") else source_items(path, text):
         for name in [item.name, *constructors(item)]:
@@ -144,11 +142,11 @@ def files_of(crate: str, name: str) -> list[str]:
 def passed_on(crate: str, module: str) -> str:
     """The path of a module of specs/ that a crate passes on from another; nothing where it
     doesn't."""
-    path = os.path.join(CRATES, crate, "specs", "Lib.antt")
-    if not os.path.exists(path):
+    path = CRATES / crate / "specs" / "Lib.antt"
+    if not path.exists():
         return ""
-    with open(path, encoding="utf-8") as file:
-        found = re.search(rf"^pub use Rattle\.([\w.]+\.{module})$", file.read(), re.M)
+    text = path.read_text(encoding="utf-8")
+    found = re.search(rf"^pub use Rattle\.([\w.]+\.{module})$", text, re.M)
     return found[1] if found else ""
 
 
@@ -156,12 +154,12 @@ def files_at(module: str, name: str) -> list[str]:
     """The files with the items of a name of a module, by its path: of specs/, or of what the source
     declares, where a type has one name in a crate, and its variants stand with it."""
     crate, _, rest = module.partition(".")
-    if not os.path.isdir(os.path.join(CRATES, crate)):
+    if not (CRATES / crate).is_dir():
         return []
     if rest.startswith("specs.") and not rest.startswith("specs.declared."):
         last = rest.removeprefix("specs.")
         path = f"{crate}/specs/{last.replace('.', '/')}.antt"
-        if os.path.exists(os.path.join(CRATES, path)):
+        if (CRATES / path).exists():
             return [path]
         other = passed_on(crate, last)
         return files_at(other, name) if other else []
@@ -211,5 +209,4 @@ def closure_of(items: Iterable[Item]) -> set[Item]:
 
 def functions_in(path: str) -> list[Item]:
     """The functions of a source file."""
-    with open(os.path.join(CRATES, path), encoding="utf-8") as file:
-        return list(source_items(path, file.read(), True))
+    return list(source_items(path, (CRATES / path).read_text(encoding="utf-8"), True))

@@ -2,13 +2,14 @@
 import os
 import sys
 from collections.abc import Callable
+from pathlib import Path
 from typing import NoReturn
 
 from build.logs import tail_of
 from build.places import shown
 
 
-def fail(what: str, log: str) -> NoReturn:
+def fail(what: str, log: Path) -> NoReturn:
     """Says what failed and where to read more, and ends."""
     print(tail_of(log), end="")
     sys.exit(f"{what}. The whole output is in {shown(log)}")

@@ -17,6 +17,7 @@ import tempfile
 import textwrap
 from collections.abc import Iterable, Iterator, Sequence
 from dataclasses import dataclass, replace
+from pathlib import Path
 
 from build import costs, crate_list
 from build.bench_plans import KINDS, NO_CALLS
@@ -26,7 +27,7 @@ from build.places import LOGS, TOP, WIRE_UP, shown
 from build.plain_program import build_plain
 from build.timing import BETWEEN, Command, Taken, best_of, findings_in, floor, mebibytes
 
-PAGE = os.path.join(TOP, "docs", "figures.md")
+PAGE = TOP / "docs" / "figures.md"
 RUNS, LARGE_RUNS = 5, 2
 SMALL_RANKS, SMALL_ROUNDS = 4, 6
 # The ranks of which the cards are reported, each of which asks for those of all others.
@@ -66,7 +67,7 @@ class Measured:
 class Figures:
     """What is measured, in a folder for plans."""
 
-    def __init__(self, program: str, room: str, is_small: bool) -> None:
+    def __init__(self, program: str, room: Path, is_small: bool) -> None:
         self.program, self.room, self.is_small = program, room, is_small
         self.unproved, why = build_plain()
         if why:
@@ -74,13 +75,13 @@ class Figures:
 
     def measure(self, name: str, pieces: Iterable[str], runs: int) -> Measured:
         """Measures `check` in its forms, and `replay`, of a plan of this text."""
-        path, calls = os.path.join(self.room, "measured.plan"), 0
+        path, calls = str(self.room / "measured.plan"), 0
         with open(path, "w", encoding="ascii") as file:
             for piece in pieces:
                 file.write(piece)
                 calls += sum(not line.startswith(NO_CALLS) for line in piece.splitlines())
         words = [[self.program, *command, "--large", path] for command in COMMANDS]
-        words += [[unproved, "check", "--large", path] for unproved in [self.unproved] if unproved]
+        words += [[str(self.unproved), "check", "--large", path]] if self.unproved else []
         taken = best_of(1 if self.is_small else runs, [Command(word) for word in words])
         findings = findings_in([self.program, "check", "--large", path])
         print(f"{name}: check {taken[0].seconds:.3f} s", file=sys.stderr, flush=True)
@@ -103,12 +104,12 @@ class Figures:
 
     def of_a_report(self) -> tuple[Taken, Taken]:
         """A check of the cards of many ranks, and the report of it with what the checker takes."""
-        path = os.path.join(self.room, "cards.plan")
+        path = str(self.room / "cards.plan")
         ranks = SMALL_RANKS if self.is_small else CARDS
         with open(path, "w", encoding="ascii") as file:
-            words = [sys.executable, os.path.join(TOP, "examples", "cards.py"), "8", str(ranks)]
+            words = [sys.executable, str(TOP / "examples" / "cards.py"), "8", str(ranks)]
             subprocess.run(words, stdout=file, check=True)
-        report = [sys.executable, os.path.join(TOP, "wire_up-report"), "--checker", self.program]
+        report = [sys.executable, str(TOP / "wire_up-report"), "--checker", self.program]
         words = [self.program, "check", "--large", path]
         made = Command([*report, "--large", "-o", os.devnull, path])
         check, whole = best_of(1 if self.is_small else LARGE_RUNS, [Command(words), made])
@@ -188,18 +189,18 @@ def seconds(taken: float) -> str:
     return f"{taken:.3f}" if taken < 1 else f"{taken:.1f}"
 
 
-def read(path: str) -> str:
+def read(path: Path) -> str:
     """The text of a file; nothing where there is none."""
     try:
-        with open(path, encoding="utf-8") as file:
-            return file.read()
+        return path.read_text(encoding="utf-8")
     except FileNotFoundError:
         return ""
 
 
 def machine() -> str:
     """What the figures were measured on."""
-    model, memory = MODEL.search(read("/proc/cpuinfo")), MEMORY.search(read("/proc/meminfo"))
+    told = [read(Path("/proc", name)) for name in ("cpuinfo", "meminfo")]
+    model, memory = MODEL.search(told[0]), MEMORY.search(told[1])
     name = model[1] if model else platform.machine()
     room = f", {int(memory[1]) / (1 << 20):.0f} GiB of memory" if memory else ""
     return f"{os.cpu_count()} processors ({name}){room}, {platform.system()} {platform.release()}"
@@ -226,7 +227,7 @@ def proofs() -> str:
 
 def last_gate() -> str:
     """What the last gate took, where it left that behind."""
-    said = read(os.path.join(LOGS, "gate-costs.md"))
+    said = read(LOGS / "gate-costs.md")
     sums, whole = ROW.search(said), WHOLE.search(said)
     if not sums or not whole:
         return ""
@@ -283,17 +284,17 @@ def main() -> int:
     parser = argparse.ArgumentParser(
         description=__doc__, formatter_class=argparse.RawDescriptionHelpFormatter
     )
-    parser.add_argument("program", nargs="?", default=WIRE_UP)
-    parser.add_argument("--output", default=PAGE)
+    parser.add_argument("program", nargs="?", default=str(WIRE_UP))
+    parser.add_argument("--output", default=str(PAGE))
     parser.add_argument("--small", action="store_true")
     args = parser.parse_args()
     program = os.path.abspath(args.program)
     if not os.access(program, os.X_OK):
         sys.exit(f"there is no {args.program}: make run builds ./wire_up")
-    if not args.small and not os.path.exists(BETWEEN):
+    if not args.small and not BETWEEN.exists():
         sys.exit(f"{BETWEEN} isn't there: Debian's package time")
     with tempfile.TemporaryDirectory(prefix="wire-up-") as room:
-        text = page(Figures(program, room, args.small))
+        text = page(Figures(program, Path(room), args.small))
     with open(f"{args.output}.new", "w", encoding="utf-8") as file:
         file.write(text)
     os.replace(f"{args.output}.new", args.output)

@@ -16,12 +16,12 @@ said of what failed, so that the end of a log tells it.
 """
 import contextlib
 import io
-import os
 import shutil
 import sys
 import tempfile
 import traceback
 from collections.abc import Callable, Sequence
+from pathlib import Path
 from typing import TextIO
 
 from build import checkers, ci, costs, crate_list, records
@@ -64,7 +64,7 @@ class Copied(io.StringIO):
 class Gate:
     """What the parts of a gate found so far, what they cost, and what they said of failures."""
 
-    def __init__(self, room: str, watch: costs.Costs) -> None:
+    def __init__(self, room: Path, watch: costs.Costs) -> None:
         """The copy of the repository, and what watches the processes."""
         self.room, self.watch = room, watch
         self.counts: list[Counts] = []
@@ -113,8 +113,8 @@ class Gate:
     def run_tests(self) -> None:
         """Runs all tests."""
         with Progress("tests", minutes_of()["tests"]) as line:
-            log = os.path.join(LOGS, "gate.log")
-            session = Session(False, {"WIRE_UP_PROGRAM": BUILT}, log, line.now)
+            log = LOGS / "gate.log"
+            session = Session(False, {"WIRE_UP_PROGRAM": str(BUILT)}, log, line.now)
             before = costs.used()
             for ran in run_tests(session):
                 self.seconds[ran.name] = costs.used() - before
@@ -124,7 +124,7 @@ class Gate:
                 before = costs.used()
 
 
-def prove(room: str) -> Counts:
+def prove(room: Path) -> Counts:
     """Runs `rt ci` in the copy, and answers its counts; where it ends without them, one failure."""
     log = log_at("gate.log")
     with Progress("rt ci", minutes_of()["gate"]) as line:
@@ -143,7 +143,7 @@ def refuse_edits(files: Sequence[EditFile]) -> Counts:
     """Tries all edits over the libraries that `rt ci` built in the copy."""
     with Progress("edits", minutes_of()["edits"]) as line:
         found = list(try_all(files, line.now).values())
-    with open(os.path.join(LOGS, "gate.log"), "a", encoding="utf-8") as file:
+    with open(LOGS / "gate.log", "a", encoding="utf-8") as file:
         file.writelines(f"{outcome.text}\n" for outcome in found)
         for outcome in found:
             file.write(f"{outcome.seconds:.1f} seconds: {outcome.text.partition(':')[0]}\n")
@@ -155,7 +155,7 @@ def refuse_edits(files: Sequence[EditFile]) -> Counts:
     return counts
 
 
-def keep_built(room: str) -> bool:
+def keep_built(room: Path) -> bool:
     """Puts what `rt ci` built in the copy where users and tests look for it. Answers whether all of
     it is there."""
     programs = [crate for crate in crates_at(TOP, Crate) if records.made_of(crate) in KEPT]
@@ -163,19 +163,18 @@ def keep_built(room: str) -> bool:
         for program in programs:
             place = records.made_of(program)
             records.take_away(program)
-            made = os.path.join(room, os.path.relpath(place, TOP))
-            if os.path.exists(made):
-                os.makedirs(os.path.dirname(place), exist_ok=True)
+            made = room / place.relative_to(TOP)
+            if made.exists():
+                place.parent.mkdir(parents=True, exist_ok=True)
                 shutil.copy(made, place)
-    return all(map(os.path.exists, KEPT))
+    return all(path.exists() for path in KEPT)
 
 
 def tell_costs(gate: Gate) -> None:
     """Prints what the gate cost, and keeps it in a file."""
     crates = crate_list.names_below(None)
     told = gate.watch.report(crates, gate.seconds)
-    with open(os.path.join(LOGS, "gate-costs.md"), "w", encoding="utf-8") as file:
-        file.write(f"{told}\n")
+    (LOGS / "gate-costs.md").write_text(f"{told}\n", encoding="utf-8")
     print(
         f"{told} The budget is {BUDGET}: more is a reason to look, and no failure, as machines"
         " differ (`python3 -m build.speed` says by how much).",
@@ -184,7 +183,8 @@ def tell_costs(gate: Gate) -> None:
 
 
 def main() -> int:
-    with tempfile.TemporaryDirectory(prefix="wire-up-gate-") as room, costs.Costs() as watch:
+    with tempfile.TemporaryDirectory(prefix="wire-up-gate-") as folder, costs.Costs() as watch:
+        room = Path(folder)
         copy_to(room, TOP)
         files = edits_of(crates_at(room, Crate))
         wrong = not_laid_out(room) + not_applied(files)

@@ -21,6 +21,7 @@ import re
 import shutil
 import sys
 from collections.abc import Sequence
+from pathlib import Path
 from types import ModuleType
 from typing import TYPE_CHECKING
 
@@ -30,7 +31,7 @@ def load_command() -> ModuleType:
     path = shutil.which("rt")
     if not path:
         sys.exit("The command `rt` of the Rattle kit isn't on the path.")
-    loader = importlib.machinery.SourceFileLoader("rt", os.path.realpath(path))
+    loader = importlib.machinery.SourceFileLoader("rt", str(Path(path).resolve()))
     found = importlib.util.spec_from_loader("rt", loader)
     if found is None:
         sys.exit(f"{path} can't be read")
@@ -55,7 +56,7 @@ else:
     KitCrate = RT.rtlib.Crate
 
 # Where the kit is, its prover, and the folders of a crate that the prover reads.
-PLACE: str = RT.rtlib.KIT
+PLACE = Path(RT.rtlib.KIT)
 PROVER: str = RT.rtlib.RATTLE
 FOLDERS: tuple[str, ...] = RT.rtlib.PARTS
 # Words of a verdict that `rt ci` refuses in this repository.
@@ -86,30 +87,30 @@ def lock(crates: Sequence[KitCrate]) -> list[int]:
     return held
 
 
-def files_of(folder: str) -> list[str]:
+def files_of(folder: Path) -> list[Path]:
     """The paths of the files of a crate that the prover reads."""
-    return list(RT.rtlib.files_of(folder))
+    return [Path(path) for path in RT.rtlib.files_of(str(folder))]
 
 
-def text_of(path: str) -> str:
+def text_of(path: Path) -> str:
     """The text of a file; nothing where there is none."""
-    return RT.rtlib.text_of(path) or ""
+    return RT.rtlib.text_of(str(path)) or ""
 
 
-def sum_of(path: str) -> str:
+def sum_of(path: Path) -> str:
     """A sum of a file's bytes."""
-    found: str = RT.rtlib.sum_of(path)
+    found: str = RT.rtlib.sum_of(str(path))
     return found
 
 
 def identity() -> str:
     """What says which build of the kit this is."""
-    return text_of(os.path.join(PLACE, "WHAT"))
+    return text_of(PLACE / "WHAT")
 
 
-def root_above(folder: str) -> str:
+def root_above(folder: Path) -> str:
     """The top of the repository that a folder belongs to; the folder itself where it is in none."""
-    return RT.rtlib.root_above(folder) or folder
+    return RT.rtlib.root_above(str(folder)) or str(folder)
 
 
 def read_words(crate: KitCrate) -> None:
@@ -136,16 +137,16 @@ def free() -> float:
     return found
 
 
-def read_edit(path: str, folder: str) -> tuple[dict[str, str] | None, str | None]:
+def read_edit(path: Path, folder: str) -> tuple[dict[str, str] | None, str | None]:
     """The texts of the files that an edit changes, by their paths in the crate, or why it can't be
     applied."""
-    found: tuple[dict[str, str] | None, str | None] = RT.read_edit(path, folder)
+    found: tuple[dict[str, str] | None, str | None] = RT.read_edit(str(path), folder)
     return found
 
 
-def must_fail(crate: KitCrate, path: str) -> tuple[bool, str]:
+def must_fail(crate: KitCrate, path: Path) -> tuple[bool, str]:
     """Whether the prover refuses the whole crate with an edit, and what to say of it."""
-    answer, text = RT.must_fail(crate, path, ["--jobs", "1"])
+    answer, text = RT.must_fail(crate, str(path), ["--jobs", "1"])
     return answer in REFUSALS, str(text)
 
 

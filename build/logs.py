@@ -1,7 +1,7 @@
 """Logs of what commands print."""
-import os
 import subprocess
 from collections.abc import Callable, Sequence
+from pathlib import Path
 
 from build.places import LOGS
 
@@ -11,18 +11,18 @@ TAIL = 60
 ROUTINE = ("statements ", "by-macro: ", "logic /", "empty contracts: 0 ")
 
 
-def log_at(name: str) -> str:
+def log_at(name: str) -> Path:
     """The path of an empty log."""
-    os.makedirs(LOGS, exist_ok=True)
-    path = os.path.join(LOGS, name)
-    open(path, "w", encoding="utf-8").close()
+    LOGS.mkdir(parents=True, exist_ok=True)
+    path = LOGS / name
+    path.write_bytes(b"")
     return path
 
 
 def keep(
     words: Sequence[str],
-    folder: str,
-    log: str,
+    folder: Path,
+    log: Path,
     take: Callable[[str], None],
     behind: Sequence[str] = (),
 ) -> int:
@@ -57,7 +57,7 @@ def is_routine(line: str) -> bool:
     return line.endswith(": proved\n") or line.startswith(ROUTINE)
 
 
-def tail_of(log: str) -> str:
+def tail_of(log: Path) -> str:
     """The last lines that the last command in a log printed, and that aren't routine."""
     with open(log, encoding="utf-8", errors="replace") as file:
         lines = file.readlines()

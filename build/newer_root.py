@@ -19,6 +19,7 @@ import subprocess
 import sys
 import tempfile
 from collections.abc import Sequence
+from pathlib import Path
 from typing import NoReturn
 
 from build.places import LOGS
@@ -36,7 +37,7 @@ DATES = ("Acquire::Check-Valid-Until", "Acquire::Check-Date")
 # How many bytes must be free where it is made.
 ROOM = 4 << 30
 # What the gate wrote while it made the folder.
-LOG = os.path.join(LOGS, "newer-root.log")
+LOG = LOGS / "newer-root.log"
 # Mounts of the command, and what it leaves behind, end with it.
 ALONE = ("unshare", "--mount", "--pid", "--fork", "--kill-child")
 # What a command in the folder has in its environment. Open MPI as root must be told that this is
@@ -91,8 +92,7 @@ def fill_root(made: str) -> None:
     """Puts Debian into an empty folder. Raises OSError."""
     options = ["--variant=minbase", "--include=ca-certificates"]
     run("debootstrap", [*ALONE, "debootstrap", *options, RELEASE, made, MIRROR, SCRIPT])
-    with open("/etc/resolv.conf", "rb") as file, open(f"{made}/etc/resolv.conf", "wb") as to:
-        to.write(file.read())
+    Path(made, "etc", "resolv.conf").write_bytes(Path("/etc/resolv.conf").read_bytes())
     install = ["install", "-y", "--no-install-recommends", *PACKAGES]
     for words in (["update"], install, ["clean"]):
         run(f"apt-get {words[0]}", enter(made, ["apt-get", "-q", *find_dates(), *words]))

@@ -4,7 +4,6 @@
 Usage: python3 -m build.parts     proves and builds it, and the libraries below it that aren't built
 It takes minutes, or as long as `make run` where that wasn't done.
 """
-import os
 import sys
 
 from build.crates import crates_for, locked
@@ -17,7 +16,7 @@ ABOUT = "proving and building crates/one_function, and what isn't built below it
 
 def build_parts() -> bool:
     """Builds the program where it isn't there. Answers whether it is there then."""
-    if os.path.exists(PARTS):
+    if PARTS.exists():
         return True
     print(ABOUT, file=sys.stderr, flush=True)
     crates = crates_for("one_function", TOP)

@@ -3,10 +3,10 @@
 Usage: python3 -m build.plain_tests FILE [MARKER..]     leaves tests with one of these markers out
 Prints what failed and which tests were left out and why, and last 'N passed, M failed'.
 """
-import os
 import sys
 import unittest
 from collections.abc import Iterator, Sequence
+from pathlib import Path
 
 from build.counts import Counts
 from build.places import TOP
@@ -28,11 +28,11 @@ def markers_of_test(test: unittest.TestCase) -> frozenset[str]:
     return markers_of(type(test)) | markers_of(method)
 
 
-def run_file(file: str, left_out: Sequence[str], top: str = TOP) -> Counts:
+def run_file(file: str, left_out: Sequence[str], top: Path = TOP) -> Counts:
     """Runs the tests of a file, below the folder from which its module is named, that have none of
     these markers. A file without tests is a failure."""
-    folder, name = os.path.split(os.path.join(top, file))
-    found = list(tests_in(unittest.TestLoader().discover(folder, name, top)))
+    path = top / file
+    found = list(tests_in(unittest.TestLoader().discover(str(path.parent), path.name, str(top))))
     taken = [
         each_test for each_test in found if not markers_of_test(each_test).intersection(left_out)
     ]

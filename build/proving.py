@@ -1,5 +1,4 @@
 """Proves and builds crates side by side in their own folders, as far as they changed."""
-import os
 import signal
 import sys
 import tempfile
@@ -84,7 +83,7 @@ def holds_proofs(crates: Sequence[Crate], keeps: bool) -> bool:
 
 def holds_its_proofs(library: Crate) -> bool:
     """Whether a library holds its proofs, or keeps them beside it."""
-    return library.has_kept() or os.path.exists(library.rlib) and not records.is_cut(library)
+    return library.has_kept() or records.made_of(library).exists() and not records.is_cut(library)
 
 
 def names_below(crate: Crate) -> list[str]:
@@ -185,12 +184,12 @@ def build_program(crate: Crate) -> int:
     """Proves, builds and links a program. Over libraries that keep their proofs it keeps its own,
     too."""
     made, tools = records.made_of(crate), f"{kit.PLACE}/toolchain"
-    os.makedirs(os.path.dirname(made), exist_ok=True)
+    made.parent.mkdir(parents=True, exist_ok=True)
     words = [*crate.words(["--jobs", "1"], keeps=False), "--toolchain", tools]
     if all(map(holds_its_proofs, crate.below())):
         words += kit.KEPT
     words += ["--backend", "llvm", "-o", f"{made}.o"]
-    link = ["--target", TARGET, "--toolchain", tools, "-o", made, f"{made}.o"]
+    link = ["--target", TARGET, "--toolchain", tools, "-o", str(made), f"{made}.o"]
     link += [f"{kit.PLACE}/c/{word}" for word in ("libos_c.a", "liblibc_c.a")]
     status = crate.call(kit.PROVER, "build", *words)
     return status or crate.call(f"{kit.PLACE}/bin/rattle-link", *link)

@@ -8,7 +8,6 @@ Usage: python3 -m build.reading NUMBER     prints the files of a statement, with
 import functools
 import glob
 import itertools
-import os
 import re
 import sys
 from collections.abc import Sequence
@@ -17,7 +16,7 @@ from dataclasses import dataclass
 from build.definitions import Item, closure_of, functions_in
 from build.places import CRATES, TOP
 
-STATEMENTS = os.path.join(TOP, "docs", "guarantees.md")
+STATEMENTS = TOP / "docs" / "guarantees.md"
 TABLE = re.compile(r"^\| statement \| files .*\n(?:\|.*\n)*", re.M)
 SECTION = re.compile(r"^### (?P<number>\d+)\. (?P<title>.*)\n(?P<text>(?s:.*?))(?=^##)", re.M)
 # The sentence that says which contract holds.
@@ -82,8 +81,7 @@ def contracts_in(text: str) -> list[Item]:
 
 def statements() -> list[Statement]:
     """The statements that have a contract."""
-    with open(STATEMENTS, encoding="utf-8") as file:
-        sections = list(SECTION.finditer(file.read()))
+    sections = list(SECTION.finditer(STATEMENTS.read_text(encoding="utf-8")))
     found = []
     for section in sections:
         contracts = tuple(contracts_in(section["text"]))
@@ -116,10 +114,8 @@ def listing(statement: Statement) -> str:
 
 def write_table() -> None:
     """Writes the table anew where it stands."""
-    with open(STATEMENTS, encoding="utf-8") as file:
-        text, rows = file.read(), table()
-    with open(STATEMENTS, "w", encoding="utf-8") as to:
-        to.write(TABLE.sub(lambda _: rows, text))
+    text, rows = STATEMENTS.read_text(encoding="utf-8"), table()
+    STATEMENTS.write_text(TABLE.sub(lambda _: rows, text), encoding="utf-8")
 
 
 def main(words: Sequence[str]) -> int:

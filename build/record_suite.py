@@ -21,6 +21,7 @@ import tempfile
 from collections.abc import Iterable, Sequence
 from concurrent.futures import ThreadPoolExecutor
 from dataclasses import asdict
+from pathlib import Path
 
 from build.places import TOP, WIRE_UP
 from build.suite.source import (
@@ -89,14 +90,14 @@ def tell(outcome: Outcome) -> Iterable[str]:
 class Tried:
     """What came of programs, kept in a file as it comes."""
 
-    def __init__(self, room: str, does_turn: bool = False) -> None:
+    def __init__(self, room: Path, does_turn: bool = False) -> None:
         self.does_turn = does_turn
-        self.path = os.path.join(room, "turned" if does_turn else "outcomes")
-        self.log = os.path.join(room, "build.log")
+        self.path = room / ("turned" if does_turn else "outcomes")
+        self.log = room / "build.log"
         self.found: dict[str, Outcome] = {}
         self.is_over = False
-        if os.path.exists(self.path):
-            with open(self.path, encoding="utf-8") as lines:
+        if self.path.exists():
+            with self.path.open(encoding="utf-8") as lines:
                 for load in map(json.loads, lines):
                     program = SuiteProgram(**load.pop("program"))
                     self.found[program.title] = Outcome(program, **load)
@@ -105,7 +106,7 @@ class Tried:
         """Keeps what came of a program, and says it."""
         title = outcome.program.title
         self.found[title] = outcome
-        with open(self.path, "a", encoding="utf-8") as to:
+        with self.path.open("a", encoding="utf-8") as to:
             to.write(json.dumps(asdict(outcome)) + "\n")
         seconds = f"{outcome.seconds:.1f} s recorded"
         well = f"{title}: {f'kept {outcome.kept}' if self.does_turn else 'as without'}"
@@ -139,9 +140,9 @@ def try_all(bench: Bench, programs: Sequence[SuiteProgram], tried: Tried, jobs: 
             print("interrupted: what is tried is told", flush=True)
 
 
-def prepare(words: argparse.Namespace) -> tuple[str, list[SuiteProgram]]:
+def prepare(words: argparse.Namespace) -> tuple[Path, list[SuiteProgram]]:
     """The folder of the built suite, and the programs that are asked for. Raises NoSuite."""
-    os.makedirs(words.room, exist_ok=True)
+    words.room.mkdir(parents=True, exist_ok=True)
     print("fetching and configuring the suite ..", flush=True)
     source = fetch(words.room)
     built = configure(words.room, source)
@@ -155,9 +156,10 @@ def prepare(words: argparse.Namespace) -> tuple[str, list[SuiteProgram]]:
 def read_words() -> argparse.Namespace:
     """What the command line asks for."""
     parser = argparse.ArgumentParser(add_help=False, usage=__doc__)
-    parser.add_argument("program", nargs="?", default=WIRE_UP)
+    parser.add_argument("program", nargs="?", default=str(WIRE_UP))
     parser.add_argument("--parts", nargs="*", default=[])
-    parser.add_argument("--room", default=os.path.join(tempfile.gettempdir(), "wire-up-suite"))
+    room = Path(tempfile.gettempdir(), "wire-up-suite")
+    parser.add_argument("--room", type=Path, default=room)
     parser.add_argument("--seconds", type=float, default=60.0)
     parser.add_argument("--jobs", type=int, default=1)
     parser.add_argument("--turn", action="store_true")

@@ -8,7 +8,6 @@ cite: these load them sooner, and they take less of the disk.
 """
 import contextlib
 import fcntl
-import os
 import resource
 import shutil
 import subprocess
@@ -17,6 +16,7 @@ import tempfile
 import threading
 import time
 from collections.abc import Iterator
+from pathlib import Path
 
 from build.crates import copy_to, crates_for, locked
 from build.ending import fail, run_and_leave
@@ -30,14 +30,14 @@ from build.trying import COMMANDS, try_plans
 
 EXAMPLE = "examples/business-card.plan"
 # The program that was proved, until it takes its place.
-MADE = os.path.join(LOGS, "wire_up")
+MADE = LOGS / "wire_up"
 
 
 class Proof(threading.Thread):
     """The proof of the program and of all crates that it uses, as far as they changed, and the
     build of the program. It begins at once."""
 
-    def __init__(self, log: str) -> None:
+    def __init__(self, log: Path) -> None:
         super().__init__(daemon=True)
         self.crates = crates_for("program", TOP)
         self.line, self.log = Progress("proving", expected(self.crates)), log
@@ -46,7 +46,7 @@ class Proof(threading.Thread):
 
     def run(self) -> None:
         tell = counted(self.line, len(self.crates))
-        with locked(self.crates), open(self.log, "a", encoding="utf-8") as to:
+        with locked(self.crates), self.log.open("a", encoding="utf-8") as to:
             failed = prove_all(self.crates, to, tell)
             if not failed:
                 shutil.copy(BUILT, MADE)
@@ -71,8 +71,8 @@ def show() -> None:
 @contextlib.contextmanager
 def alone() -> Iterator[None]:
     """Waits until no other `make run` works here."""
-    os.makedirs(LOGS, exist_ok=True)
-    with open(os.path.join(LOGS, "run.lock"), "w", encoding="utf-8") as file:
+    LOGS.mkdir(parents=True, exist_ok=True)
+    with open(LOGS / "run.lock", "w", encoding="utf-8") as file:
         try:
             fcntl.flock(file, fcntl.LOCK_EX | fcntl.LOCK_NB)
         except BlockingIOError:
@@ -84,16 +84,16 @@ def alone() -> Iterator[None]:
 def try_example() -> None:
     """Checks and replays the example by a build without proofs, of a copy of the repository."""
     with tempfile.TemporaryDirectory(prefix="wire-up-") as room:
-        copy_to(room, TOP)
-        try_plans([EXAMPLE], room)
+        copy_to(Path(room), TOP)
+        try_plans([EXAMPLE], Path(room))
 
 
-def note_time(log: str, seconds: float) -> None:
+def note_time(log: Path, seconds: float) -> None:
     """Writes to the end of the log how long the run took, and the processor time of all that was
     started for it."""
     used = resource.getrusage(resource.RUSAGE_CHILDREN)
     minutes = (used.ru_utime + used.ru_stime) / 60
-    with open(log, "a", encoding="utf-8") as to:
+    with log.open("a", encoding="utf-8") as to:
         to.write(f"$ {seconds / 60:.1f} minutes, {minutes:.1f} of processor time\n")
 
 
@@ -101,13 +101,13 @@ def run_alone() -> None:
     """The whole of it, where no other `make run` works here."""
     log, begun = log_at("run.log"), time.monotonic()
     proof = Proof(log)
-    if not os.path.exists(WIRE_UP):
+    if not WIRE_UP.exists():
         try_example()
     failed = proof.end()
     if failed:
         fail(f"{failed}. ./wire_up is as it was", log)
     note_time(log, time.monotonic() - begun)
-    os.replace(MADE, WIRE_UP)
+    MADE.replace(WIRE_UP)
     print("Proved, and built as ./wire_up:", flush=True)
     show()
 

@@ -6,12 +6,12 @@ A test is a module, a class or a method, such as tests.record.test_recording_liv
 is what runs without one. It works on a copy of the repository. The last line is 'N passed, M
 failed'.
 """
-import glob
 import os
 import subprocess
 import sys
 import tempfile
 from collections.abc import Sequence
+from pathlib import Path
 
 from build.counts import Counts
 from build.crates import copy_to
@@ -33,22 +33,22 @@ def find_library() -> str:
         ran = subprocess.run(words, capture_output=True, text=True, check=True)
     except (OSError, subprocess.CalledProcessError):
         sys.exit("there is no C compiler here")
-    if not os.path.isabs(ran.stdout.strip()):
+    if not Path(ran.stdout.strip()).is_absolute():
         sys.exit("the C compiler has no sanitizers here")
     return ran.stdout.strip()
 
 
-def build(room: str) -> None:
+def build(room: Path) -> None:
     """Builds the recorders of a copy."""
     words = ["make", "-s", "record", "record-mpi", f"CFLAGS={FLAGS}"]
     if subprocess.run(words, cwd=room, check=False).returncode:
         sys.exit("the recorders can't be built with sanitizers")
 
 
-def run_tests(room: str, tests: Sequence[str]) -> bool:
+def run_tests(room: Path, tests: Sequence[str]) -> bool:
     """Runs tests of a copy. Answers whether they passed."""
     # (each sanitizer adds the number of the process)
-    found = os.path.join(room, "found")
+    found = room / "found"
     settings = {
         "WIRE_UP_FIRST_LIBRARY": find_library(),
         "ASAN_OPTIONS": f"detect_leaks=0:log_path={found}",
@@ -61,14 +61,14 @@ def run_tests(room: str, tests: Sequence[str]) -> bool:
 
 def main(tests: Sequence[str]) -> int:
     find_library()
-    with tempfile.TemporaryDirectory(prefix="wire-up-") as room:
+    with tempfile.TemporaryDirectory(prefix="wire-up-") as folder:
+        room = Path(folder)
         copy_to(room, TOP)
         build(room)
         is_well = run_tests(room, tests or TESTS)
-        found = sorted(glob.glob(os.path.join(room, "found.*")))
+        found = sorted(room.glob("found.*"))
         for path in found:
-            with open(path, encoding="utf-8", errors="replace") as file:
-                print(file.read())
+            print(path.read_text(encoding="utf-8", errors="replace"))
     is_well = is_well and not found
     print(Counts(int(is_well), int(not is_well)))
     return 0 if is_well else 1

@@ -206,7 +206,7 @@ def runner_of(args: argparse.Namespace, room: str) -> Runner:
         unproved, why = build_plain()
         if not unproved:
             print(f"the unproved program is left out: {why}", flush=True)
-    return Runner(os.path.abspath(args.program), room, unproved)
+    return Runner(os.path.abspath(args.program), room, str(unproved) if unproved else None)
 
 
 def look_again(args: argparse.Namespace, room: str) -> int:
@@ -228,11 +228,11 @@ def arguments() -> argparse.Namespace:
     parser = argparse.ArgumentParser(
         description=__doc__, formatter_class=argparse.RawDescriptionHelpFormatter
     )
-    parser.add_argument("program", nargs="?", default=WIRE_UP)
+    parser.add_argument("program", nargs="?", default=str(WIRE_UP))
     parser.add_argument("--minutes", type=float, default=1)
     parser.add_argument("--seconds", type=float)
     parser.add_argument("--seed", type=int)
-    parser.add_argument("--keep", default=os.path.join(LOGS, "soak"))
+    parser.add_argument("--keep", default=str(LOGS / "soak"))
     parser.add_argument("--again")
     kinds = parser.add_mutually_exclusive_group()
     kinds.add_argument("--patterns", action="store_true")

@@ -32,7 +32,7 @@ THEN = {
 
 def checked_out(room: str) -> str:
     """A copy of the repository as it was at that commit."""
-    clone = ["clone", "--quiet", "--no-checkout", TOP, room]
+    clone = ["clone", "--quiet", "--no-checkout", str(TOP), room]
     for words in clone, ["-C", room, "checkout", "--quiet", COMMIT]:
         if subprocess.run(["git", *words], check=False).returncode:
             sys.exit(f"This needs the repository's history, with commit {COMMIT}.")

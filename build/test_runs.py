@@ -15,6 +15,7 @@ import subprocess
 import sys
 from collections.abc import Callable, Iterator, Mapping, Sequence
 from dataclasses import dataclass
+from pathlib import Path
 
 from build import kit
 from build.counted_runs import Ran, run_counted
@@ -76,7 +77,7 @@ def find_pytest() -> str | None:
     """A python that has pytest and what it has to have; None where there is none."""
     of_system = shutil.which("python3", path=os.defpath)
     for python in sys.executable, shutil.which("python3"), of_system:
-        if python and os.path.exists(python):
+        if python and Path(python).exists():
             words = [python, "-c", f"import {MODULES}"]
             look = subprocess.run(words, capture_output=True, check=False)
             if look.returncode == 0:
@@ -114,7 +115,7 @@ class Session:
 
     is_quick: bool
     settings: Mapping[str, str]
-    log: str
+    log: Path
     now: Callable[[str], None]
 
 

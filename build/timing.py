@@ -7,10 +7,11 @@ import tempfile
 import time
 from collections.abc import Sequence
 from dataclasses import dataclass
+from pathlib import Path
 
 
 # GNU time: a small process that can stand between this one and a program.
-BETWEEN = "/usr/bin/time"
+BETWEEN = Path("/usr/bin/time")
 
 
 @dataclass(frozen=True)
@@ -48,7 +49,7 @@ def resident_size(command: Command, told: int) -> int:
     """The greatest resident size of a command for which the system told this one, in KiB. The size
     that it tells of a process is at least that of the one that started it: so where it isn't
     greater, the command runs once more, for its size alone, if GNU time is there."""
-    if resource.getrusage(resource.RUSAGE_SELF).ru_maxrss < told or not os.path.exists(BETWEEN):
+    if resource.getrusage(resource.RUSAGE_SELF).ru_maxrss < told or not BETWEEN.exists():
         return told
     return size_of(command)
 

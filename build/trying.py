@@ -14,6 +14,7 @@ import tempfile
 import threading
 from collections.abc import Iterator, Sequence
 from dataclasses import dataclass
+from pathlib import Path
 
 from build import kit, logs
 from build.crates import crates_for
@@ -24,8 +25,8 @@ from build.progress import Progress
 
 COMMANDS = ("check", "replay")
 # What is kept: the program, and beside it what it was built from.
-KEPT = os.path.join(LOGS, "tried", "wire_up")
-STAMP = f"{KEPT}.stamp"
+KEPT = LOGS / "tried" / "wire_up"
+STAMP = KEPT.with_name("wire_up.stamp")
 # How often the program is looked for while it is built, and how long it may run, in seconds; how
 # often the kit runs it.
 PAUSE, PATIENCE, CASES = 0.01, 600, 32
@@ -58,21 +59,25 @@ class Tried:
 def try_cases(folder: str) -> int:
     """Builds the program in the current folder without proofs, and runs it for each file of a
     folder. Answers the status."""
-    here = os.getcwd()
-    crate = TriedCrate(here, kit.root_above(here), {})
+    here = Path.cwd()
+    crate = TriedCrate(str(here), kit.root_above(here), {})
     return crate.try_unproved(["--cases", folder], [])
 
 
 def run_cases(
-    folder: str, top: str, room: str | None = None
+    folder: Path, top: Path, room: Path | None = None
 ) -> "subprocess.CompletedProcess[str]":
     """Runs the program of the repository at `top`, without proofs, for each file of a folder; it is
     built in another."""
     # On the disk, since on some systems no program can be run from where files lie in memory.
-    where = {**os.environ, "TMPDIR": room or tempfile.gettempdir(), "PYTHONPATH": TOP}
+    where = {
+        **os.environ,
+        "TMPDIR": str(room or tempfile.gettempdir()),
+        "PYTHONPATH": str(TOP),
+    }
     return subprocess.run(
         [sys.executable, "-m", "build.trying", "--cases", folder],
-        cwd=os.path.join(top, os.path.relpath(PROGRAM, TOP)),
+        cwd=top / PROGRAM.relative_to(TOP),
         env=where,
         stdin=subprocess.DEVNULL,
         capture_output=True,
@@ -82,18 +87,19 @@ def run_cases(
     )
 
 
-def keep_program(room: str, to: str, has_ended: threading.Event) -> None:
+def keep_program(room: Path, to: Path, has_ended: threading.Event) -> None:
     """Keeps the program that the kit builds below a folder, and takes away again."""
+    new = to.with_name(f"{to.name}.new")
     while not has_ended.wait(PAUSE):
-        for path in glob.glob(os.path.join(room, "**", "program"), recursive=True):
+        for path in glob.glob("**/program", root_dir=room, recursive=True):
             with contextlib.suppress(OSError):
-                if not os.path.exists(to) or not os.path.samefile(path, to):
-                    os.link(path, f"{to}.new")
-                    os.replace(f"{to}.new", to)
+                if not to.exists() or not to.samefile(room / path):
+                    new.hardlink_to(room / path)
+                    new.replace(to)
 
 
 @contextlib.contextmanager
-def kept_from(room: str, to: str) -> Iterator[None]:
+def kept_from(room: Path, to: Path) -> Iterator[None]:
     """Keeps the program that is built below a folder within this."""
     has_ended = threading.Event()
     watch = threading.Thread(target=keep_program, args=(room, to, has_ended))
@@ -105,45 +111,42 @@ def kept_from(room: str, to: str) -> Iterator[None]:
         watch.join()
 
 
-def write_cases(room: str) -> None:
+def write_cases(room: Path) -> None:
     """Writes cases that take long enough for the program to be seen."""
-    os.mkdir(room)
+    room.mkdir()
     for number in range(CASES):
-        case = os.path.join(room, f"case{number}")
-        open(case, "wb").close()
-        with open(f"{case}.args", "w", encoding="utf-8") as file:
-            file.write("--version\n")
+        (room / f"case{number}").write_bytes(b"")
+        (room / f"case{number}.args").write_text("--version\n", encoding="utf-8")
 
 
-def stamp_at(top: str) -> str:
+def stamp_at(top: Path) -> str:
     """A sum of all that the program of the repository at `top` is built from."""
     return crates_for("program", top)[-1].stamp()
 
 
-def is_built(top: str) -> bool:
+def is_built(top: Path) -> bool:
     """Whether the program of the repository at `top` is kept."""
-    return os.path.exists(KEPT) and kit.text_of(STAMP) == stamp_at(top)
+    return KEPT.exists() and kit.text_of(STAMP) == stamp_at(top)
 
 
-def build(top: str, log: str) -> bool:
+def build(top: Path, log: Path) -> bool:
     """Builds the program of the repository at `top` without proofs, and keeps it. Answers whether
     that went well."""
     stamp = stamp_at(top)
-    os.makedirs(os.path.dirname(KEPT), exist_ok=True)
-    with tempfile.TemporaryDirectory(prefix="tried-", dir=LOGS) as room:
-        cases, made = (os.path.join(room, word) for word in ("cases", "made"))
+    KEPT.parent.mkdir(parents=True, exist_ok=True)
+    with tempfile.TemporaryDirectory(prefix="tried-", dir=LOGS) as folder:
+        room = Path(folder)
+        cases, made = room / "cases", room / "made"
         write_cases(cases)
         with kept_from(room, made):
             ran = run_cases(cases, top, room)
-        with open(log, "a", encoding="utf-8") as to:
+        with log.open("a", encoding="utf-8") as to:
             to.write(f"$ rt try\n{ran.stdout}{ran.stderr}")
-        if ran.returncode or not os.path.exists(made):
+        if ran.returncode or not made.exists():
             return False
-        with contextlib.suppress(FileNotFoundError):
-            os.remove(STAMP)
-        os.replace(made, KEPT)
-    with open(STAMP, "w", encoding="utf-8") as file:
-        file.write(stamp)
+        STAMP.unlink(missing_ok=True)
+        made.replace(KEPT)
+    STAMP.write_text(stamp, encoding="utf-8")
     return True
 
 
@@ -163,7 +166,7 @@ def answer(command: str, file: str) -> Tried:
     return Tried(wrote, said, ran.returncode)
 
 
-def try_plans(files: Sequence[str], top: str = TOP) -> None:
+def try_plans(files: Sequence[str], top: Path = TOP) -> None:
     """Checks and replays files by a build without proofs of the repository at `top`, and prints
     what comes of it. Where the build fails, the program ends."""
     for file in files:

@@ -1,6 +1,4 @@
 """Has the prover check batches of edits, and single edits, in copies of their crates."""
-import contextlib
-import os
 import re
 import shutil
 import subprocess
@@ -8,6 +6,7 @@ import tempfile
 import time
 from collections.abc import Callable, Iterable, Mapping, Sequence
 from dataclasses import dataclass, replace
+from pathlib import Path
 
 from build import kit
 from build.crates import Crate
@@ -18,7 +17,7 @@ from build.edits.verdicts import Outcome, belongs_to, is_judged, judged
 # A line that tells that the proof of a function was tried to its end.
 TRIED = re.compile(r"checked (\S+), \d+ of \d+$")
 # What became of edits, by their paths.
-Outcomes = dict[str, Outcome]
+Outcomes = dict[Path, Outcome]
 
 
 @dataclass(frozen=True)
@@ -31,20 +30,19 @@ class Checked:
     seconds: dict[tuple[str, ...], float]
 
 
-def copy_with(crate: Crate, texts: Mapping[str, str | None], room: str) -> None:
+def copy_with(crate: Crate, texts: Mapping[str, str | None], room: Path) -> None:
     """Copies a crate to a folder, with these texts in place of its own. A file without a text
     goes."""
     for part in kit.FOLDERS:
-        if os.path.isdir(f"{crate.folder}/{part}"):
-            shutil.copytree(f"{crate.folder}/{part}", f"{room}/{part}")
-    for path, text in texts.items():
-        os.makedirs(os.path.dirname(f"{room}/{path}"), exist_ok=True)
+        if (crate.place / part).is_dir():
+            shutil.copytree(crate.place / part, room / part)
+    for name, text in texts.items():
+        path = room / name
+        path.parent.mkdir(parents=True, exist_ok=True)
         if text is None:
-            with contextlib.suppress(FileNotFoundError):
-                os.remove(f"{room}/{path}")
-            continue
-        with open(f"{room}/{path}", "w", encoding="utf-8") as file:
-            file.write(text)
+            path.unlink(missing_ok=True)
+        else:
+            path.write_text(text, encoding="utf-8")
 
 
 def checked(
@@ -53,7 +51,7 @@ def checked(
     """Checks a copy of a crate with these texts in place of its own, over what a folder keeps where
     it is given, and takes the time of each function."""
     with tempfile.TemporaryDirectory(prefix="wire-up-edits-") as room:
-        copy_with(crate, texts, room)
+        copy_with(crate, texts, Path(room))
         words = [kit.PROVER, "check", *crate.words(flags, keeps=False)]
         words += ["--incremental", kept] if kept else []
         with subprocess.Popen(

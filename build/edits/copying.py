@@ -1,12 +1,12 @@
 """Copies of a function, each for a further edit of it, with its proof files."""
-import os
 import re
 from collections.abc import Mapping, Sequence
+from pathlib import Path
 
 from build import kit
 from build.crates import Crate
 from build.edits.reading import Edit
-from build.edits.sources import Function, attributes_of, is_in_cycle
+from build.edits.sources import Function, attributes_of, files_below, is_in_cycle
 
 # A function by its source file.
 Place = tuple[str, Function]
@@ -41,12 +41,12 @@ def is_cited(crate: Crate, path: str) -> bool:
     of a path, or of a closure in it, by the whole name of its module."""
     *around, own = path.split("::")
     inner = (around, [*around, "fn"])
-    folders = tuple(os.path.join(crate.folder, "proofs", *row, own, "") for row in inner)
+    folders = [crate.place.joinpath("proofs", *row, own) for row in inner]
     modules = [".".join(["proofs", *row, own]) for row in inner]
     cites = re.compile(rf"\.(?:{'|'.join(map(re.escape, modules))})\.")
-    proofs = [file for file in kit.files_of(crate.folder) if file.endswith(".antt")]
-    others = (proof for proof in proofs if not proof.startswith(folders))
-    return any(cites.search(kit.text_of(text)) for text in others)
+    proofs = [file for file in kit.files_of(crate.place) if file.suffix == ".antt"]
+    others = (proof for proof in proofs if not any(map(proof.is_relative_to, folders)))
+    return any(cites.search(kit.text_of(proof)) for proof in others)
 
 
 def copied_as_they_are(by_function: Mapping[Place, Sequence[Edit]]) -> list[Place]:
@@ -63,15 +63,10 @@ def proofs_of_copy(crate: Crate, path: str, name: str) -> dict[str, str]:
     *around, own = path.split("::")
     found = {}
     for inner in (around, [*around, "fn"]):
-        folder = os.path.join(crate.folder, "proofs", *inner, own)
+        folder = crate.place.joinpath("proofs", *inner, own)
         module = re.compile(rf"(?<=\.proofs\.){re.escape('.'.join([*inner, own]))}(?=\.)")
         to = ".".join([*inner, name])
         for file in files_below(folder):
-            place = os.path.join("proofs", *inner, name, os.path.relpath(file, folder))
-            found[place] = module.sub(to, kit.text_of(file))
+            place = Path("proofs", *inner, name) / file.relative_to(folder)
+            found[str(place)] = module.sub(to, kit.text_of(file))
     return found
-
-
-def files_below(folder: str) -> list[str]:
-    """The paths of the files below a folder."""
-    return [os.path.join(at, file) for at, _, files in os.walk(folder) for file in files]

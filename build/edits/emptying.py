@@ -1,14 +1,15 @@
 """Takes away the bodies of the functions of a crate that have no edit in a batch."""
-import os
 import re
 from collections.abc import Collection
 from dataclasses import dataclass
+from pathlib import Path
 
 from build.crates import Crate
 from build.edits.sources import (
     Function,
     attributes_of,
     brace_of,
+    files_below,
     functions_of,
     is_in_cycle,
     module_of,
@@ -62,15 +63,12 @@ def without_body(text: str, function: Function) -> str:
 def proofs_when_emptied(crate: Crate, path: str) -> dict[str, str | None]:
     """The proof files of a function that is emptied, and those of its closures, which go."""
     *around, own = path.split("::")
-    folder = os.path.join("proofs", *around, own)
-    closures = os.path.join(crate.folder, "proofs", *around, "fn", own)
-    found: dict[str, str | None] = {os.path.join(folder, proof): None for proof in OWN_PROOFS}
-    for at, _, files in os.walk(closures):
-        found.update(
-            (os.path.relpath(os.path.join(at, file), crate.folder), None) for file in files
-        )
+    folder = Path("proofs", *around, own)
+    closures = crate.place.joinpath("proofs", *around, "fn", own)
+    found: dict[str, str | None] = {str(folder / proof): None for proof in OWN_PROOFS}
+    found.update((str(file.relative_to(crate.place)), None) for file in files_below(closures))
     text = EMPTIED.format(crate=crate.name, path=path.replace("::", "."))
-    return {**found, os.path.join(folder, "Answers.antt"): text}
+    return {**found, str(folder / "Answers.antt"): text}
 
 
 def functions_to_empty(

@@ -3,13 +3,14 @@ import os
 import sys
 from collections.abc import Sequence
 from dataclasses import dataclass
+from pathlib import Path
 
 from build import kit
 from build.crates import Crate
 from build.edits.sources import Function, functions_of, source_of
 
 # An edit by its crate and its path.
-EditFile = tuple[Crate, str]
+EditFile = tuple[Crate, Path]
 
 
 @dataclass(frozen=True)
@@ -17,7 +18,7 @@ class Edit:
     """An edit that can be applied."""
 
     crate: Crate
-    path: str
+    path: Path
     # The texts of the files that it changes, by their paths in the crate.
     texts: dict[str, str]
     # If it changes one body alone: its source file, that file's text, and its function.
@@ -38,9 +39,9 @@ class Edit:
         return new[function.begin:len(new) - (len(self.was) - function.end)]
 
 
-def label_of(crate: Crate, path: str) -> str:
+def label_of(crate: Crate, path: Path) -> str:
     """The words by which an edit is named in what is printed."""
-    return f"must-fail {crate.name}/{os.path.basename(path)}"
+    return f"must-fail {crate.name}/{path.name}"
 
 
 def changed_part(old: str, new: str) -> tuple[int, int]:
@@ -50,7 +51,7 @@ def changed_part(old: str, new: str) -> tuple[int, int]:
     return begin, len(old) - same
 
 
-def read(crate: Crate, path: str) -> tuple[Edit | None, str | None]:
+def read(crate: Crate, path: Path) -> tuple[Edit | None, str | None]:
     """The edit of a file, or why it can't be applied."""
     texts, why = kit.read_edit(path, crate.folder)
     if why or not texts:
@@ -72,11 +73,10 @@ def read(crate: Crate, path: str) -> tuple[Edit | None, str | None]:
     return Edit(crate, path, texts, file, was, function), None
 
 
-def paths_of(crate: Crate) -> list[str]:
+def paths_of(crate: Crate) -> list[Path]:
     """The paths of the edits of a crate."""
-    folder = os.path.join(crate.folder, "edits")
-    names = sorted(os.listdir(folder)) if os.path.isdir(folder) else []
-    return [os.path.join(folder, name) for name in names]
+    folder = crate.place / "edits"
+    return sorted(folder.iterdir()) if folder.is_dir() else []
 
 
 def edits_of(crates: Sequence[Crate]) -> list[EditFile]:
@@ -89,10 +89,10 @@ def asked_for(words: Sequence[str], crates: Sequence[Crate]) -> list[EditFile]:
     words."""
     files, found = edits_of(crates), list[EditFile]()
     for word in words:
-        is_file = os.path.exists(word)
+        is_file = Path(word).exists()
         these = []
         for crate, path in files:
-            if crate.name == word or (is_file and os.path.samefile(path, word)):
+            if crate.name == word or (is_file and path.samefile(word)):
                 these.append((crate, path))
         if not these:
             sys.exit(f"{word}: no edit and no crate with edits")
@@ -103,5 +103,5 @@ def asked_for(words: Sequence[str], crates: Sequence[Crate]) -> list[EditFile]:
 def not_applied(files: Sequence[EditFile]) -> list[str]:
     """A line for each edit that can't be applied, with why."""
     tried = [(path, read(crate, path)[1]) for crate, path in files]
-    found = [f"{path.rpartition('crates/')[2]}: BAD EDIT: {why}" for path, why in tried if why]
+    found = [f"{str(path).rpartition('crates/')[2]}: BAD EDIT: {why}" for path, why in tried if why]
     return found or ["there is no edit"] * (not files)

@@ -2,9 +2,9 @@
 them."""
 import functools
 import itertools
-import os
 import re
 from dataclasses import dataclass
+from pathlib import Path
 
 from build import kit
 from build.crates import Crate
@@ -91,13 +91,18 @@ def module_of(file: str) -> list[str]:
 
 def source_files(crate: Crate) -> list[str]:
     """The source files of a crate, by their paths in it."""
-    files = [os.path.relpath(file, crate.folder) for file in kit.files_of(crate.folder)]
+    files = [str(file.relative_to(crate.place)) for file in kit.files_of(crate.place)]
     return [file for file in files if file.startswith("src/") and file.endswith(".rt")]
+
+
+def files_below(folder: Path) -> list[Path]:
+    """The paths of the files below a folder."""
+    return [path for path in folder.rglob("*") if path.is_file()]
 
 
 def source_of(crate: Crate, file: str) -> str:
     """The text of a source file of a crate."""
-    return kit.text_of(os.path.join(crate.folder, file))
+    return kit.text_of(crate.place / file)
 
 
 @functools.cache

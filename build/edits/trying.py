@@ -3,6 +3,7 @@ import functools
 import itertools
 from collections import defaultdict
 from collections.abc import Callable, Iterable, Mapping, Sequence
+from pathlib import Path
 from typing import TypeVar
 
 from build import kit, lanes
@@ -96,9 +97,5 @@ def try_one_by_one(edits: Sequence[Edit], tell: Tell) -> Outcomes:
         tell(f"{next(count)} of {total} that are tried alone")
         return outcome
 
-    return side_by_side(
-        {
-            each_edit.path: (each_edit.crate, functools.partial(try_next, each_edit))
-            for each_edit in edits
-        }
-    )
+    work = {str(edit.path): (edit.crate, functools.partial(try_next, edit)) for edit in edits}
+    return {Path(path): outcome for path, outcome in side_by_side(work).items()}

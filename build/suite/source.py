@@ -1,17 +1,17 @@
 """MPICH's test suite: Debian's source package is fetched, and configured for the MPI here."""
-import glob
 import os
 import re
 import subprocess
 from collections.abc import Iterator, Mapping, Sequence
 from dataclasses import dataclass
+from pathlib import Path
 
 PACKAGE = "mpich"
 # Where Debian's archive is, and the keys by which apt knows it.
 MIRROR = os.environ.get("DEBIAN_MIRROR", "http://deb.debian.org/debian")
 KEYS = "/usr/share/keyrings/debian-archive-keyring.gpg"
 # The suite's own folder in the source package.
-SUITE = os.path.join("test", "mpi")
+SUITE = Path("test", "mpi")
 # What GNU Fortran must be told: one routine of MPI takes buffers of many types. And what Open MPI's
 # header must be told, to declare functions that its library has, though MPI 3 has them no more.
 FORTRAN = "-fallow-argument-mismatch"
@@ -69,10 +69,10 @@ class SuiteProgram:
         return f"{self.part}/{self.name}{words} on {self.processes}"
 
 
-def call(words: Sequence[str], folder: str, log: str) -> None:
+def call(words: Sequence[str], folder: Path, log: Path) -> None:
     """Runs a command in a folder, with a log. Raises NoSuite if it fails."""
     try:
-        with open(log, "ab") as to:
+        with log.open("ab") as to:
             ran = subprocess.run(words, cwd=folder, stdout=to, stderr=to, check=False)
     except OSError as why:
         raise NoSuite(f"{words[0]}: {why.strerror}") from None
@@ -82,24 +82,24 @@ def call(words: Sequence[str], folder: str, log: str) -> None:
 
 def find_release() -> str:
     """The name of Debian's release on this machine. Raises NoSuite."""
-    with open("/etc/os-release", encoding="utf-8") as file:
-        found = re.search(r"^VERSION_CODENAME=(\w+)$", file.read(), re.M)
+    said = Path("/etc/os-release").read_text(encoding="utf-8")
+    found = re.search(r"^VERSION_CODENAME=(\w+)$", said, re.M)
     if not found:
         raise NoSuite("/etc/os-release names no release of Debian")
     return found[1]
 
 
-def fetch(room: str) -> str:
+def fetch(room: Path) -> Path:
     """The folder of the unpacked source package, fetched by apt with lists of its own if it isn't
     there. Raises NoSuite."""
-    folder, log = os.path.join(room, "source"), os.path.join(room, "fetch.log")
-    if os.path.isdir(folder):
+    folder, log = room / "source", room / "fetch.log"
+    if folder.is_dir():
         return folder
-    lists = os.path.join(room, "apt")
-    os.makedirs(os.path.join(lists, "partial"), exist_ok=True)
-    sources = os.path.join(room, "sources.list")
-    with open(sources, "w", encoding="utf-8") as to:
-        to.write(f"deb-src [signed-by={KEYS}] {MIRROR} {find_release()} main\n")
+    lists = room / "apt"
+    (lists / "partial").mkdir(parents=True, exist_ok=True)
+    sources = room / "sources.list"
+    line = f"deb-src [signed-by={KEYS}] {MIRROR} {find_release()} main\n"
+    sources.write_text(line, encoding="utf-8")
     settings = (
         ("Dir::Etc::SourceList", sources),
         ("Dir::Etc::SourceParts", "/dev/null"),
@@ -108,46 +108,42 @@ def fetch(room: str) -> str:
     apt = ["apt-get", "-q", *(f"-o{name}={value}" for name, value in settings)]
     call([*apt, "update"], room, log)
     call([*apt, "source", "--download-only", PACKAGE], room, log)
-    described = glob.glob(os.path.join(room, f"{PACKAGE}_*.dsc"))
+    described = map(str, room.glob(f"{PACKAGE}_*.dsc"))
     call(["dpkg-source", "-x", *described, "unpacked"], room, log)
-    rename_in(os.path.join(room, "unpacked", SUITE))
-    os.rename(os.path.join(room, "unpacked"), folder)
+    rename_in(room / "unpacked" / SUITE)
+    (room / "unpacked").rename(folder)
     return folder
 
 
-def rename_in(suite: str) -> None:
+def rename_in(suite: Path) -> None:
     """Writes the names that Open MPI's binding of C++ has into the suite."""
-    for name in IN_FILES:
-        path = os.path.join(suite, name)
-        with open(path, encoding="utf-8") as file:
-            text = file.read()
+    for path in (suite / name for name in IN_FILES):
+        text = path.read_text(encoding="utf-8")
         for old, new in OTHER_NAMES.items():
             text = text.replace(old, new)
-        with open(path, "w", encoding="utf-8") as to:
-            to.write(text)
+        path.write_text(text, encoding="utf-8")
 
 
-def configure(room: str, source: str) -> str:
+def configure(room: Path, source: Path) -> Path:
     """The folder in which the suite is configured; it is, if it wasn't. Raises NoSuite."""
-    folder = os.path.join(room, "built")
-    if os.path.exists(os.path.join(folder, "ready")):
+    folder = room / "built"
+    if (folder / "ready").exists():
         return folder
-    os.makedirs(folder, exist_ok=True)
-    script = os.path.join(source, SUITE, "configure")
+    folder.mkdir(parents=True, exist_ok=True)
+    script = str(source / SUITE / "configure")
     settings = [f"{name}={value}" for name, value in COMPILERS.items()]
     options = ("--with-mpi=/usr", "--enable-fortran=all")
-    call([script, *options, *settings], folder, os.path.join(room, "configure.log"))
-    with open(os.path.join(folder, "ready"), "w", encoding="utf-8"):
-        pass
+    call([script, *options, *settings], folder, room / "configure.log")
+    (folder / "ready").write_bytes(b"")
     return folder
 
 
-def build(built: str, program: SuiteProgram, log: str) -> bool:
+def build(built: Path, program: SuiteProgram, log: Path) -> bool:
     """Compiles a program. Answers whether that went well."""
-    with open(log, "ab") as to:
+    with log.open("ab") as to:
         ran = subprocess.run(
             ["make", "-s", program.name],
-            cwd=os.path.join(built, program.part),
+            cwd=built / program.part,
             stdout=to,
             stderr=to,
             check=False,
@@ -155,12 +151,11 @@ def build(built: str, program: SuiteProgram, log: str) -> bool:
     return not ran.returncode
 
 
-def build_common(built: str, room: str) -> None:
+def build_common(built: Path, room: Path) -> None:
     """Compiles what programs share, as far as that goes: not all of it needs what this MPI has."""
-    with open(os.path.join(room, "build.log"), "ab") as to:
+    with open(room / "build.log", "ab") as to:
         for part in ("dtpools", "util"):
-            folder = os.path.join(built, part)
-            subprocess.run(["make", "-sk"], cwd=folder, stdout=to, stderr=to, check=False)
+            subprocess.run(["make", "-sk"], cwd=built / part, stdout=to, stderr=to, check=False)
 
 
 def read_list(part: str, text: str) -> Iterator[SuiteProgram]:
@@ -180,35 +175,33 @@ def read_list(part: str, text: str) -> Iterator[SuiteProgram]:
         yield SuiteProgram(part, name, int(more[0]), words, variables)
 
 
-def calls_pmix(program: SuiteProgram, built: str, source: str) -> bool:
+def calls_pmix(program: SuiteProgram, built: Path, source: Path) -> bool:
     """Whether the source of a program shows that it calls PMIx, or has MPI call it for names or
     other jobs."""
-    for top in (built, os.path.join(source, SUITE)):
+    for top in (built, source / SUITE):
         for end in SOURCES:
-            path = os.path.join(top, program.part, f"{program.name}{end}")
-            if os.path.isfile(path):
-                with open(path, "rb") as text:
-                    return CALLING.search(text.read()) is not None
+            path = top / program.part / f"{program.name}{end}"
+            if path.is_file():
+                return CALLING.search(path.read_bytes()) is not None
     return False
 
 
-def find_parts(built: str, source: str) -> dict[str, str]:
+def find_parts(built: Path, source: Path) -> dict[str, Path]:
     """The parts of the suite that are configured, each with its list: that of the build where
     there is one, else that of the source."""
     found = {}
-    for folder, inner, files in sorted(os.walk(built)):
-        part = os.path.relpath(folder, built)
-        if part == "." or part.split(os.sep)[0] in NOT_PARTS or "Makefile" not in files:
+    for folder, _, files in sorted(os.walk(built)):
+        part = Path(folder).relative_to(built)
+        if part == Path() or part.parts[0] in NOT_PARTS or "Makefile" not in files:
             continue
-        for top in (built, os.path.join(source, SUITE)):
-            path = os.path.join(top, part, LIST)
-            if os.path.isfile(path):
-                found[part] = path
-                break
+        lists = (top / part / LIST for top in (built, source / SUITE))
+        path = next((path for path in lists if path.is_file()), None)
+        if path:
+            found[str(part)] = path
     return found
 
 
-def find_programs(built: str, source: str, parts: Sequence[str]) -> list[SuiteProgram]:
+def find_programs(built: Path, source: Path, parts: Sequence[str]) -> list[SuiteProgram]:
     """The programs of some parts, or of all if none is named. Raises NoSuite for a part that isn't
     there."""
     known = find_parts(built, source)
@@ -222,12 +215,8 @@ def find_programs(built: str, source: str, parts: Sequence[str]) -> list[SuitePr
         raise NoSuite(f"there is no part {', '.join(lacking)}: the parts are {', '.join(known)}")
     found: list[SuiteProgram] = []
     for part in wanted:
-        here = os.path.join(built, part)
-        with open(known[part], encoding="utf-8") as file:
-            listed = [*read_list(part, file.read())]
-        found += [
-            program for program in listed if not os.path.isdir(os.path.join(here, program.name))
-        ]
+        listed = read_list(part, known[part].read_text(encoding="utf-8"))
+        found += [program for program in listed if not (built / part / program.name).is_dir()]
     return found
 
 

@@ -9,6 +9,7 @@ import tempfile
 import time
 from collections.abc import Mapping, Sequence
 from dataclasses import dataclass
+from pathlib import Path
 
 from build.places import TOP
 from build.suite.source import SuiteProgram
@@ -21,7 +22,7 @@ SETTINGS = {
     "OMPI_MCA_mpi_yield_when_idle": "1",
     "OMPI_MCA_rmaps_base_oversubscribe": "1",
 }
-RECORDER = os.path.join(TOP, "wire_up-record")
+RECORDER = TOP / "wire_up-record"
 # How often both runs are made where they end in different ways: some programs are unsteady.
 TRIES = 3
 # How long a program is waited for once it was told to end, in seconds.
@@ -64,7 +65,7 @@ def sort_lines(text: str) -> Sequence[str]:
     return sorted(NUMBER.sub("N", line) for line in text.splitlines() if line.strip())
 
 
-def run(words: Sequence[str], folder: str, more: Mapping[str, str], patience: float) -> Ran:
+def run(words: Sequence[str], folder: Path, more: Mapping[str, str], patience: float) -> Ran:
     """Runs a command, and ends it when it takes too long."""
     began = time.monotonic()
     with subprocess.Popen(
@@ -140,15 +141,15 @@ class Bench:
     """Where and how programs are tried: the folder in which the suite is built, the checker, and
     how long a program may take without the recorder, in seconds."""
 
-    built: str
+    built: Path
     checker: str
     patience: float
 
     def start(self, program: SuiteProgram) -> list[str]:
         """The words that start a program."""
-        path = os.path.join(self.built, program.part, program.name)
+        path = self.built / program.part / program.name
         launcher = ["mpirun", "--oversubscribe", "-n", str(program.processes)]
-        return [*launcher, path, *program.words]
+        return [*launcher, str(path), *program.words]
 
     def ask(self, *words: str) -> "subprocess.CompletedProcess[str]":
         """Runs the checker."""
@@ -158,10 +159,10 @@ class Bench:
 
     def try_program(self, program: SuiteProgram) -> Outcome:
         """Runs a program both ways, and judges its plan."""
-        folder = os.path.join(self.built, program.part)
+        folder = self.built / program.part
         with tempfile.TemporaryDirectory(prefix="wire-up-suite-") as room:
-            plan, answers = os.path.join(room, "plan"), os.path.join(room, "answers")
-            recorder = [sys.executable, RECORDER, "-o", plan, "--answers", answers]
+            plan, answers = Path(room, "plan"), Path(room, "answers")
+            recorder = [sys.executable, str(RECORDER), "-o", str(plan), "--answers", str(answers)]
             recorder += ["--checker", self.checker]
             differs = ""
             for _ in range(TRIES):
@@ -173,28 +174,27 @@ class Bench:
                 differs = why_different(plain, ran)
                 if not differs:
                     break
-            if not os.path.exists(plan):
+            if not plan.exists():
                 why = (OWN_LINE.findall(ran.said) or ["nothing was said"])[-1]
                 return Outcome(program, no_plan=why, differs=differs, seconds=ran.seconds)
-            return self.judge(program, ran, differs, room)
+            return self.judge(program, ran, differs, Path(room))
 
     def turn_program(self, program: SuiteProgram) -> Outcome:
         """Runs a program, and turns each order of its plan round."""
-        folder = os.path.join(self.built, program.part)
+        folder = self.built / program.part
         with tempfile.TemporaryDirectory(prefix="wire-up-suite-") as room:
-            plan, shown = os.path.join(room, "plan"), os.path.join(room, "shown")
-            words = [sys.executable, RECORDER, "-o", plan, "--checker", self.checker, "--turn"]
-            words += ["--most", MOST_TURNED, "--shown", shown, *self.start(program)]
+            plan, shown = Path(room, "plan"), Path(room, "shown")
+            words = [sys.executable, str(RECORDER), "-o", str(plan), "--checker", self.checker]
+            words += ["--turn", "--most", MOST_TURNED, "--shown", str(shown), *self.start(program)]
             patience = TURNED_TIMES * self.patience
             ran = run(words, folder, program.variables, patience)
             if ran.status is None:
                 return Outcome(program, f"takes longer than {patience:.0f} s")
-            if not os.path.exists(shown):
+            if not shown.exists():
                 why = (OWN_LINE.findall(ran.said) or ["nothing was said"])[-1]
                 return Outcome(program, no_plan=why, seconds=ran.seconds)
-            found = FINDINGS.search(self.ask("check", plan).stdout)
-            with open(shown, encoding="utf-8") as text:
-                turns = json.load(text)["turned"]
+            found = FINDINGS.search(self.ask("check", str(plan)).stdout)
+            turns = json.loads(shown.read_text(encoding="utf-8"))["turned"]
         others = [f"{one['word']} {one['pair']}" for one in turns if one["word"] != KEPT]
         return Outcome(
             program,
@@ -205,12 +205,12 @@ class Bench:
             turned="; ".join(others),
         )
 
-    def judge(self, program: SuiteProgram, ran: Ran, differs: str, room: str) -> Outcome:
+    def judge(self, program: SuiteProgram, ran: Ran, differs: str, room: Path) -> Outcome:
         """Judges a plan: its findings, and its replay beside how the calls ended."""
-        plan, answers = os.path.join(room, "plan"), os.path.join(room, "answers")
-        with open(plan, encoding="utf-8") as text:
+        plan, answers = room / "plan", room / "answers"
+        with plan.open(encoding="utf-8") as text:
             is_large = any(line.startswith("# Larger than") for line in text)
-        words = ["--large", plan] if is_large else [plan]
+        words = ["--large", str(plan)] if is_large else [str(plan)]
         checked = self.ask("check", *words)
         found = FINDINGS.search(checked.stdout)
         count = int(found[1]) if found else None
@@ -227,11 +227,10 @@ class Bench:
             seconds=ran.seconds,
         )
 
-    def why_other_replay(self, words: Sequence[str], answers: str) -> str:
+    def why_other_replay(self, words: Sequence[str], answers: Path) -> str:
         """Where the replay of a plan and the real ends of its calls differ; empty if nowhere."""
         ran = self.ask("replay", *words)
-        with open(answers, encoding="utf-8") as file:
-            real = file.read().splitlines()
+        real = answers.read_text(encoding="utf-8").splitlines()
         replayed = ran.stdout.splitlines()
         if ran.returncode or len(real) != len(replayed):
             return f"replay ended with {ran.returncode}, {len(replayed)} lines of {len(real)}"

@@ -9,6 +9,7 @@ import tempfile
 import time
 import unittest
 from collections.abc import Mapping
+from pathlib import Path
 from typing import Any
 from unittest import mock
 
@@ -173,7 +174,7 @@ class Run(BuildCase):
         for text in "what the proofs said\n", "":
             with open(log, "a", encoding="utf-8") as file:
                 file.write(text)
-            run.note_time(log, 90)
+            run.note_time(Path(log), 90)
         said, *times = read(log).splitlines()
         self.assertEqual(("what the proofs said", 2), (said, len(times)))
         for line in times:

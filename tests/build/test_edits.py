@@ -1,7 +1,7 @@
 """How edits are tried, without the prover: how what it says is read, and which texts it gets."""
-import os
 import tempfile
 import unittest
+from pathlib import Path
 
 from build.crates import Crate, crates_at
 from build.edits import verdicts
@@ -163,11 +163,11 @@ class TinyCase(unittest.TestCase):
         self.addCleanup(folder.cleanup)
         self.top = folder.name
         make(self.top, EDITS)
-        self.crate = crates_at(self.top, Crate)[0]
+        self.crate = crates_at(Path(self.top), Crate)[0]
 
     def edit(self, name: str) -> Edit:
         """An edit that can be applied."""
-        edit, why = read(self.crate, os.path.join(self.crate.folder, "edits", f"{name}.edit"))
+        edit, why = read(self.crate, self.crate.place / "edits" / f"{name}.edit")
         if edit is None:
             self.fail(why)
         return edit
@@ -175,7 +175,7 @@ class TinyCase(unittest.TestCase):
     def placed(self, path: str, first: int = 0, last: int = 0) -> Placed:
         """An edit of a function `most`, in the place of the function of a path."""
         most = Function("most", 0, 0, 0)
-        edit = Edit(self.crate, "most.edit", {}, "src/lib.rt", "", most)
+        edit = Edit(self.crate, Path("most.edit"), {}, "src/lib.rt", "", most)
         return Placed(edit, path, first, last)
 
 
@@ -249,7 +249,7 @@ class OurEdits(unittest.TestCase):
     """The edits of the repository."""
 
     def test_each_can_be_applied(self) -> None:
-        self.assertEqual([], not_applied(asked_for([], crates_at(support.TOP, Crate))))
+        self.assertEqual([], not_applied(asked_for([], crates_at(Path(support.TOP), Crate))))
 
 
 if __name__ == "__main__":

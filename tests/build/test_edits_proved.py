@@ -1,8 +1,8 @@
 """How edits are tried by the prover: a small crate with wrong bodies of each sort, and what must
 become of each."""
-import os
 import tempfile
 import unittest
+from pathlib import Path
 
 from build.crates import Crate, crates_at
 from build.edits.reading import asked_for
@@ -20,8 +20,8 @@ class ProvedEdits(unittest.TestCase):
         """Fails where an edit is judged in another way than it must be."""
         with tempfile.TemporaryDirectory(prefix="wire-up-") as top:
             make(top, edits)
-            found = try_all(asked_for([], crates_at(top, Crate)))
-        told = {os.path.basename(path): outcome for path, outcome in found.items()}
+            found = try_all(asked_for([], crates_at(Path(top), Crate)))
+        told = {path.name: outcome for path, outcome in found.items()}
         for name, wanted in edits.items():
             with self.subTest(name):
                 outcome = told[f"{name}.edit"]

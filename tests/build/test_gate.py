@@ -6,6 +6,7 @@ import subprocess
 import sys
 import tempfile
 import unittest
+from pathlib import Path
 from unittest import mock
 
 from build import ci, plain_tests, test_runs
@@ -85,7 +86,7 @@ class TestRuns(unittest.TestCase):
         """The counts by unittest, and what is printed."""
         path, said = self.write_tests(text), io.StringIO()
         with contextlib.redirect_stdout(said), mock.patch.object(sys, "stdout", said):
-            counts = plain_tests.run_file(path, (), os.path.dirname(path))
+            counts = plain_tests.run_file(path, (), Path(path).parent)
         return counts, said.getvalue()
 
     def test_unittest(self) -> None:
@@ -194,7 +195,7 @@ class RtCi(unittest.TestCase):
             log.write("== low\nof low\nrt: low proved\n== high\nof high\nstatements 3\n")
             log.write("rt: high NOT PROVED\nthe end\n")
             log.flush()
-            told = ci.reasons(log.name)
+            told = ci.reasons(Path(log.name))
         self.assertEqual("of high\nrt: high NOT PROVED\nthe end\n", told)
 
 

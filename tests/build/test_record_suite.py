@@ -1,6 +1,7 @@
 """Tests what `make record-suite` reads and says, without the suite itself."""
 import tempfile
 import unittest
+from pathlib import Path
 
 from build.record_suite import Tried, count_row, make_table, tell
 from build.suite.source import SuiteProgram, read_list
@@ -77,8 +78,8 @@ class SuiteTest(unittest.TestCase):
     def test_what_is_kept(self) -> None:
         with tempfile.TemporaryDirectory(prefix="wire-up-") as room:
             kept = Outcome(PROGRAM, findings=1, seconds=2.0)
-            Tried(room).keep(kept)
-            self.assertEqual(Tried(room).found, {PROGRAM.title: kept})
+            Tried(Path(room)).keep(kept)
+            self.assertEqual(Tried(Path(room)).found, {PROGRAM.title: kept})
 
 
 if __name__ == "__main__":

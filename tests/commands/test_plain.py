@@ -54,7 +54,7 @@ class Plain(ProgramCase):
         path, why = build_plain()
         if not path:
             raise unittest.SkipTest(f"the unproved program isn't built: {why}")
-        cls.plain = path
+        cls.plain = str(path)
 
     def ends_of(self, words: list[str], plan: bytes) -> list[Ended]:
         """How a command of both programs ends for a plan."""

@@ -13,6 +13,7 @@ import os
 import re
 import tempfile
 import unittest
+from pathlib import Path
 
 from build.trying import run_cases
 from tests import support
@@ -70,7 +71,7 @@ class TriedTables(unittest.TestCase):
                 words = "".join(f"{word}\n" for word in run.words)
                 written(room, f"run{number}.args", words.encode())
                 written(room, f"run{number}.stdout", run.ended.wrote)
-            ran = run_cases(room, support.TOP)
+            ran = run_cases(Path(room), Path(support.TOP))
         ends = {hit[1]: hit for hit in CASE.finditer(ran.stdout + ran.stderr)}
         self.assertTrue(ends, f"{ran.stdout}{ran.stderr}")
         for number, (name, run) in enumerate(runs.items()):

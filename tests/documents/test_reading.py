@@ -1,8 +1,8 @@
 """Holds docs/guarantees.md to the table of what is to be read, and tests how names are resolved."""
 import glob
-import os
 import tempfile
 import unittest
+from pathlib import Path
 from unittest import mock
 
 from build import definitions, reading
@@ -68,12 +68,10 @@ class ResolvingTest(unittest.TestCase):
     """What definitions rest on, in crates that were made up."""
 
     def setUp(self) -> None:
-        room = self.enterContext(tempfile.TemporaryDirectory())
+        room = Path(self.enterContext(tempfile.TemporaryDirectory()))
         for path, text in FILES.items():
-            place = os.path.join(room, path)
-            os.makedirs(os.path.dirname(place), exist_ok=True)
-            with open(place, "w", encoding="utf-8") as file:
-                file.write(text)
+            (room / path).parent.mkdir(parents=True, exist_ok=True)
+            (room / path).write_text(text, encoding="utf-8")
         self.enterContext(mock.patch.object(definitions, "CRATES", room))
         self.forget()
         self.addCleanup(self.forget)
@@ -115,20 +113,19 @@ class RepositoryTest(unittest.TestCase):
 
     def test_table(self) -> None:
         """The document has the table that the program would write there."""
-        with open(reading.STATEMENTS, encoding="utf-8") as file:
-            self.assertIn(f"\n{reading.table()}\n", file.read())
+        said = reading.STATEMENTS.read_text(encoding="utf-8")
+        self.assertIn(f"\n{reading.table()}\n", said)
 
     def test_written(self) -> None:
         """It writes the table where another stands."""
-        with open(reading.STATEMENTS, encoding="utf-8") as file:
-            text = file.read()
-        with tempfile.NamedTemporaryFile("w+", encoding="utf-8") as to:
-            to.write(text.replace(reading.table().splitlines(True)[2], "| old | 1 |\n"))
-            to.flush()
-            with mock.patch.object(reading, "STATEMENTS", to.name):
+        text = reading.STATEMENTS.read_text(encoding="utf-8")
+        other = text.replace(reading.table().splitlines(True)[2], "| old | 1 |\n")
+        with tempfile.TemporaryDirectory() as room:
+            to = Path(room, "guarantees.md")
+            to.write_text(other, encoding="utf-8")
+            with mock.patch.object(reading, "STATEMENTS", to):
                 reading.write_table()
-            with open(to.name, encoding="utf-8") as each_file:
-                self.assertEqual(each_file.read(), text)
+            self.assertEqual(to.read_text(encoding="utf-8"), text)
 
     def test_contracts(self) -> None:
         """Each statement but the fifth names a contract, with clauses that are there."""
@@ -151,7 +148,7 @@ class RepositoryTest(unittest.TestCase):
         paths = glob.glob("*/specs/**/*.antt", root_dir=CRATES, recursive=True)
         for path in sorted(paths):
             for word, (module, name) in definitions.file_at(path).taken.items():
-                is_ours = os.path.isdir(os.path.join(CRATES, module.partition(".")[0]))
+                is_ours = (CRATES / module.partition(".")[0]).is_dir()
                 if is_ours and name and ".contracts." not in module:
                     with self.subTest(path, word=word):
                         self.assertTrue(definitions.named(path, word))

@@ -7,6 +7,7 @@ import re
 import shutil
 import subprocess
 import unittest
+from pathlib import Path
 
 from build import crate_list
 from tests.support import TOP
@@ -28,7 +29,7 @@ def find_kit() -> str:
 
 def list_direct() -> set[str]:
     """The libraries of the kit that the program's crates name."""
-    uses = crate_list.uses_at(TOP)
+    uses = crate_list.uses_at(Path(TOP))
     crates = crate_list.names_below("program")
     return {text for crate in crates for text in uses[crate] if text not in uses}
 

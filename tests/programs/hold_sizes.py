@@ -26,6 +26,7 @@ import tempfile
 import threading
 from collections.abc import Iterator, Sequence
 from concurrent.futures import ThreadPoolExecutor
+from pathlib import Path
 from typing import Any, NamedTuple
 
 from build.suite.source import SuiteProgram, build_common, configure, fetch, find_programs
@@ -151,12 +152,12 @@ def list_suite(room: str) -> Iterator[Case]:
 
 def list_built(room: str) -> Iterator[Case]:
     """The programs of MPICH's suite that are built."""
-    built = os.path.join(room, "built")
+    built = Path(room, "built")
     programs: dict[tuple[str, str], SuiteProgram] = {}
-    for program in find_programs(built, os.path.join(room, "source"), PARTS):
+    for program in find_programs(built, Path(room, "source"), PARTS):
         programs.setdefault((program.part, program.name), program)
     for program in programs.values():
-        folder = os.path.join(built, program.part)
+        folder = str(built / program.part)
         path = os.path.join(folder, program.name)
         if os.access(path, os.X_OK):
             settings = [f"{name}={value}" for name, value in program.variables.items()]
@@ -175,14 +176,14 @@ def build(folder: str) -> None:
         subprocess.run([compiler, "-g", "-o", path, *words, *of_pmix], check=True)
 
 
-def build_suite(room: str) -> None:
+def build_suite(room: Path) -> None:
     """Builds the programs of MPICH's suite in a folder, those that can be."""
-    os.makedirs(room, exist_ok=True)
+    room.mkdir(parents=True, exist_ok=True)
     source = fetch(room)
     built = configure(room, source)
     build_common(built, room)
     for program in find_programs(built, source, PARTS):
-        build_of_suite(built, program, os.path.join(room, "build.log"))
+        build_of_suite(built, program, room / "build.log")
 
 
 def launch(nodes: int, room: str) -> Sequence[str]:
@@ -312,7 +313,7 @@ def main() -> int:
     with tempfile.TemporaryDirectory(prefix="wire-up-") as folder:
         build(folder)
         if words.suite:
-            build_suite(words.suite)
+            build_suite(Path(words.suite))
         module = "tests.programs.hold_sizes"
         again = [sys.executable, "-m", module, *sys.argv[1:], "--built", folder]
         if words.nodes > 1:

@@ -6,6 +6,7 @@ import os
 import tempfile
 import unittest
 from collections.abc import Callable, Collection, Sequence
+from pathlib import Path
 from typing import NamedTuple
 
 from build import proving, records
@@ -153,7 +154,7 @@ class BuildCase(unittest.TestCase):
         self.write_list("app: high\n")
 
     def crates(self, prover: Prover) -> list[Crate]:
-        return crates_at(self.top, prover.crate_type())
+        return crates_at(Path(self.top), prover.crate_type())
 
     def crate(self, name: str, prover: Prover) -> Crate:
         return next(each_crate for each_crate in self.crates(prover) if each_crate.name == name)
