@@ -179,7 +179,7 @@ def average_place(spot: Spot, places: Mapping[int, int], beside: Sequence[Spot])
     return sum(known) / len(known) if known else places[id(spot)]
 
 
-def sweep_order(rows: Sequence[list[Spot]], is_up: bool) -> None:
+def sweep_order(rows: Sequence[list[Spot]], *, is_up: bool) -> None:
     """Puts each row in the order of what is joined with it, from the lowest row up or back."""
     for row in rows if is_up else reversed(rows):
         places = {id(spot): place for other in rows for place, spot in enumerate(other)}
@@ -193,7 +193,7 @@ def sweep_order(rows: Sequence[list[Spot]], is_up: bool) -> None:
 def put_in_order(rows: Sequence[list[Spot]]) -> None:
     """Puts each row in an order in which few lines cross."""
     for sweep in range(SWEEPS):
-        sweep_order(rows, sweep % 2 == 0)
+        sweep_order(rows, is_up=sweep % 2 == 0)
 
 
 def push_right(row: Sequence[Spot], wanted: Sequence[float], edge: float) -> list[float]:

@@ -106,12 +106,16 @@ def spec_items(path: str, text: str) -> Iterator[Item]:
         yield Item(path, name, "\n".join(lines))
 
 
-def source_items(path: str, text: str, is_function: bool = False) -> Iterator[Item]:
-    """The functions of a source file; or its types and traits, and what clauses see of a type. (No
-    clause names a function.)"""
+def declared_in(path: str, text: str) -> Iterator[tuple[str, Item]]:
+    """The items of a source file, each with its kind."""
     for hit in RUST.finditer(text):
-        if (hit["kind"] == "fn") == is_function:
-            yield Item(path, hit["name"], COMMENT.sub("", hit[0]))
+        yield hit["kind"], Item(path, hit["name"], COMMENT.sub("", hit[0]))
+
+
+def source_items(path: str, text: str) -> Iterator[Item]:
+    """The types and traits of a source file, and what clauses see of a type. (No clause names a
+    function.)"""
+    return (item for kind, item in declared_in(path, text) if kind != "fn")
 
 
 def constructors(item: Item) -> list[str]:
@@ -209,4 +213,5 @@ def closure_of(items: Iterable[Item]) -> set[Item]:
 
 def functions_in(path: str) -> list[Item]:
     """The functions of a source file."""
-    return list(source_items(path, (CRATES / path).read_text(encoding="utf-8"), True))
+    text = (CRATES / path).read_text(encoding="utf-8")
+    return [item for kind, item in declared_in(path, text) if kind == "fn"]

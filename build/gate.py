@@ -114,7 +114,8 @@ class Gate:
         """Runs all tests."""
         with Progress("tests", minutes_of()["tests"]) as line:
             log = LOGS / "gate.log"
-            session = Session(False, {"WIRE_UP_PROGRAM": str(BUILT)}, log, line.now)
+            settings = {"WIRE_UP_PROGRAM": str(BUILT)}
+            session = Session(settings, log, line.now, is_quick=False)
             before = costs.used()
             for ran in run_tests(session):
                 self.seconds[ran.name] = costs.used() - before

@@ -17,9 +17,10 @@ from build.minutes import minutes_of
 from build.places import TOP
 from build.progress import Progress
 from build.proving import prove_all
+from build.records import Keep
 
 
-def expected(crates: Sequence[Crate], keeps: bool = False) -> float:
+def expected(crates: Sequence[Crate], keep: Keep = Keep.STATEMENTS) -> float:
     """About how many minutes the proofs of crates take: as long as the longest chain of them, or as
     all of them by all processors."""
     minutes = minutes_of()
@@ -27,7 +28,7 @@ def expected(crates: Sequence[Crate], keeps: bool = False) -> float:
     left = {
         each_crate.name: minutes.get(each_crate.name, 1)
         for each_crate in crates
-        if not records.is_done(each_crate, keeps)
+        if not records.is_done(each_crate, keep)
     }
     for crate in crates:
         below = max((chain[dep.name] for dep in crate.deps), default=0)
@@ -46,9 +47,9 @@ def build_libraries() -> None:
     signal.signal(signal.SIGINT, signal.SIG_DFL)
     crates = [crate for crate in crates_at(TOP, Crate) if not crate.is_program]
     log = log_at("libraries.log")
-    with Progress("proving", expected(crates, True)) as line, locked(crates):
+    with Progress("proving", expected(crates, Keep.PROOFS)) as line, locked(crates):
         with open(log, "a", encoding="utf-8") as to:
-            failed = prove_all(crates, to, counted(line, len(crates)), keeps=True)
+            failed = prove_all(crates, to, counted(line, len(crates)), Keep.PROOFS)
     if failed:
         fail(f"not proved: {' '.join(failed)}", log)
 

@@ -10,6 +10,7 @@ from build import kit, lanes, records
 from build.crates import Crate, Looks
 from build.memory import FILES, SHARE, machine_here
 from build.minutes import minutes_of
+from build.records import Keep
 
 # Words of a verdict with which `rt ci` refuses a crate: what is proved says nothing then, or rests
 # on code that nothing proves.
@@ -26,8 +27,7 @@ class Proving:
     log: TextIO
     # Is called with the name of each crate that is proved.
     tell: Callable[[str], None]
-    # Whether the proofs of a library's functions are to be kept.
-    keeps: bool
+    keep: Keep
     # What the proofs that failed said, by the names of their crates.
     failed: dict[str, str] = field(default_factory=dict)
 
@@ -40,19 +40,19 @@ def prove_all(
     crates: Sequence[Crate],
     log: TextIO = sys.stdout,
     tell: Callable[[str], None] = say_nothing,
-    keeps: bool = False,
+    keep: Keep = Keep.STATEMENTS,
 ) -> list[str]:
     """Proves and builds crates side by side, each once those below it are built. A crate whose text
-    and libraries are as they were isn't proved again. With `keeps` a library is, where the proofs
-    of its functions aren't kept. What a check prints goes to the log, that of those that failed
-    last. Answers the names of those that failed."""
-    course = Proving(log, tell, keeps)
-    is_new = {crate.name: not records.is_done(crate, keeps) for crate in crates}
+    and libraries are as they were isn't proved again; but a library is whose proofs are to be kept,
+    and aren't. What a check prints goes to the log, that of those that failed last. Answers the
+    names of those that failed."""
+    course = Proving(log, tell, keep)
+    is_new = {crate.name: not records.is_done(crate, keep) for crate in crates}
     for crate in crates:
         # (`rt` would take a library as built that doesn't fit what is below it now)
         if is_new[crate.name]:
             (records.forget if records.may_stand(crate) else records.take_away)(crate)
-    share = 1 if holds_proofs(crates, keeps) else SHARE
+    share = 1 if holds_proofs(crates, keep) else SHARE
     minutes = minutes_of()
     proofs = {}
     for each_crate in crates:
@@ -75,10 +75,11 @@ def tell_failures(course: Proving) -> None:
     course.log.flush()
 
 
-def holds_proofs(crates: Sequence[Crate], keeps: bool) -> bool:
+def holds_proofs(crates: Sequence[Crate], keep: Keep) -> bool:
     """Whether a library among crates holds its proofs, or is to. A proof over it takes all the
     memory that the kit reckons with."""
-    return keeps or any(holds_its_proofs(crate) for crate in crates if not crate.is_program)
+    libraries = [crate for crate in crates if not crate.is_program]
+    return keep is Keep.PROOFS or any(map(holds_its_proofs, libraries))
 
 
 def holds_its_proofs(library: Crate) -> bool:
@@ -97,8 +98,8 @@ def proof_of(crate: Crate, course: Proving) -> Callable[[Mapping[str, bool]], bo
     def prove(given: Mapping[str, bool]) -> bool:
         if not all(given[name] for name in names_below(crate)):
             return False
-        if not records.is_done(crate, course.keeps):
-            said, why = prove_anew(crate, course.keeps)
+        if not records.is_done(crate, course.keep):
+            said, why = prove_anew(crate, course.keep)
             if why:
                 records.take_away(crate)
                 course.failed[crate.name] = f"{said}{why}\n"
@@ -112,7 +113,7 @@ def proof_of(crate: Crate, course: Proving) -> Callable[[Mapping[str, bool]], bo
     return prove
 
 
-def prove_anew(crate: Crate, keeps: bool) -> tuple[str, str]:
+def prove_anew(crate: Crate, keep: Keep) -> tuple[str, str]:
     """Proves and builds a crate. Answers what the prover said, and why what was built doesn't
     count, if it doesn't."""
     records.take_away(crate)
@@ -120,7 +121,7 @@ def prove_anew(crate: Crate, keeps: bool) -> tuple[str, str]:
         before = crate.looks_and_stamp()
         if not records.are_built(crate.below()):
             return "", CHANGED
-        status, said = check(crate, keeps)
+        status, said = check(crate, keep)
         why = why_refused(status, said)
         if not why and not is_as_it_was(crate, before):
             why = CHANGED
@@ -136,7 +137,7 @@ def is_as_it_was(crate: Crate, before: tuple[list[Looks], str]) -> bool:
     return crate.looks_and_stamp() == before and records.are_built(crate.below())
 
 
-def check(crate: Crate, keeps: bool) -> tuple[int, str]:
+def check(crate: Crate, keep: Keep) -> tuple[int, str]:
     """Checks and builds a crate by one process. Where proofs of a library's functions are kept, or
     are to be, it is built over these, as `rt lib` does. Answers the status of what failed, or 0,
     and what was printed."""
@@ -145,7 +146,7 @@ def check(crate: Crate, keeps: bool) -> tuple[int, str]:
         try:
             if crate.is_program:
                 status = build_program(crate)
-            elif keeps or crate.has_kept():
+            elif keep is Keep.PROOFS or crate.has_kept():
                 status = crate.build_rlib(["--jobs", "1"], anew=False)
             else:
                 status = build_cut(crate)

@@ -7,6 +7,7 @@ with their contracts, but no bodies. Where that is the same, byte by byte, a lib
 that keeps the proofs of its functions: the kit takes it over the new one, and proves again what of
 it doesn't fit. Of a library that holds no more than what crates above can cite, the statements name
 the code below, so the kit takes it over the very same ones only. A program takes the code."""
+import enum
 import hashlib
 import shutil
 from collections.abc import Iterable, Iterator
@@ -15,6 +16,14 @@ from pathlib import Path
 
 from build import kit
 from build.crates import Crate, look_once
+
+
+class Keep(enum.Enum):
+    """What is kept of a library that is proved: what crates above can cite, or the proofs of its
+    functions, too."""
+
+    STATEMENTS = enum.auto()
+    PROOFS = enum.auto()
 
 
 def made_of(crate: Crate) -> Path:
@@ -135,12 +144,12 @@ def stands(crate: Crate) -> bool:
         return False
 
 
-def is_done(crate: Crate, keeps: bool = False) -> bool:
+def is_done(crate: Crate, keep: Keep = Keep.STATEMENTS) -> bool:
     """Whether a crate is built from its text as it is, over the libraries that are there, and was
-    judged here. With `keeps` the proofs of its functions are kept, too."""
+    judged here; and holds the proofs of its functions, if these are to be kept."""
     with look_once():
         is_there = all(map(stands, [*crate.below(), crate]))
-    return is_there and not (keeps and (is_cut(crate) or not crate.has_kept()))
+    return is_there and (keep is Keep.STATEMENTS or crate.has_kept() and not is_cut(crate))
 
 
 def may_stand(crate: Crate) -> bool:

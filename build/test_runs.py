@@ -110,13 +110,13 @@ def told_of(lines: Sequence[str]) -> list[str]:
 
 @dataclass(frozen=True)
 class Session:
-    """How tests run: whether only those of a quick run, the settings in their environment, the log
-    to which all that is printed is added, and what is told how far they are."""
+    """How tests run: the settings in their environment, the log to which all that is printed is
+    added, what is told how far they are, and whether only those of a quick run do."""
 
-    is_quick: bool
     settings: Mapping[str, str]
     log: Path
     now: Callable[[str], None]
+    is_quick: bool
 
 
 def run_part(part: Part, python: str, session: Session) -> Ran:
@@ -172,7 +172,8 @@ def main(words: Sequence[str]) -> int:
     is_quick, counts = "--quick" in words, Counts()
     name = "quick" if is_quick else "tests"
     with Progress("tests", minutes_of()[name]) as line:
-        for ran in run_tests(Session(is_quick, {}, log_at(f"{name}.log"), line.now)):
+        session = Session({}, log_at(f"{name}.log"), line.now, is_quick=is_quick)
+        for ran in run_tests(session):
             line.note(ran.whole())
             counts += ran.counts
     print(counts, flush=True)

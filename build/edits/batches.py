@@ -56,7 +56,7 @@ def has_room_for(batch: Sequence[Edit], edit: Edit) -> bool:
     )
 
 
-def texts_of(batch: Sequence[Edit], empties: bool = True) -> Texts:
+def texts_of(batch: Sequence[Edit], *, empties: bool = True) -> Texts:
     """A batch as it is checked, with all other functions emptied or not."""
     by_function: dict[Place, list[Edit]] = defaultdict(list)
     for edit in batch:
@@ -67,7 +67,7 @@ def texts_of(batch: Sequence[Edit], empties: bool = True) -> Texts:
     names: dict[str, Edit | None] = {}
     # From the end of each file to its start, so that the places of other functions stay.
     for place, edits in sorted(by_function.items(), key=lambda each_place: -each_place[0][1].begin):
-        copies = copies_of(edits, place in as_they_are) if len(edits) > 1 else {}
+        copies = copies_of(edits, has_control=place in as_they_are) if len(edits) > 1 else {}
         put_in_place(edits, copies, sources, names)
         for name in copies:
             proofs.update(proofs_of_copy(crate, place[1].path, name))

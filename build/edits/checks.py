@@ -84,7 +84,7 @@ def check(batch: Sequence[Edit], kept: str | None = None, empties: bool = True) 
     """Checks the functions of a batch, and answers what became of each of its edits, as far as that
     shows it. What an earlier check of the same crate kept in a folder isn't checked again, and what
     this one checks is kept there for the next."""
-    texts = texts_of(batch, empties)
+    texts = texts_of(batch, empties=empties)
     only = [word for text in texts.only for word in ("--only", text)]
     flags = ["--jobs", "1", "--progress", *["--allow-holes"] * empties, *only]
     ran = checked(batch[0].crate, {**texts.sources, **texts.proofs}, flags, kept)
@@ -132,4 +132,5 @@ def try_alone(edit: Edit) -> Outcome:
 
 def try_whole(edit: Edit) -> Outcome:
     """Tries one edit by a check of its whole crate."""
-    return Outcome(*kit.must_fail(edit.crate, edit.path))
+    is_refused, said = kit.must_fail(edit.crate, edit.path)
+    return Outcome(said, is_refused)

@@ -22,7 +22,7 @@ def can_be_copied(edit: Edit) -> bool:
     return not re.search(rf"\b{function.name}\b", own)
 
 
-def copies_of(edits: Sequence[Edit], has_control: bool) -> dict[str, str]:
+def copies_of(edits: Sequence[Edit], *, has_control: bool) -> dict[str, str]:
     """Copies of the function of several edits, by name: one for each edit but the first, and one
     without an edit if it is wanted."""
     function, was = edits[0].body, edits[0].was

@@ -53,7 +53,8 @@ def read_all(files: Sequence[EditFile]) -> tuple[list[Edit], Outcomes]:
         if edit:
             edits.append(edit)
         else:
-            found[path] = Outcome(False, f"{label_of(crate, path)}: BAD EDIT: {why}")
+            said = f"{label_of(crate, path)}: BAD EDIT: {why}"
+            found[path] = Outcome(said, is_refused=False)
     return edits, found
 
 

@@ -51,9 +51,9 @@ POOR = ONLY_A_NAME, BY_A_LIMIT, ONLY_A_LOOP
 class Outcome:
     """What became of an edit."""
 
-    is_refused: bool
-    # The words that say so.
+    # In words, as it is printed.
     text: str
+    is_refused: bool
     is_alone: bool = False
     # How long its function took in a batch.
     seconds: float = 0
@@ -120,13 +120,14 @@ def judged(placed: Placed, said: str) -> Outcome | None:
     if not verdicts:
         return None
     if any(UNCOVERED in verdict for verdict in verdicts):
-        return Outcome(False, f"{label}: BAD EDIT: no contract was tried: {verdicts[0]}")
+        said = f"{label}: BAD EDIT: no contract was tried: {verdicts[0]}"
+        return Outcome(said, is_refused=False)
     about = [line for line in said.splitlines() if is_about(placed, line)]
     told = [line for line in about if ": error" in line or line.startswith("note: ")]
     reason = next((line for line in told if not NAMES.match(line)), "")
     why = (reason or (told or verdicts)[0])[:160]
     only = only_why(told, reason, verdicts)
-    return Outcome(True, f"{label}: refused, as it must be{only}: {why}")
+    return Outcome(f"{label}: refused, as it must be{only}: {why}", is_refused=True)
 
 
 def only_why(told: Sequence[str], reason: str, verdicts: Sequence[str]) -> str:

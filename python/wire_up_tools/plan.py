@@ -8,7 +8,6 @@ import functools
 import itertools
 from collections.abc import Iterator, Mapping, Sequence
 from dataclasses import dataclass, field
-from typing import Union
 
 from wire_up_tools import words
 
@@ -123,7 +122,7 @@ class Series:
 
 
 # What a script has in outline.
-Entry = Union[Call, Series]
+Entry = Call | Series
 
 
 @dataclass(frozen=True, eq=False)

@@ -15,6 +15,7 @@ from unittest import mock
 
 from build import crates, kit, lanes, memory, proving, run
 from build.lanes import Machine, Proof
+from build.records import Keep
 from tests import support
 from tests.support.building import ALL, ANOTHER, CRATES, BuildCase, Prover, read
 
@@ -61,7 +62,7 @@ class Programs(BuildCase):
 class Memory(BuildCase):
     """How much of the machine proofs take."""
 
-    def planned(self, keeps: bool = False) -> tuple[Machine, set[float]]:
+    def planned(self, keep: Keep = Keep.STATEMENTS) -> tuple[Machine, set[float]]:
         """The machine that a build plans with, and the memory of its proofs."""
         found: list[tuple[Machine, set[float]]] = []
 
@@ -69,7 +70,7 @@ class Memory(BuildCase):
             found.append((machine, {proof.memory for proof in proofs.values()}))
 
         with mock.patch.object(lanes, "run_all", plan):
-            self.build(Prover(), keeps)
+            self.build(Prover(), keep)
         return found[0]
 
     def test_side_by_side(self) -> None:
@@ -85,11 +86,11 @@ class Memory(BuildCase):
 
     def test_over_proofs(self) -> None:
         """Over libraries that hold proofs, or are to, a proof takes more memory."""
-        self.assertLess(max(self.planned()[1]), min(self.planned(keeps=True)[1]))
+        self.assertLess(max(self.planned()[1]), min(self.planned(Keep.PROOFS)[1]))
 
     def test_over_libraries_of_rt(self) -> None:
         """So it is over a library that `rt` built, whose proofs aren't kept any more."""
-        self.build(Prover(), keeps=True)
+        self.build(Prover(), Keep.PROOFS)
         for name in CRATES:
             shutil.rmtree(self.place(name, "out", "incremental"))
         self.write("high", ANOTHER)
@@ -97,7 +98,7 @@ class Memory(BuildCase):
         with processors, mock.patch.object(kit, "free", lambda: 1e12):
             self.build(prover := Prover())
         self.assertEqual(({"high": "1"}, ["high"]), (prover.jobs, prover.cut))
-        self.assertTrue(proving.holds_proofs(self.crates(Prover()), False))
+        self.assertTrue(proving.holds_proofs(self.crates(Prover()), Keep.STATEMENTS))
 
     def test_made_in_memory(self) -> None:
         """The prover's files are made in memory, and removed at the end; on the disk where there is

@@ -7,6 +7,7 @@ from collections.abc import Callable
 
 from build import records
 from build.crates import Crate
+from build.records import Keep
 from tests import support
 from tests.support.building import ALL, ANOTHER, BODY, PROVED, BuildCase, Prover
 
@@ -68,9 +69,9 @@ class Proving(BuildCase):
 
     def test_refused_by_the_gate(self) -> None:
         for word in "foreign hides partial may-abort may-serve bugs".split():
-            for keeps in False, True:
-                with self.subTest(word, keeps=keeps):
-                    found = self.build(Prover(verdict=f"{PROVED} {word}=1"), keeps)
+            for keep in Keep:
+                with self.subTest(word, keep=keep):
+                    found = self.build(Prover(verdict=f"{PROVED} {word}=1"), keep)
                     self.assertEqual(found.asked, found.failed)
                     self.assertIn(f"the gate would refuse this: {word}=1", found.said)
                     self.assertEqual([], self.built_for_rt())
@@ -129,11 +130,11 @@ class Meanwhile(BuildCase):
         self.assertEqual(["apart"], self.built())
 
     def test_changed(self) -> None:
-        for keeps in False, True:
-            with self.subTest(keeps=keeps):
-                text = f"//! another text {keeps}\n"
+        for keep in Keep:
+            with self.subTest(keep=keep):
+                text = f"//! another text {keep}\n"
                 prover = self.meanwhile("low", functools.partial(self.write, "low", text))
-                found = self.build(prover, keeps)
+                found = self.build(prover, keep)
                 self.assertEqual(["low"], found.failed)
                 self.assertIn("changed meanwhile", found.said)
                 self.hold_built("apart")
@@ -191,30 +192,30 @@ class KeptProofs(BuildCase):
     """Builds that keep the proof of each function."""
 
     def test_kept(self) -> None:
-        self.assertEqual((ALL, []), self.build(Prover(), keeps=True)[:2])
-        self.assertEqual(([], []), self.build(Prover(), keeps=True)[:2])
+        self.assertEqual((ALL, []), self.build(Prover(), Keep.PROOFS)[:2])
+        self.assertEqual(([], []), self.build(Prover(), Keep.PROOFS)[:2])
         self.assertEqual([], self.asked())
 
     def test_kept_later(self) -> None:
         """Libraries that were built without them are proved once more, so that the proof of each
         function is kept."""
         self.build(Prover())
-        self.build(prover := Prover(), keeps=True)
+        self.build(prover := Prover(), Keep.PROOFS)
         self.assertEqual((ALL, ALL), (sorted(prover.over_kept), self.built()))
         self.assertEqual([], prover.cut)
 
     def test_used(self) -> None:
-        self.build(Prover(), keeps=True)
+        self.build(Prover(), Keep.PROOFS)
         self.write("middle", ANOTHER)
         self.build(prover := Prover())
         self.assertEqual(["high", "middle"], sorted(prover.over_kept))
-        self.assertEqual([], self.asked(keeps=True))
+        self.assertEqual([], self.asked(Keep.PROOFS))
 
     def test_another_body(self) -> None:
         """Where a library shows what it did, those above that keep their proofs stand, for `rt`
         too, and a program is linked anew."""
         self.add_program()
-        self.build(Prover(), keeps=True)
+        self.build(Prover(), Keep.PROOFS)
         self.write("low", f"//! low\n{BODY}")
         self.assertEqual(["apart"], self.built())
         self.assertEqual((["app", "low"], []), self.build(Prover())[:2])
@@ -225,7 +226,7 @@ class KeptProofs(BuildCase):
     def test_program(self) -> None:
         """Over libraries that keep their proofs it keeps its own."""
         self.add_program()
-        self.build(Prover(), keeps=True)
+        self.build(Prover(), Keep.PROOFS)
         self.write("app", ANOTHER, "main.rt")
         self.build(prover := Prover())
         self.assertEqual(["app"], prover.over_kept)
@@ -243,22 +244,22 @@ class KeptProofs(BuildCase):
 
     def test_another_contract(self) -> None:
         """All that is above is proved again, also where what is between shows what it did."""
-        self.build(Prover(), keeps=True)
+        self.build(Prover(), Keep.PROOFS)
         self.write("low", f"{ANOTHER}{BODY}")
         self.assertEqual(["high", "low", "middle"], self.asked())
 
     def test_another_body_that_is_refused(self) -> None:
         """What stands above isn't taken as built before that is mended."""
-        self.build(Prover(), keeps=True)
+        self.build(Prover(), Keep.PROOFS)
         self.write("low", f"//! low\n{BODY}")
         self.build(Prover(refused=["low"]))
         self.hold_built("apart")
         self.assertEqual(["low"], self.asked())
 
     def test_lost(self) -> None:
-        self.build(Prover(), keeps=True)
+        self.build(Prover(), Keep.PROOFS)
         shutil.rmtree(self.place("high", "out", "incremental"))
-        self.assertEqual(([], ["high"]), (self.asked(), self.asked(keeps=True)))
+        self.assertEqual(([], ["high"]), (self.asked(), self.asked(Keep.PROOFS)))
 
 
 if __name__ == "__main__":

@@ -6,7 +6,7 @@ import subprocess
 import tempfile
 import time
 import unittest
-from typing import IO, NamedTuple, Union
+from typing import IO, NamedTuple
 
 from tests import support
 from tests.support.running import (
@@ -32,7 +32,7 @@ SLOW = {
     ),
 }
 SHOWN = b"\rwire_up: reading 0 MB"
-Stream = Union[int, IO[bytes]]
+Stream = int | IO[bytes]
 
 
 class Slow(NamedTuple):

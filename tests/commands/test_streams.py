@@ -10,7 +10,7 @@ import subprocess
 import threading
 import unittest
 from collections.abc import Callable
-from typing import IO, Union
+from typing import IO
 
 from tests import support
 from tests.models import grammar
@@ -35,7 +35,7 @@ PIPE_BYTES = 4096
 # After how many bytes a reader goes away.
 SIZES = (0, 1, 4095, 4096, 10_000)
 # A stream to read from, and what hands bytes over to it.
-Source = tuple[Union[socket.socket, IO[bytes]], Callable[[], None]]
+Source = tuple[socket.socket | IO[bytes], Callable[[], None]]
 
 
 def by_message(text: bytes) -> Source:

@@ -6,7 +6,7 @@ Prints the fault that the program must name, or the canonical text.
 """
 import re
 import sys
-from typing import NamedTuple, Optional
+from typing import NamedTuple
 
 FILE_BYTES, NAME_BYTES, VALUE_BYTES = 4_194_304, 63, 255
 
@@ -50,7 +50,7 @@ SHAPES: dict[bytes, tuple[str, ...]] = {
 
 # The words of a line. And an item of a set: a name and a rank, or None for all of its ranks.
 Words = list[bytes]
-Item = tuple[bytes, Optional[int]]
+Item = tuple[bytes, int | None]
 
 
 class Process(NamedTuple):

@@ -3,7 +3,7 @@
 call of a fence spells its set."""
 import functools
 from collections.abc import Sequence
-from typing import Optional, TypeVar
+from typing import TypeVar
 
 from tests.models import grammar, model
 from tests.models.model import Event, Put
@@ -12,7 +12,7 @@ from tests.models.model import Event, Put
 # More than any number of events.
 NEVER = 1 << 30
 # How a call of a fence spells its set.
-Sign = Optional[tuple[str, ...]]
+Sign = tuple[str, ...] | None
 Item = TypeVar("Item")
 
 

@@ -5,7 +5,7 @@ A pattern has jobs, a job has roles, and a role has a script: call lines and loo
 0 in the order of the file, over all jobs.
 """
 import re
-from typing import NamedTuple, Union
+from typing import NamedTuple
 
 from tests.models import grammar
 from tests.models.grammar import NAME_BYTES, VALUE_BYTES, Refused, Words
@@ -95,7 +95,7 @@ class Loop(NamedTuple):
         return self.mode == b"some" and not all(line.is_read for line in self.lines)
 
 
-Step = Union[Line, Loop]
+Step = Line | Loop
 
 
 class Role(NamedTuple):

@@ -5,7 +5,6 @@ size with which one does."""
 import json
 import unittest
 from collections.abc import Iterator
-from typing import Optional
 
 from tests.models import pattern_faults, pattern_reference
 from tests.models.pattern_grammar import Pattern
@@ -37,7 +36,7 @@ def instances(row: Told) -> Iterator[tuple[int, bytes]]:
         yield size, instance(pattern, size).text
 
 
-def find_shown(row: Told, pattern: Pattern) -> Optional[Wait]:
+def find_shown(row: Told, pattern: Pattern) -> Wait | None:
     """The instance that is explained: the first that is judged in which a rank waits, or that with
     as many ranks of each group as the first line says."""
     first = pattern_reference.find_first_wait(pattern)

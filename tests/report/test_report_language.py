@@ -53,14 +53,15 @@ class ValuesTest(unittest.TestCase):
     def test_a_size_that_stands_for_a_value(self) -> None:
         for value, said in VALUES.items():
             with self.subTest(value):
-                self.assertEqual(say_value(value, True), said)
-                self.assertEqual(say_value(value, False), value)
+                self.assertEqual(say_value(value, is_recorded=True), said)
+                self.assertEqual(say_value(value, is_recorded=False), value)
 
     def test_how_a_call_ends(self) -> None:
         said = {"reply": "PMIX_SUCCESS", "value": "number:4"}
-        self.assertEqual(describe_end(said, True), "PMIX_SUCCESS, a number of 4 bytes")
-        self.assertEqual(describe_end(said, False), "PMIX_SUCCESS number:4")
-        self.assertEqual(describe_end({"reply": "PMIX_ERR_NOT_FOUND"}, True), "PMIX_ERR_NOT_FOUND")
+        self.assertEqual(describe_end(said, is_recorded=True), "PMIX_SUCCESS, a number of 4 bytes")
+        self.assertEqual(describe_end(said, is_recorded=False), "PMIX_SUCCESS number:4")
+        said = {"reply": "PMIX_ERR_NOT_FOUND"}
+        self.assertEqual(describe_end(said, is_recorded=True), "PMIX_ERR_NOT_FOUND")
 
 
 class NamesTest(unittest.TestCase):

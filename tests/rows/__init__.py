@@ -3,7 +3,7 @@
 The bytes that are expected were worked out by hand from the words of the documents, and not taken
 from the program.
 """
-from typing import NamedTuple, Union
+from typing import NamedTuple
 
 
 class Reported(NamedTuple):
@@ -114,9 +114,19 @@ class Anywhere(NamedTuple):
     verdict: bytes
 
 
-Row = Union[
-    Reported, Checked, Refused, Followed, Asked, Canonical, Large, Shown, Formed, Placed, Anywhere
-]
+Row = (
+    Reported
+    | Checked
+    | Refused
+    | Followed
+    | Asked
+    | Canonical
+    | Large
+    | Shown
+    | Formed
+    | Placed
+    | Anywhere
+)
 
 # The findings of a plan in which there is nothing to find.
 NOTHING = b"findings 0\n"

@@ -13,7 +13,6 @@ import time
 import unittest
 from collections.abc import Callable, Sequence
 from types import FrameType
-from typing import Optional
 from unittest import mock
 
 from wire_up_tools.failures import Refused
@@ -208,7 +207,7 @@ class Tracer:
     def __init__(self, number: int) -> None:
         self.number, self.seen = number, set[tuple[str, int]]()
 
-    def __call__(self, frame: FrameType, event: str, _: object) -> Optional["Tracer"]:
+    def __call__(self, frame: FrameType, event: str, _: object) -> "Tracer | None":
         name = frame.f_code.co_filename
         if not name.endswith(TRACED):
             return None

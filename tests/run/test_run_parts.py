@@ -218,7 +218,7 @@ class Scripts(unittest.TestCase):
         plan = read_plan(PLAN)
         live = make_live("n0", "h0", ["PMIX_SUCCESS", ranks.TIMEOUT])
         calls = plan.calls_of["a:0"]
-        told = [ranks.write_reply(call, live, {}, False) for call in calls]
+        told = [ranks.write_reply(call, live, {}, is_held=False) for call in calls]
         self.assertEqual(["PMIX_SUCCESS", "waiting"], told)
 
 

@@ -2,7 +2,7 @@
 runs."""
 import random
 from collections.abc import Iterator, Sequence
-from typing import NamedTuple, Union
+from typing import NamedTuple
 
 from tests.support.tapes import Tape, make_world
 
@@ -35,7 +35,7 @@ class Barrier(NamedTuple):
     """It meets all others."""
 
 
-Action = Union[Mark, Send, Ask, Barrier]
+Action = Mark | Send | Ask | Barrier
 
 
 class Message(NamedTuple):

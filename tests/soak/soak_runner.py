@@ -8,13 +8,13 @@ import time
 from collections import Counter
 from collections.abc import Sequence
 from dataclasses import dataclass
-from typing import NamedTuple, Union
+from typing import NamedTuple
 
 # After how long an answer counts as none. A busy machine takes a while for one.
 SECONDS = 60
 FAULT = re.compile(rb"wire_up: fault (\d+) (\w+)( \d+)?\n")
 FAILED_CALL = re.compile(rb"wire_up: \S+:\d+ \d+ [a-z-]+ (?:[A-Z_]+|waiting|unreached)\n")
-Word = Union[str, bytes]
+Word = str | bytes
 
 
 class Ran(NamedTuple):

@@ -11,6 +11,7 @@ from typing import NamedTuple
 
 from build import proving, records
 from build.crates import Crate, crates_at
+from build.records import Keep
 from tests import support
 
 assert support.TOP, "it says where the build is"
@@ -159,16 +160,16 @@ class BuildCase(unittest.TestCase):
     def crate(self, name: str, prover: Prover) -> Crate:
         return next(each_crate for each_crate in self.crates(prover) if each_crate.name == name)
 
-    def build(self, prover: Prover, keeps: bool = False) -> Built:
+    def build(self, prover: Prover, keep: Keep = Keep.STATEMENTS) -> Built:
         """Builds the crates, as another `make run` or, where it keeps proofs, `make libraries`
         would."""
         log = io.StringIO()
-        failed = proving.prove_all(self.crates(prover), log, keeps=keeps)
+        failed = proving.prove_all(self.crates(prover), log, keep=keep)
         return Built(sorted(prover.asked), sorted(failed), log.getvalue())
 
-    def asked(self, keeps: bool = False) -> list[str]:
+    def asked(self, keep: Keep = Keep.STATEMENTS) -> list[str]:
         """The crates whose proof another build asks for."""
-        return self.build(Prover(), keeps).asked
+        return self.build(Prover(), keep).asked
 
     def built(self) -> list[str]:
         """The names of the crates that count as built."""

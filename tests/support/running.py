@@ -6,7 +6,7 @@ import subprocess
 import tempfile
 import unittest
 from collections.abc import Callable, Iterable, Iterator, Sequence
-from typing import IO, NamedTuple, Union
+from typing import IO, NamedTuple
 
 from tests import support
 from tests.support.needs import needs_program
@@ -92,9 +92,9 @@ rank n0
 get-now app:0 k
 """
 RACE = b"race app:0 2 app:1 1 key app:0 k"
-Words = Sequence[Union[str, bytes]]
+Words = Sequence[str | bytes]
 # The whole of a text, or in a tuple parts of it.
-Text = Union[bytes, tuple[bytes, ...]]
+Text = bytes | tuple[bytes, ...]
 
 
 class Run(NamedTuple):

@@ -4,7 +4,6 @@ import re
 import subprocess
 import sys
 from collections.abc import Sequence
-from typing import Union
 
 from wire_up_tools.record.planning import Choices, Plan, make_plan
 from wire_up_tools.record.recordings import read_recording
@@ -71,7 +70,7 @@ class Tape:
         return "".join(f"{line}\n" for line in self.lines).encode()
 
 
-Recordings = Sequence[Union[Tape, bytes]]
+Recordings = Sequence[Tape | bytes]
 
 
 def in_world(rank: int, size: int) -> Tape:

@@ -1,7 +1,7 @@
 """What a recording says of calls: each kind with the parts that it has, and how a call ended."""
 import enum
 from dataclasses import dataclass
-from typing import ClassVar, Union
+from typing import ClassVar
 
 from wire_up_tools.words import VALUE_BYTES, is_word
 
@@ -234,9 +234,9 @@ class Collective:
     communicator: int
 
 
-PmixCall = Union[Put, Commit, Fence, Group, Get, Publish, Lookup, Unpublish]
-MpiCall = Union[Send, Receive, Probe, Collective]
-Action = Union[PmixCall, MpiCall]
+PmixCall = Put | Commit | Fence | Group | Get | Publish | Lookup | Unpublish
+MpiCall = Send | Receive | Probe | Collective
+Action = PmixCall | MpiCall
 MPI_CALLS = (Send, Receive, Probe, Collective)
 
 

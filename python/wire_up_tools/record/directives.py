@@ -93,7 +93,7 @@ def is_usual_range(action: Action, of: Pair) -> bool:
     return not isinstance(action, Publish)
 
 
-def say_directive(action: Action, of: Pair, has_jobs: bool) -> str:
+def say_directive(action: Action, of: Pair, *, has_jobs: bool) -> str:
     """A directive that a plan can't have, and what of it isn't taken for what a plan does, which
     has several jobs or one."""
     name = show(of.key)

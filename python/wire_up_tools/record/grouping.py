@@ -116,7 +116,7 @@ class Grouping:
         """A group of streams, whose first is the key."""
         inbox, lacks = self.inbox, key in self.lacking
         streams = self.parts.of_group(key) if key >= 0 else ()
-        match = Matching(inbox, streams, asked).finish(lacks)
+        match = Matching(inbox, streams, asked).finish(lacks=lacks)
         return Group(inbox, streams, asked, lacks, match)
 
     def join_pairs(self, asked: Sequence[int]) -> Group:
@@ -124,7 +124,7 @@ class Grouping:
         own."""
         inbox = self.inbox
         streams = array("I", map(inbox.got.__getitem__, asked))
-        return Group(inbox, streams, asked, False, match_pairs(inbox, asked))
+        return Group(inbox, streams, asked, lacks=False, match=match_pairs(inbox, asked))
 
 
 def find_groups(inbox: SortedInbox) -> list[Group]:

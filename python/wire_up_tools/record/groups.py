@@ -159,7 +159,7 @@ class Group:
             for stream in (self.streams if chosen else ())
         )
 
-    def is_matched(self, is_cut: bool) -> bool:
+    def is_matched(self, *, is_cut: bool) -> bool:
         """Whether the receives surely got the messages of each stream in their order. Where the
         sender's recording is cut, messages may lack at the end."""
         may_lack = is_cut and len(self.streams) == 1
@@ -231,7 +231,7 @@ class Matching:
         of_other_size = any(map(self.inbox.has_one_thread, self.of_other_size))
         return self.is_foreign or self.has_too_few or of_other_size
 
-    def finish(self, lacks: bool) -> Match:
+    def finish(self, *, lacks: bool) -> Match:
         """What was found, where `lacks` says whether others that asked got nothing."""
         counts = self.inbox.streams.counts
         is_any_left = (
@@ -249,4 +249,4 @@ class Matching:
 def match_pairs(inbox: SortedInbox, asked: Sequence[int]) -> Match:
     """Receives that each have the one message of a stream of their own."""
     sends = array("I", (inbox.sent.find(inbox.got[number], 0) for number in asked))
-    return Match(sends, asked, len(asked), Fit.SURE, False)
+    return Match(sends, asked, len(asked), Fit.SURE, is_unfit=False)

@@ -46,7 +46,7 @@ class Inbox:
     chosen_sends: dict[int, int] = field(default_factory=dict)
     chosen_receives: dict[Stream, int] = field(default_factory=dict)
 
-    def take_send(self, source: int, tag: int, number: int, is_chosen: bool) -> None:
+    def take_send(self, source: int, tag: int, number: int, *, is_chosen: bool) -> None:
         """Takes a message that is sent to it."""
         stream = self.streams.add(source, tag)
         self.stream_of.append(stream)
@@ -54,7 +54,7 @@ class Inbox:
         if is_chosen:
             self.chosen_sends.setdefault(stream, number)
 
-    def take_ask(self, messages: Messages, number: int, is_chosen: bool) -> None:
+    def take_ask(self, messages: Messages, number: int, *, is_chosen: bool) -> None:
         """Takes a receive or a probe. A receive of just what a probe found is as free as the
         probe was."""
         if self.probed or messages.verbs[number] == PROBE:
@@ -166,7 +166,7 @@ class Taking:
             target = own.peers[rank]
             inbox = self.inboxes.find(own.identity, target, own.members)
             is_chosen = self.found.has(target, messages.begins[number])
-            inbox.take_send(own.rank, messages.tags[number], number, is_chosen)
+            inbox.take_send(own.rank, messages.tags[number], number, is_chosen=is_chosen)
 
     def take_ask(self, own: Communicator, number: int) -> None:
         """Takes a receive or a probe, and whom one of any source finds."""
@@ -177,7 +177,7 @@ class Taking:
             notes.of_luck["receives that were the first of several requests"] += 1
         inbox = self.inboxes.find(own.identity, own.members[own.rank], own.peers)
         peer = self.find_peer(own, number)
-        inbox.take_ask(messages, number, self.found.has(peer, messages.begins[number]))
+        inbox.take_ask(messages, number, is_chosen=self.found.has(peer, messages.begins[number]))
         if peer and self.is_found_by_luck(own, number):
             self.found.add(peer, messages.ends[number])
 

@@ -48,7 +48,7 @@ def look_at_files(recordings: Sequence[Recording]) -> Files:
     )
 
 
-def is_of_luck(name: str, are_written: bool) -> bool:
+def is_of_luck(name: str, *, are_written: bool) -> bool:
     """Whether luck decides a call of this name, where files are written by MPI or aren't."""
     is_one = OF_LUCK.fullmatch(name) or name.endswith(BEYOND_ROOM)
     return bool(is_one or are_written and READING.fullmatch(name))

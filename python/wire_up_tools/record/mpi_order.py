@@ -89,7 +89,7 @@ def order_messages(
         groups = find_groups(sorted_inbox)
         note_unfit_messages(sorted_inbox, groups, ordered.notes)
         for group in groups:
-            is_matched = group.is_matched(is_cut) and not is_open
+            is_matched = group.is_matched(is_cut=is_cut) and not is_open
             if not is_matched or (is_cut and group.is_from_any):
                 left_out = ordered.notes.left_out
                 left_out["messages that can't be matched for certain"] += group.match.receive_count

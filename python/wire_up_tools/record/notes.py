@@ -71,7 +71,7 @@ class Notes:
         self.otherwise.update(others.otherwise)
         self.uses.update(others.uses)
 
-    def list_left_out(self, can_hide_race: bool) -> dict[str, int]:
+    def list_left_out(self, *, can_hide_race: bool) -> dict[str, int]:
         """What was left out that can hide a race, or else that can't."""
         return {
             text: n for text, n in self.left_out.items() if n and can_hide(text) == can_hide_race
@@ -89,7 +89,7 @@ def note_recording(recording: Recording, files: Files, notes: Notes) -> None:
     notes.more_ordered.update(recording.unseen_pmix)
     uses = recording.uses.decode() if recording.uses else NOT_NOTED
     notes.uses[uses] += recording.uses != NO_USE
-    note_counted(recording, files.are_written, notes)
+    note_counted(recording, notes, are_written=files.are_written)
     note_files(recording, files, notes)
     for name, count in recording.polls.items():
         notes.of_luck[f"calls of {name} that found nothing"] += count
@@ -102,12 +102,12 @@ def note_recording(recording: Recording, files: Files, notes: Notes) -> None:
         ] += 1
 
 
-def note_counted(recording: Recording, are_written: bool, notes: Notes) -> None:
+def note_counted(recording: Recording, notes: Notes, *, are_written: bool) -> None:
     """Notes the calls that are only counted."""
     for name, count in recording.others.items():
         if name == OF_OWN_STORE:
             notes.more_ordered[OWN_STORE] += count
-        elif is_of_luck(name, are_written):
+        elif is_of_luck(name, are_written=are_written):
             notes.of_luck[say_of_luck(name)] += count
         else:
             notes.left_out[f"calls of {name}"] += count
@@ -145,7 +145,7 @@ def note_missing(processes: Processes, notes: Notes) -> None:
         ] += jobs
 
 
-def note_directives(call: Call, has_jobs: bool, notes: Notes) -> None:
+def note_directives(call: Call, notes: Notes, *, has_jobs: bool) -> None:
     """Notes the directives of a call that a plan can't have, which has several jobs or one."""
     action = call.action
     notes.more_ordered[
@@ -154,7 +154,8 @@ def note_directives(call: Call, has_jobs: bool, notes: Notes) -> None:
     if isinstance(action, (Fence, Get, Publish, Lookup, Unpublish)):
         for directive in action.directives:
             if directive.key not in KNOWN:
-                notes.left_out[f"directives {say_directive(action, directive, has_jobs)}"] += 1
+                said = say_directive(action, directive, has_jobs=has_jobs)
+                notes.left_out[f"directives {said}"] += 1
 
 
 def is_floating(call: Call) -> bool:

@@ -77,7 +77,7 @@ class Overlaps:
 
 
 def note_overlaps(
-    processes: Processes, lines: PmixLines, fences: PmixFences, with_mpi: bool
+    processes: Processes, lines: PmixLines, fences: PmixFences, *, with_mpi: bool
 ) -> None:
     """Notes the calls that get such an order."""
     overlaps = Overlaps(processes, lines, fences)

@@ -142,8 +142,8 @@ def make_whole_plan(recordings: Sequence[Recording], choices: Choices) -> Plan:
     processes = arrange_processes(recordings, choices.most)
     spelling, sets = find_spelling(processes), Sets(processes)
     fences = make_fences(sets, spelling)
-    calls = make_lines(processes, spelling, choices.with_mpi)
-    note_overlaps(processes, calls, fences, choices.with_mpi)
+    calls = make_lines(processes, spelling, with_mpi=choices.with_mpi)
+    note_overlaps(processes, calls, fences, with_mpi=choices.with_mpi)
     if not choices.has_floating:
         drop_floating(calls.part)
     calls.notes.add(fences.notes)

@@ -340,7 +340,7 @@ def find_reserved(processes: Processes) -> frozenset[bytes]:
     return frozenset(keys - {HOST_NAME})
 
 
-def make_lines(processes: Processes, spelling: Spelling, with_mpi: bool) -> PmixLines:
+def make_lines(processes: Processes, spelling: Spelling, *, with_mpi: bool) -> PmixLines:
     """The lines of all calls of PMIx but fences, each process by itself."""
     part, notes, puts = Part(), Notes(), PutsByProcess()
     calls: dict[Process, Sequence[Call]] = {}
@@ -354,7 +354,7 @@ def make_lines(processes: Processes, spelling: Spelling, with_mpi: bool) -> Pmix
         lines = ProcessLines(process, processes, spelling, puts, part, notes, reserved)
         for call in of_pmix:
             lines.take(call)
-            note_directives(call, len(processes.jobs) > 1, notes)
+            note_directives(call, notes, has_jobs=len(processes.jobs) > 1)
         with_lines = {line.call for line in part.lines[first:]}
         noted = recording.calls if with_mpi else of_pmix
         calls[process] = in_plan = [

@@ -241,5 +241,5 @@ def test_premises(checker: Checker, plan: Plan) -> Premises:
     try:
         differing = compare_answers(checker, plan)
     except (Refused, OSError, ValueError):
-        return Premises(False)
-    return Premises(True, differing, goes_by_calls(plan))
+        return Premises(is_replayed=False)
+    return Premises(is_replayed=True, differing=differing, goes_by_calls=goes_by_calls(plan))

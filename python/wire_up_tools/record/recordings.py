@@ -9,7 +9,7 @@ from collections.abc import Mapping, Sequence
 from dataclasses import dataclass, field
 from functools import cached_property
 from pathlib import Path
-from typing import NoReturn, Union
+from typing import NoReturn
 
 from wire_up_tools.failures import Refused, Unusable
 from wire_up_tools.limits import Limits
@@ -72,7 +72,7 @@ class Address:
 
 
 # Where in the program a call comes from: an address, or `function (file.c:42)`.
-Place = Union[Address, str]
+Place = Address | str
 # How many functions that called each other are followed from a call outwards.
 MOST_FRAMES = 8
 

@@ -8,7 +8,6 @@ import time
 from collections.abc import Callable, Mapping, Sequence
 from dataclasses import dataclass, replace
 from pathlib import Path
-from typing import Union
 
 from wire_up_tools.checker import Checker, find_checker
 from wire_up_tools.failures import Refused
@@ -112,7 +111,7 @@ class ShowRequest:
     asked: Asked
 
 
-Request = Union[WhereRequest, FilesRequest, CommandRequest, ShowRequest, SizesRequest]
+Request = WhereRequest | FilesRequest | CommandRequest | ShowRequest | SizesRequest
 
 
 def say(what: str) -> None:
@@ -148,7 +147,7 @@ def say_part(plan: Plan) -> None:
     for before, noted in (("the run was cut off: ", notes.cut_off), ("", notes.more_ordered)):
         if any(noted.values()):
             say(f"{before}{in_part}: {count_notes(noted)}")
-    left_out = count_notes(notes.list_left_out(True))
+    left_out = count_notes(notes.list_left_out(can_hide_race=True))
     if left_out:
         say(f"{in_part}: not in the plan: {left_out}")
     of_luck = list_luck(plan)

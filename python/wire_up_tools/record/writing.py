@@ -150,11 +150,11 @@ def list_notes(plan: Plan) -> Iterator[tuple[str, Sequence[str]]]:
     yield PARTED, list(plan.partings)
     for title, counted in (
         (CUT_OFF, notes.cut_off),
-        (LEFT_OUT, notes.list_left_out(True)),
+        (LEFT_OUT, notes.list_left_out(can_hide_race=True)),
         (MORE_ORDERED, notes.more_ordered),
         (OTHERWISE_ALONE if is_by_mpi_alone(plan) else OTHERWISE_AFTER, notes.of_luck),
         (WRITTEN_OTHERWISE, notes.otherwise),
-        (LEFT_OUT_HARMLESS, notes.list_left_out(False)),
+        (LEFT_OUT_HARMLESS, notes.list_left_out(can_hide_race=False)),
     ):
         yield title, [f"{count} {what}" for what, count in sorted(counted.items()) if count]
 
@@ -241,7 +241,7 @@ def write_body(plan: Plan, places: Places | None) -> list[str]:
     return lines
 
 
-def join_lines(head: Sequence[str], body: Sequence[str], is_large: bool) -> str:
+def join_lines(head: Sequence[str], body: Sequence[str], *, is_large: bool) -> str:
     """The text of head and body, which says where only --large reads it."""
     size = sum(map(len, head)) + sum(map(len, body)) + len(head) + len(body)
     more = ["# Larger than the plain limits: `wire_up check --large` reads it."]
@@ -258,10 +258,10 @@ def write_plan(plan: Plan, places: Places | None = None) -> str:
     refuse_past(most.calls, "calls", count)
     is_large = plan.processes.is_large or count > VERSION_1.calls
     head, body = say_head(plan), write_body(plan, places)
-    text = join_lines(head, body, is_large)
+    text = join_lines(head, body, is_large=is_large)
     if len(text) > (most if is_large else VERSION_1).plan_bytes:
         body = [each_text for each_text in body if not each_text.startswith(LEFT_AWAY)]
-        text = join_lines(head, body, is_large)
+        text = join_lines(head, body, is_large=is_large)
     refuse_past(most.plan_bytes, "bytes", len(text))
     return text
 

@@ -7,7 +7,6 @@ race does. Two arrows have no bend in common, as far as there is room.
 import itertools
 import math
 from collections.abc import Iterator, Sequence
-from typing import Optional
 
 from wire_up_tools.report.diagram import Item, Link
 from wire_up_tools.report.layout import Box, Layout, Point, list_labels
@@ -27,7 +26,7 @@ BESIDE_LANE, OF_BEND, FAR, NEAR = (12, 9, 13.5), 20, 14, 2
 # How many ways are tried for an arrow that can't be straight, and for how many arrows.
 MOST_WAYS, MOST_BENT = 400, 60
 # What a way must not go over, with the item of which it is the mark, if it is one.
-Taken = tuple[Optional[Item], Box]
+Taken = tuple[Item | None, Box]
 
 
 def find_arrow_lines(layout: Layout) -> list[Way]:

@@ -76,9 +76,10 @@ def find_move_past(
         return None
     is_after = own.number > leader.number and others.number > other.number
     if is_after and can_come_after(order, finding, other, others):
-        return Move(other, others, True)
+        return Move(other, others, is_later=True)
     is_before = own.number < leader.number and others.number < other.number
-    return Move(leader, own, False) if is_before and can_come_before(order, leader, own) else None
+    may_come = is_before and can_come_before(order, leader, own)
+    return Move(leader, own, is_later=False) if may_come else None
 
 
 def can_come_after(order: Order, finding: Finding, call: Call, fence: Call) -> bool:
@@ -154,7 +155,7 @@ def name_barrier(plan: Plan, first: Call, second: Call) -> str:
     """What can stand between two calls, so that one comes first."""
     if is_of_all(plan, first, second):
         return "an MPI_Barrier of MPI_COMM_WORLD"
-    fence = name_verb("fence", plan.is_recorded)
+    fence = name_verb("fence", is_recorded=plan.is_recorded)
     return f"a {fence} of a set that has both ranks"
 
 

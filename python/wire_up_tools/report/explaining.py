@@ -109,17 +109,17 @@ def title(finding: Finding, abouts: Sequence[str] = (), order: Order | None = No
     have several; with the order, also who reads a key that is put twice."""
     (one, other), what = finding.verbs, say_what(finding, abouts)
     recorded = finding.first.rank.is_recorded
-    said, said_too = name_verb(one, recorded), name_verb(other, recorded)
+    said, said_too = name_verb(one, is_recorded=recorded), name_verb(other, is_recorded=recorded)
     has_many = len(abouts) > 1
     if finding.kind is Kind.REWRITE:
         either = find_readers(order, finding).either if order and not has_many else ()
         more = f": {name_readers(either)} may get either value" if either else ""
         return f"{finding.owner} puts {what} twice{more}"
     if finding.kind is Kind.KEY:
-        bringer = name_verb(finding.bringer, recorded)
+        bringer = name_verb(finding.bringer, is_recorded=recorded)
         early = f"can come before the {bringer} that brings {'them' if has_many else 'it'}"
         if recorded:
-            return f"A {name_verb('get', recorded)} of {what} doesn't wait, and {early}"
+            return f"A {name_verb('get', is_recorded=recorded)} of {what} doesn't wait, and {early}"
         return f"A get-now of {what} {early}"
     if one in LOOKUPS and other == "publish":
         article = "the" if one == "lookup" else "a"
@@ -185,7 +185,7 @@ def role(finding: Finding, call: Call) -> str:
     """What a call does that is told of a key that is put twice; nothing for another finding."""
     if finding.kind is not Kind.REWRITE:
         return ""
-    value = cut(say_value(call.words[-1], call.rank.is_recorded), VALUE_WIDTH)
+    value = cut(say_value(call.words[-1], is_recorded=call.rank.is_recorded), VALUE_WIDTH)
     said = {finding.first: f"first value: {value}", finding.second: f"second value: {value}"}
     return said.get(call, "reads it")
 
@@ -220,7 +220,7 @@ def list_fixes(finding: Finding, order: Order) -> list[str]:
         return [FIX_OF_FENCE]
     late, wait = find_late(order, finding), choose_wait(finding, order)
     ways = mend_late(order.plan, late) if late else mend_early(order.plan, finding)
-    ways += [say(wait, finding) + say_by_mpi(finding, order, bool(ways))] if wait else []
+    ways += [say(wait, finding) + say_by_mpi(finding, order, is_named=bool(ways))] if wait else []
     # A barrier may keep a message from its receive, so it isn't named beside one.
     ways += [] if late else [say_barrier(finding, order)]
     if finding.verbs != ("lookup", "publish") or wait:
@@ -230,7 +230,7 @@ def list_fixes(finding: Finding, order: Order) -> list[str]:
     return [*ways[:-1], ways[-1] + say_no_wait(finding, order)]
 
 
-def say_by_mpi(finding: Finding, order: Order, is_named: bool) -> str:
+def say_by_mpi(finding: Finding, order: Order, *, is_named: bool) -> str:
     """What a program with MPI can do in the place of a lookup that waits, unless a message is named
     that orders the two if it is moved; nothing for others."""
     if finding.kind is not Kind.NAME or not is_of_mpi(order.plan):

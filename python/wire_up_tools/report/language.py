@@ -5,7 +5,6 @@ A recorded plan has names that stand for messages of MPI, and fences that stand 
 comment above such a line says which, as far as that is known: `# MPI: barrier`.
 """
 import re
-from typing import Optional
 
 from wire_up_tools.plan import Call
 from wire_up_tools.report.phrases import count_of
@@ -33,14 +32,14 @@ TAG = re.compile(r"tag -?\d+")
 SIZED = re.compile(r"(number|text|bytes):(\d+)")
 
 
-def name_verb(verb: str, is_recorded: bool) -> str:
+def name_verb(verb: str, *, is_recorded: bool) -> str:
     """What calls of a verb are called."""
     return " ".join(NAMES[verb].format("").split()) if is_recorded else verb
 
 
 def name_kind(call: Call) -> str:
     """What a call is called, without what it is about."""
-    return name_mpi(call) or name_verb(call.verb, call.rank.is_recorded)
+    return name_mpi(call) or name_verb(call.verb, is_recorded=call.rank.is_recorded)
 
 
 def name_bare(call: Call) -> str:
@@ -82,7 +81,7 @@ def name_function(remark: str) -> str:
     return f"MPI_{remark.capitalize()}"
 
 
-def say_value(value: str, is_recorded: bool) -> str:
+def say_value(value: str, *, is_recorded: bool) -> str:
     """A value as a reader takes it. Of one for which a recorded plan has only the size: that."""
     sized = SIZED.fullmatch(value) if is_recorded else None
     if not sized:
@@ -91,7 +90,7 @@ def say_value(value: str, is_recorded: bool) -> str:
     return size if sized[1] == "bytes" else f"a {sized[1]} of {size}"
 
 
-def find_message(call: Call) -> Optional["re.Match[str]"]:
+def find_message(call: Call) -> "re.Match[str] | None":
     """The message for which the name of a recorded call stands, if it stands for one."""
     on_name = call.rank.is_recorded and call.verb in ("publish", "lookup-wait")
     return MESSAGE.fullmatch(call.about) if on_name else None

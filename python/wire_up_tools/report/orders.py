@@ -36,7 +36,7 @@ class Reach:
         return (self.number, self.has_left) > (other.number, other.has_left)
 
 
-START = Reach(0, True)
+START = Reach(0, has_left=True)
 
 
 @dataclass(frozen=True, eq=False)
@@ -90,7 +90,7 @@ class Backwards:
 
     def find(self, call: Call) -> dict[Rank, Reach]:
         """How far each rank has surely come when a call comes."""
-        self.reach(call.rank, Reach(call.number, False))
+        self.reach(call.rank, Reach(call.number, has_left=False))
         while self.waiting:
             self.look(*self.waiting.pop())
         return self.reached
@@ -110,10 +110,10 @@ class Backwards:
             stop = stops[at]
             has_left = stop.number < end.number or end.has_left
             if stop.awaited:
-                self.reach(stop.awaited.rank, Reach(stop.awaited.number, True))
+                self.reach(stop.awaited.rank, Reach(stop.awaited.number, has_left=True))
             elif stop.meeting and has_left:
                 for call in stop.meeting.calls:
-                    self.reach(call.rank, Reach(call.number, False))
+                    self.reach(call.rank, Reach(call.number, has_left=False))
             at += 1
 
 

@@ -100,7 +100,7 @@ class Settled:
         return [*self.waits, *self.later, *(failing.call for failing in self.fails)]
 
 
-def read_settled(lines: Sequence[str], is_complete: bool) -> Settled | None:
+def read_settled(lines: Sequence[str], *, is_complete: bool) -> Settled | None:
     """What an answer says whose first line is that nothing is found; None for one of another form.
     `is_complete`: whether each call is said to succeed."""
     said = Settled(is_complete)

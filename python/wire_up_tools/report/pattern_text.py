@@ -14,7 +14,7 @@ def write_pattern(pattern: Pattern, named: Collection[int], of: str) -> str:
     """The pattern, in which some lines are named. `of` is how links to its lines begin."""
     lines = pattern.lines
     shown = [
-        write_plan_line(number, line, number in named, of)
+        write_plan_line(number, line, of, is_named=number in named)
         for number, line in enumerate(lines[:SHOWN], 1)
     ]
     rest = len(lines) - len(shown)

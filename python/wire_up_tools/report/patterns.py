@@ -124,7 +124,7 @@ def judge_pattern(path: str, asker: Asker) -> CleanPattern | Counterexample:
     pattern = Pattern(path, split_lines(asker.data))
     if answer.status == FOUND and answer.stdout.startswith(FIRST_COMMENT):
         return Counterexample(pattern, answer.stdout.encode())
-    said = read_settled(answer.stdout.splitlines(), answer.status == CLEAN)
+    said = read_settled(answer.stdout.splitlines(), is_complete=answer.status == CLEAN)
     if not said:
         raise asker.refuse("verdict on a pattern")
     sized = None if said.is_answered else find_sized(small, list_groups(pattern), said)

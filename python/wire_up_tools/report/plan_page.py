@@ -24,7 +24,7 @@ def write_plan(report: Report) -> str:
     before = 0
     for number in shown:
         parts += write_left_out(number - before - 1)
-        parts.append(write_plan_line(number, lines[number - 1], number in named))
+        parts.append(write_plan_line(number, lines[number - 1], is_named=number in named))
         before = number
     parts += write_left_out(len(lines) - before)
     return "\n".join([*parts, "</div></section>"])
@@ -66,7 +66,7 @@ def write_left_out(count: int) -> list[str]:
     return [f'<div class="cut"><b>…</b>{count_of(count, "line")}</div>'] if count > 0 else []
 
 
-def write_plan_line(number: int, line: str, is_named: bool, of: str = "line") -> str:
+def write_plan_line(number: int, line: str, of: str = "line", *, is_named: bool) -> str:
     """A line of the plan. A long one is cut, and has its whole as a title. `of` is how links to it
     begin."""
     said = line.split()

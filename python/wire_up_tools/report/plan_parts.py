@@ -43,7 +43,7 @@ def list_parts(plan: Plan, data: bytes) -> Iterator[PlanPart]:
     """The parts of a plan in these bytes: a plan that isn't large is one."""
     count = 1 if plan.declared.keeps else -(-count_bytes(plan) // PART_BYTES)
     if count < 2:
-        yield PlanPart(data, {rank.name: [Stretch(1, 1, True)] for rank in plan.ranks})
+        yield PlanPart(data, {rank.name: [Stretch(1, 1, is_told=True)] for rank in plan.ranks})
         return
     for number in range(count):
         yield make_part(plan, number, count)
@@ -89,25 +89,27 @@ class Script:
         """Writes the calls of a rank."""
         for entry in plan.list_outline(rank):
             if isinstance(entry, Call):
-                self.add(entry.number, 1, self.number == 0, f"{' '.join(entry.words)}\n".encode())
+                text = f"{' '.join(entry.words)}\n".encode()
+                self.add(entry.number, 1, text, is_told=self.number == 0)
             elif entry.verb == AT_ONCE:
                 self.add_cut(entry)
             else:
-                self.add(entry.first, entry.count, self.number == 0, bytes(entry.data))
+                self.add(entry.first, entry.count, bytes(entry.data), is_told=self.number == 0)
 
     def add_cut(self, series: Series) -> None:
         """Writes the gets of a series that belong to this part."""
         text = bytes(series.data)
         start, end = (self.find_cut(text, number) for number in (self.number, self.number + 1))
         before = text.count(b"\n", 0, start)
-        self.add(series.first + before, text.count(b"\n", start, end), True, text[start:end])
+        count = text.count(b"\n", start, end)
+        self.add(series.first + before, count, text[start:end], is_told=True)
 
     def find_cut(self, text: bytes, number: int) -> int:
         """Where the gets of a part begin among all of a series: with a line."""
         at = len(text) * number // self.count
         return text.rfind(b"\n", 0, at) + 1 if at < len(text) else at
 
-    def add(self, number: int, count: int, is_told: bool, text: bytes) -> None:
+    def add(self, number: int, count: int, text: bytes, *, is_told: bool) -> None:
         """Writes calls of which the first has this number in the plan."""
         self.pieces.append(text)
         if count:

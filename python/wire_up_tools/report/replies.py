@@ -4,14 +4,13 @@ import dataclasses
 import re
 from collections.abc import Mapping
 from dataclasses import dataclass, field
-from typing import Optional
 
 from wire_up_tools.plan import Call, Plan
 from wire_up_tools.report.asking import Asker, stream_blocks
 from wire_up_tools.report.plan_parts import PlanPart, list_parts
 
 # At which call each rank waits for ever, by the name of the rank; None for one that doesn't wait.
-WaitingAt = Mapping[str, Optional[int]]
+WaitingAt = Mapping[str, int | None]
 # How many calls that fail are listed.
 LISTED = 40
 # A call that doesn't succeed, and the last line.

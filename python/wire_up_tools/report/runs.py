@@ -1,5 +1,6 @@
 """Two runs that show a race, as `wire_up witness --json` and `wire_up follow --json` tell them."""
 import enum
+import functools
 import tempfile
 import time
 from collections.abc import Mapping, Sequence
@@ -109,10 +110,10 @@ def read_runs(asker: Asker, finding: Finding, said: Any) -> list[Run]:
     shown = f"{said['shown']['proc']} {said['shown']['call']}"
     orders = [said[word]["order"] for word in ("first", "second")]
     recorded, verb = finding.first.rank.is_recorded, said["shown"]["verb"]
-    ends = [follow(asker, order, recorded) for order in orders]
+    ends = [follow(asker, order, is_recorded=recorded) for order in orders]
     differing = [call for call in list_differing(*ends) if call != shown]
-    verb = name_verb(verb, recorded)
-    told = [describe_end(said[word], recorded) for word in ("first", "second")]
+    verb = name_verb(verb, is_recorded=recorded)
+    told = [describe_end(said[word], is_recorded=recorded) for word in ("first", "second")]
     return [
         Run(call, order, [End(shown, verb, end), *(of_run[each_call] for each_call in differing)])
         for call, order, end, of_run in zip(finding.calls, orders, told, ends)
@@ -124,7 +125,7 @@ def list_differing(one: Mapping[str, End], other: Mapping[str, End]) -> list[str
     return [call for call in one if call in other and one[call] != other[call]]
 
 
-def follow(asker: Asker, order: Sequence[str], is_recorded: bool) -> dict[str, End]:
+def follow(asker: Asker, order: Sequence[str], *, is_recorded: bool) -> dict[str, End]:
     """How each call ends in the run of an order, by its name; none if it can't be followed."""
     with tempfile.NamedTemporaryFile(
         "w", prefix="wire_up-report-", suffix=".order", encoding="ascii"
@@ -132,8 +133,10 @@ def follow(asker: Asker, order: Sequence[str], is_recorded: bool) -> dict[str, E
         to.writelines(f"{step}\n" for step in order)
         to.flush()
         said = read_json(asker.ask("follow", "--json", to.name))
+    name_of = functools.partial(name_verb, is_recorded=is_recorded)
+    describe = functools.partial(describe_end, is_recorded=is_recorded)
     calls = (
-        End(name, name_verb(call["verb"], is_recorded), describe_end(call, is_recorded))
+        End(name, name_of(call["verb"]), describe(call))
         for rank in said.get("ranks", ())
         for number, call in enumerate(rank["calls"], 1)
         for name in [f"{rank['proc']} {number}"]
@@ -141,9 +144,9 @@ def follow(asker: Asker, order: Sequence[str], is_recorded: bool) -> dict[str, E
     return {each_call.call: each_call for each_call in calls}
 
 
-def describe_end(said: Any, is_recorded: bool) -> str:
+def describe_end(said: Any, *, is_recorded: bool) -> str:
     """The reply to a call, and its value if it has one."""
     if "value" not in said:
         return str(said["reply"])
-    value = say_value(said["value"], is_recorded)
+    value = say_value(said["value"], is_recorded=is_recorded)
     return f"{said['reply']}{',' * (value != said['value'])} {value}"

@@ -96,7 +96,7 @@ def ask_to_end(process: "subprocess.Popen[bytes]") -> None:
         ends_within(process, PATIENCE)
 
 
-def wait_until_gone(process: "subprocess.Popen[bytes]", is_fake: bool, limit: float) -> None:
+def wait_until_gone(process: "subprocess.Popen[bytes]", limit: float, *, is_fake: bool) -> None:
     """Waits until what was killed is gone: a launcher, with fake nodes all of its session. A line
     says what isn't gone in time."""
     left = list_left(process.pid) if is_fake else []
@@ -110,7 +110,7 @@ def wait_until_gone(process: "subprocess.Popen[bytes]", is_fake: bool, limit: fl
         say(f"killed, and not gone in {limit:g} seconds: process {numbers}")
 
 
-def end_process(process: "subprocess.Popen[bytes]", is_fake: bool, limit: float = LIMIT) -> None:
+def end_process(process: "subprocess.Popen[bytes]", limit: float = LIMIT, *, is_fake: bool) -> None:
     """Ends a launcher with all that it started. Once this returns, what was killed is gone, or a
     line says so."""
     if is_fake:
@@ -119,5 +119,5 @@ def end_process(process: "subprocess.Popen[bytes]", is_fake: bool, limit: float 
         ask_to_end(process)
     with contextlib.suppress(ProcessLookupError):
         os.killpg(process.pid, signal.SIGKILL)
-    wait_until_gone(process, is_fake, limit)
+    wait_until_gone(process, limit, is_fake=is_fake)
     process.poll()

@@ -41,7 +41,7 @@ class Held:
     disturbs what is done then.
     """
 
-    def __init__(self, is_held: bool) -> None:
+    def __init__(self, *, is_held: bool) -> None:
         self.is_held, self.was_held = is_held, False
         self.is_main = threading.current_thread() is threading.main_thread()
 
@@ -63,12 +63,12 @@ class Held:
 
 def held() -> Held:
     """Puts signals off."""
-    return Held(True)
+    return Held(is_held=True)
 
 
 def released() -> Held:
     """Lets signals come in a part of what is done while they are put off."""
-    return Held(False)
+    return Held(is_held=False)
 
 
 def ignore_signals() -> None:

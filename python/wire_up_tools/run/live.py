@@ -251,7 +251,7 @@ class Run:
         node_of = hold_places(list(self.ranks.values()))
         self.begin()
         self.follow()
-        report = make_report(self.plan, self.ranks, node_of, self.task.is_held)
+        report = make_report(self.plan, self.ranks, node_of, is_held=self.task.is_held)
         self.dismiss()
         return Outcome(report, self.library, self.turns.late if self.turns else ())
 
@@ -343,7 +343,7 @@ def start_process(task: Task, setting: Setting, folder: Path, hall: Hall) -> Run
 def end(run: Run) -> None:
     """Ends a run: its ranks first, which end where nobody listens any more."""
     run.hall.close()
-    end_process(run.process, is_among_fake_nodes(run.setting))
+    end_process(run.process, is_fake=is_among_fake_nodes(run.setting))
     if run.process.stdout:
         run.process.stdout.close()
 

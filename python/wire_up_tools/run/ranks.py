@@ -101,7 +101,7 @@ def translate_host(reply: str, node_of: Mapping[str, str]) -> str:
     return f"{status} {node}" if node else reply
 
 
-def write_reply(call: Call, live: LiveRank, node_of: Mapping[str, str], is_held: bool) -> str:
+def write_reply(call: Call, live: LiveRank, node_of: Mapping[str, str], *, is_held: bool) -> str:
     """What became of a call. `is_held`: the order is over, so that no rank begins a call."""
     at, ended = call.number - 1, len(live.replies) - live.is_given_up
     if at > ended:
@@ -114,14 +114,14 @@ def write_reply(call: Call, live: LiveRank, node_of: Mapping[str, str], is_held:
 
 
 def make_report(
-    plan: Plan, ranks: Mapping[str, LiveRank], node_of: Mapping[str, str], is_held: bool
+    plan: Plan, ranks: Mapping[str, LiveRank], node_of: Mapping[str, str], *, is_held: bool
 ) -> Report:
     """The report of what became of all calls."""
     lines = []
     for rank in plan.ranks:
         for call in plan.calls_of[rank.name]:
             place = Place(rank.name, call.number, call.verb)
-            lines.append(Line(place, write_reply(call, ranks[rank.name], node_of, is_held)))
+            lines.append(Line(place, write_reply(call, ranks[rank.name], node_of, is_held=is_held)))
     return Report(lines)
 
 

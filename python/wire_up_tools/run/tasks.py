@@ -6,7 +6,6 @@ import socket
 from collections.abc import Sequence
 from dataclasses import dataclass
 from pathlib import Path
-from typing import Union
 
 from wire_up_tools.checker import Checker, find_checker
 from wire_up_tools.failures import Refused
@@ -99,7 +98,7 @@ class PredictRequest:
     plan: str
 
 
-Request = Union[PlanRequest, WitnessRequest, SuiteRequest, ShowRequest, PredictRequest]
+Request = PlanRequest | WitnessRequest | SuiteRequest | ShowRequest | PredictRequest
 
 
 def read_file(path: str) -> bytes:

@@ -4,7 +4,7 @@ import re
 from collections.abc import Iterator, Mapping, Sequence
 from dataclasses import dataclass, field
 
-from wire_up_tools.record.patterns.scripts import ALL, ASKING, EACH, INDEXED, SELF
+from wire_up_tools.record.patterns.scripts import ALL, ASKING, EACH, INDEXED, SELF, Over
 
 HEADER = "pattern 1"
 # The words of a call.
@@ -15,13 +15,17 @@ Choices = Mapping[tuple[str, int, str], Sequence[str]]
 
 @dataclass(frozen=True)
 class ReadLoop:
-    """A loop over one role: which, in which order, and its lines. A loop over several roles is one
+    """A loop over one role: which, over whom of it, and its lines. A loop over several roles is one
     over each."""
 
     role: str
-    is_cyclic: bool
-    is_some: bool
+    over: Over
     lines: list[Line] = field(default_factory=list)
+
+    @property
+    def is_some(self) -> bool:
+        """Whether ranks may be left out."""
+        return self.over is Over.SOME
 
 
 @dataclass(frozen=True)
@@ -36,10 +40,11 @@ class ReadRole:
 
 def read_loops(words: Sequence[str]) -> list[ReadLoop]:
     """The loops that a line begins. They have the same lines."""
-    is_some, is_cyclic = words[1] == "some", words[-1] == "cyclic" and len(words) > 2
+    is_cyclic = words[-1] == "cyclic" and len(words) > 2
+    over = Over.SOME if words[1] == "some" else Over.CYCLIC if is_cyclic else Over.IN_ORDER
     lines = list[Line]()
-    roles = (words[2] if is_some else words[1]).split(",")
-    return [ReadLoop(role, is_cyclic, is_some, lines) for role in roles]
+    roles = (words[2] if over is Over.SOME else words[1]).split(",")
+    return [ReadLoop(role, over, lines) for role in roles]
 
 
 def read_pattern(text: str) -> list[ReadRole]:
@@ -140,7 +145,7 @@ class Instance:
         if rank in ranks:
             place = ranks.index(rank)
             before, after = ranks[:place], ranks[place + 1:]
-            ranks = after + before if loop.is_cyclic else before + after
+            ranks = after + before if loop.over is Over.CYCLIC else before + after
         is_chosen = loop.is_some and chosen is not None
         return [each_rank for each_rank in ranks if not is_chosen or each_rank in (chosen or ())]
 

@@ -2,7 +2,6 @@
 plans side by side."""
 from collections.abc import Iterator, Sequence
 from dataclasses import dataclass, field
-from typing import Union
 
 from wire_up_tools.record.patterns.scripts import (
     ASKING,
@@ -10,6 +9,7 @@ from wire_up_tools.record.patterns.scripts import (
     INDEXED,
     VALUES,
     NotSaid,
+    Over,
     Role,
     Roles,
     Said,
@@ -26,13 +26,22 @@ MOST_LINES, MOST_TURNS = 24, 20_000
 
 @dataclass(frozen=True)
 class Loop:
-    """A loop over a role: how its line ends (`workers`, `workers cyclic`, `some workers`), and the
+    """A loop over a role: over whom of it (`workers`, `workers cyclic`, `some workers`), and the
     lines of a turn."""
 
     group: Role
-    is_cyclic: bool
-    is_some: bool
+    over: Over
     lines: Sequence[str]
+
+    @property
+    def is_cyclic(self) -> bool:
+        """Whether it begins with the next rank."""
+        return self.over is Over.CYCLIC
+
+    @property
+    def is_some(self) -> bool:
+        """Whether ranks may be left out."""
+        return self.over is Over.SOME
 
     @property
     def head(self) -> str:
@@ -66,7 +75,7 @@ def rename_rank(said: str, old: str, new: str) -> str:
 
 
 # An item of a script: a line, or a loop.
-Item = Union[str, Loop]
+Item = str | Loop
 
 
 @dataclass(frozen=True)
@@ -172,13 +181,12 @@ class Search:
                 continue
             group = self.group_of[index][said.other]
             for lines in self.find_turns(index, state.at[index], said.other):
-                for is_cyclic, is_some in ((False, False), (True, False), (False, True)):
-                    loop = Loop(group, is_cyclic, is_some, lines)
-                    yield from self.go_through(loop, state)
+                for over in Over:
+                    yield from self.go_through(Loop(group, over, lines), state)
         for index, said in enumerate(self.find_next(state)):
             for role in self.find_named(index, said):
                 for lines in self.find_turns_for(index, state.at[index], role.name):
-                    yield from self.go_through(Loop(role, False, True, lines), state)
+                    yield from self.go_through(Loop(role, Over.SOME, lines), state)
 
     def go_through(self, loop: Loop, state: State) -> Iterator[State]:
         """How the search is after a loop, if it may come next."""

@@ -1,4 +1,5 @@
 """The calls of a plan in the words of a pattern: roles in the place of ranks."""
+import enum
 import itertools
 import re
 from collections.abc import Iterator, Mapping, Sequence
@@ -39,6 +40,15 @@ class Role:
     job: str
     ranks: Sequence[str]
     is_group: bool
+
+
+class Over(enum.Enum):
+    """Over whom of a group the loop of a rank goes: over the others in their order, over those from
+    the next one on, or over some."""
+
+    IN_ORDER = enum.auto()
+    CYCLIC = enum.auto()
+    SOME = enum.auto()
 
 
 class Said(NamedTuple):

@@ -1,4 +1,5 @@
 """Runs in which nothing is held: what differs between two of them is the program's own."""
+import enum
 from collections.abc import Sequence
 from dataclasses import dataclass, field, replace
 
@@ -26,20 +27,27 @@ class PlainRuns:
         return self.made[:count]
 
 
-def find_shape(text: str, is_parting: bool) -> Sequence[str]:
+class Of(enum.Enum):
+    """What a text tells: what became of a call, or which calls come next."""
+
+    A_CALL = enum.auto()
+    SEVERAL_CALLS = enum.auto()
+
+
+def find_shape(text: str, what: Of) -> Sequence[str]:
     """What of a reply, or of where calls part, isn't a value or a name: the status, or the
     verbs."""
-    items = text.split(", ") if is_parting else [text]
+    items = text.split(", ") if what is Of.SEVERAL_CALLS else [text]
     return tuple(part.partition(" ")[0] for part in items)
 
 
 def is_own(
-    difference: Difference, plain: Sequence[Difference], count: int, is_parting: bool
+    difference: Difference, plain: Sequence[Difference], count: int, what: Of
 ) -> bool:
     """Whether each of so many runs has another value or name there, two plain ones among them."""
     for other in plain:
         texts = {difference.first, difference.second, other.first, other.second}
-        shapes = {find_shape(text, is_parting) for text in texts}
+        shapes = {find_shape(text, what) for text in texts}
         is_same_call = (difference.process, difference.what) == (other.process, other.what)
         if is_same_call and len(texts) == count and len(shapes) == 1:
             return True
@@ -68,14 +76,15 @@ def leave_out_own(
         return compared
     two = plains.find(COMPARED)
     plain, count = compare(two, targets), len({id(run) for run in (*runs, *two)})
-    own = [target for target in compared.targets if is_own(target, plain.targets, count, False)]
-    own += [
+    own = [
         difference
-        for difference in compared.others
-        if is_own(difference, plain.others, count, False)
-    ]
-    own += [
-        parting for parting in compared.partings if is_own(parting, plain.partings, count, True)
+        for found, others, what in (
+            (compared.targets, plain.targets, Of.A_CALL),
+            (compared.others, plain.others, Of.A_CALL),
+            (compared.partings, plain.partings, Of.SEVERAL_CALLS),
+        )
+        for difference in found
+        if is_own(difference, others, count, what)
     ]
     return replace(
         compared,

@@ -198,7 +198,7 @@ def take_pairs(trial: Trial, asked: Asked, say: Say) -> tuple[list[Pair], bool]:
     return found, are_all
 
 
-def say_kept(trial: Trial, kept: int, count: int, are_all: bool, say: Say) -> str:
+def say_kept(trial: Trial, kept: int, count: int, say: Say, *, are_all: bool) -> str:
     """Says how many of so many orders were kept, and answers the line for the head. Where these are
     all, and each run makes the calls of the plan, it says so more strongly."""
     is_whole = are_all and kept == count
@@ -210,7 +210,7 @@ def say_kept(trial: Trial, kept: int, count: int, are_all: bool, say: Say) -> st
     return f"# {TURNED_IN_VAIN} {tell_day()}: {kept} of {count} pairs{of_all}"
 
 
-def say_turns(trial: Trial, turns: Sequence[Turn], are_all: bool, say: Say) -> list[str]:
+def say_turns(trial: Trial, turns: Sequence[Turn], say: Say, *, are_all: bool) -> list[str]:
     """Says what came of all pairs, and answers the lines for the head. `are_all`: the plan orders
     no other pairs."""
     kept = sum(turn.word == KEPT for turn in turns)
@@ -221,7 +221,7 @@ def say_turns(trial: Trial, turns: Sequence[Turn], are_all: bool, say: Say) -> l
         f"# {TURNED_ROUND} {tell_day()}, {turn.word}: {sum_up_turn(turn)}" for turn in others
     ]
     if kept:
-        head.append(say_kept(trial, kept, len(turns), are_all, say))
+        head.append(say_kept(trial, kept, len(turns), say, are_all=are_all))
     if alarms:
         say(
             f"orders that aren't imposed, so that calls are answered otherwise: {len(alarms)} of "
@@ -251,7 +251,7 @@ def turn_all(trial: Trial, asked: Asked, result: Result, say: Say) -> None:
     except OutOfTime:
         result.untried += pace.say_left("orders", len(turns), len(pairs))
     finally:
-        result.head += say_turns(trial, turns, are_all and len(turns) == len(pairs), say)
+        result.head += say_turns(trial, turns, say, are_all=are_all and len(turns) == len(pairs))
 
 
 # --- all ---

@@ -2,7 +2,6 @@
 import collections
 from collections.abc import Mapping
 from dataclasses import dataclass, field
-from typing import Optional
 
 from wire_up_tools.plan import Call, Plan, Rank
 from wire_up_tools.plan_reading import find_sets
@@ -187,7 +186,7 @@ class Question:
 
 
 # A reply as a report writes it; None: the call waits.
-Reply = Optional[str]
+Reply = str | None
 SUCCESS = "PMIX_SUCCESS"
 
 
