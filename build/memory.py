@@ -4,6 +4,7 @@ import os
 import subprocess
 import tempfile
 from collections.abc import Iterator, Sequence
+from pathlib import Path
 
 from build import kit
 from build.crates import Crate
@@ -13,7 +14,7 @@ from build.lanes import Machine
 # much of the free memory is given to proofs.
 SHARE, GIVEN = 0.6, 0.85
 # Where Linux keeps files in memory.
-MEMORY = "/dev/shm"
+MEMORY = Path("/dev/shm")
 # How many bytes the files take at most that the prover makes of one crate, and how many a proof of
 # a library takes beside them.
 FILES, TAKEN = 400 << 20, 2 << 30
@@ -38,7 +39,7 @@ def lanes_for(crates: Sequence[Crate]) -> int:
 
 
 @contextlib.contextmanager
-def files_in_memory(place: str = MEMORY) -> Iterator[None]:
+def files_in_memory(place: Path = MEMORY) -> Iterator[None]:
     """Within this, the prover makes its files in memory, where there is room for them, unless
     TMPDIR says where else. Of a library it writes thousands of small files, packs them, and removes
     them, which takes longer on a disk."""
@@ -69,7 +70,7 @@ def remover_of(room: str) -> "subprocess.Popen[bytes]":
     )
 
 
-def has_room(place: str) -> bool:
+def has_room(place: Path) -> bool:
     """Whether there is room in memory for a proof on each processor, and for its files at that
     place."""
     try:

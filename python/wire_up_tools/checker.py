@@ -58,7 +58,7 @@ class Checker:
             return False
 
 
-def find_checker(folder: str) -> str | None:
+def find_checker(folder: str | Path) -> str | None:
     """The path of the program beside the commands in a folder, else on the path of commands.
 
     None where there is none.

@@ -41,8 +41,7 @@ class Programs(BuildCase):
     def test_another_program_in_its_place(self) -> None:
         self.add_program()
         self.build(Prover())
-        with open(self.place("app", "out", "app"), "w", encoding="utf-8") as file:
-            file.write("another program\n")
+        self.place("app", "out", "app").write_text("another program\n", encoding="utf-8")
         self.assertEqual(["app"], self.asked())
         self.assertEqual("the program app\n", read(self.place("app", "out", "app")))
 
@@ -56,7 +55,7 @@ class Programs(BuildCase):
                 found = self.build(Prover(refused=[refused]))
                 self.assertEqual((["app"], ["app"]), found[:2])
                 self.assertEqual(ALL, self.built())
-                self.assertFalse(os.path.exists(self.place("app", "out", "app")))
+                self.assertFalse(self.place("app", "out", "app").exists())
 
 
 class Memory(BuildCase):
@@ -115,7 +114,7 @@ class Memory(BuildCase):
             patched = mock.patch.object(kit, "free", functools.partial(float, free))
             with self.subTest(name), patched, mock.patch.object(os, "statvfs", lambda _: found):
                 self.assertEqual(is_in_memory, self.is_made_in_memory(told))
-        self.assertFalse(memory.has_room(os.path.join(self.top, "none")))
+        self.assertFalse(memory.has_room(self.top / "none"))
 
     def is_made_in_memory(self, told: str) -> bool:
         """Whether the prover's files are made at the place for them, where TMPDIR says this."""
@@ -124,23 +123,23 @@ class Memory(BuildCase):
                 os.environ.pop("TMPDIR", None)
             with memory.files_in_memory(self.top):
                 room = os.environ.get("TMPDIR", "")
-                is_there = room != told and os.path.isdir(room)
+                is_there = room != told and Path(room).is_dir()
                 self.assertNotEqual(room or "none", tempfile.gettempdir())
             self.assertEqual(told, os.environ.get("TMPDIR", ""))
-            self.assertFalse(is_there and os.path.exists(room))
+            self.assertFalse(is_there and Path(room).exists())
         return is_there
 
     def test_removed_when_killed(self) -> None:
         """A folder goes with the program that made it."""
-        folder = os.path.join(self.top, "room")
-        os.makedirs(os.path.join(folder, "below"))
-        words = [sys.executable, "-c", KILL.format(folder=folder)]
+        folder = self.top / "room"
+        (folder / "below").mkdir(parents=True)
+        words = [sys.executable, "-c", KILL.format(folder=str(folder))]
         ended = subprocess.run(words, cwd=support.TOP, check=False).returncode
         self.assertEqual(-signal.SIGKILL, ended)
         until = time.monotonic() + 10
-        while os.path.exists(folder) and time.monotonic() < until:
+        while folder.exists() and time.monotonic() < until:
             time.sleep(0.1)
-        self.assertFalse(os.path.exists(folder))
+        self.assertFalse(folder.exists())
 
 
 class Remembered(BuildCase):
@@ -151,7 +150,7 @@ class Remembered(BuildCase):
         self.add_program()
         ours = self.crates(Prover())
         known = {each_crate.name: each_crate for each_crate in ours}
-        for theirs in kit.RT.rtlib.crates_below(self.top):
+        for theirs in kit.RT.rtlib.crates_below(str(self.top)):
             with self.subTest(theirs.name):
                 crate = known[theirs.name]
                 below = [each_crate.name for each_crate in crate.below()]
@@ -171,7 +170,7 @@ class Run(BuildCase):
 
     def test_time_is_noted(self) -> None:
         """At the end of the log, behind what the proofs said."""
-        log = os.path.join(self.top, "run.log")
+        log = self.top / "run.log"
         for text in "what the proofs said\n", "":
             with open(log, "a", encoding="utf-8") as file:
                 file.write(text)

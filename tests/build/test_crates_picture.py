@@ -1,5 +1,4 @@
 """Tests of docs/crates.svg: it shows the crates of crates.txt, and what each stands on."""
-import os
 import re
 import shutil
 import subprocess
@@ -7,14 +6,15 @@ import sys
 import tempfile
 import unittest
 from dataclasses import dataclass
+from pathlib import Path
 from xml.etree import ElementTree
 
 from tests.support import TOP
 
 
 SVG = "{http://www.w3.org/2000/svg}"
-PROGRAM = os.path.join("build", "crates_picture.py")
-PICTURE = os.path.join("docs", "crates.svg")
+PROGRAM = Path("build", "crates_picture.py")
+PICTURE = Path("docs", "crates.svg")
 
 Uses = dict[str, set[str]]
 
@@ -37,7 +37,7 @@ class Box:
 
 def read_table() -> Uses:
     """The crates of crates.txt, each with the crates of the table that it uses."""
-    with open(os.path.join(TOP, "crates.txt"), encoding="utf-8") as file:
+    with open(TOP / "crates.txt", encoding="utf-8") as file:
         lines = [line for line in file.read().splitlines() if line and not line.startswith("#")]
     parts = [line.partition(":") for line in lines]
     names = {name for name, _, _ in parts}
@@ -46,7 +46,7 @@ def read_table() -> Uses:
 
 def read_picture() -> ElementTree.Element:
     """The picture, as it is in docs/."""
-    return ElementTree.parse(os.path.join(TOP, PICTURE)).getroot()
+    return ElementTree.parse(TOP / PICTURE).getroot()
 
 
 def boxes_of(picture: ElementTree.Element) -> list[Box]:
@@ -120,12 +120,12 @@ class CratesPicture(unittest.TestCase):
         self.assertEqual(close(drawn), close(table))
 
     def test_old_picture_is_told(self) -> None:
-        with tempfile.TemporaryDirectory() as top:
+        with tempfile.TemporaryDirectory() as room:
+            top = Path(room)
             for path in (PROGRAM, PICTURE):
-                os.makedirs(os.path.dirname(os.path.join(top, path)))
-                shutil.copy(os.path.join(TOP, path), os.path.join(top, path))
-            with open(os.path.join(top, "crates.txt"), "w", encoding="utf-8") as file:
-                file.write("# Base: all\nlow:\nhigh: low\n")
+                (top / path).parent.mkdir(parents=True)
+                shutil.copy(TOP / path, top / path)
+            (top / "crates.txt").write_text("# Base: all\nlow:\nhigh: low\n", encoding="utf-8")
             done = subprocess.run([sys.executable, PROGRAM, "--check"], cwd=top, check=False,
                                   stdout=subprocess.PIPE, text=True)
             self.assertEqual(done.returncode, 1)

@@ -161,9 +161,9 @@ class TinyCase(unittest.TestCase):
     def setUp(self) -> None:
         folder = tempfile.TemporaryDirectory(prefix="wire-up-")
         self.addCleanup(folder.cleanup)
-        self.top = folder.name
+        self.top = Path(folder.name)
         make(self.top, EDITS)
-        self.crate = crates_at(Path(self.top), Crate)[0]
+        self.crate = crates_at(self.top, Crate)[0]
 
     def edit(self, name: str) -> Edit:
         """An edit that can be applied."""
@@ -249,7 +249,7 @@ class OurEdits(unittest.TestCase):
     """The edits of the repository."""
 
     def test_each_can_be_applied(self) -> None:
-        self.assertEqual([], not_applied(asked_for([], crates_at(Path(support.TOP), Crate))))
+        self.assertEqual([], not_applied(asked_for([], crates_at(support.TOP, Crate))))
 
 
 if __name__ == "__main__":

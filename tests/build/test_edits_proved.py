@@ -18,9 +18,10 @@ class ProvedEdits(unittest.TestCase):
 
     def hold(self, edits: dict[str, Wanted]) -> None:
         """Fails where an edit is judged in another way than it must be."""
-        with tempfile.TemporaryDirectory(prefix="wire-up-") as top:
+        with tempfile.TemporaryDirectory(prefix="wire-up-") as folder:
+            top = Path(folder)
             make(top, edits)
-            found = try_all(asked_for([], crates_at(Path(top), Crate)))
+            found = try_all(asked_for([], crates_at(top, Crate)))
         told = {path.name: outcome for path, outcome in found.items()}
         for name, wanted in edits.items():
             with self.subTest(name):

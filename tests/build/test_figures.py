@@ -1,10 +1,10 @@
 """Whether the program that makes the page of figures still works, and its page is short."""
-import os
 import re
 import subprocess
 import sys
 import tempfile
 import unittest
+from pathlib import Path
 
 from build import bench_plans, large_plans
 from build.figures import proofs
@@ -24,7 +24,7 @@ class Page(unittest.TestCase):
     def test_small_files(self) -> None:
         """It has a row for each plan, and few words beside its tables."""
         with tempfile.TemporaryDirectory(prefix="wire-up-") as room:
-            path = os.path.join(room, "figures.md")
+            path = Path(room, "figures.md")
             words = [sys.executable, "-m", "build.figures", support.program(), "--small"]
             ran = subprocess.run(
                 [*words, "--output", path],
@@ -35,8 +35,7 @@ class Page(unittest.TestCase):
                 check=False,
             )
             self.assertEqual(0, ran.returncode, ran.stderr)
-            with open(path, encoding="utf-8") as file:
-                text = file.read()
+            text = path.read_text(encoding="utf-8")
         for name in [kind.name for kind in bench_plans.KINDS] + [plan.name for plan in LARGE_PLANS]:
             with self.subTest(name):
                 self.assertRegex(text, rf"\n\| {name}(, [\d,]+ ranks)? \|")

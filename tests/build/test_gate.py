@@ -71,22 +71,21 @@ class TestRuns(unittest.TestCase):
     """The counts of tests: two pass, one of which fails as it must; two subtests, a test and a
     class fail."""
 
-    def write_tests(self, text: str) -> str:
+    def write_tests(self, text: str) -> Path:
         """The path of a file with these tests, which is alone in its folder."""
         room = tempfile.TemporaryDirectory(prefix="wire-up-")
         self.addCleanup(room.cleanup)
         # (a module of that name is imported once)
-        name = os.path.basename(room.name).replace("-", "_")
-        path = os.path.join(room.name, f"test_{name}.py")
-        with open(path, "w", encoding="utf-8") as file:
-            file.write(text)
+        name = Path(room.name).name.replace("-", "_")
+        path = Path(room.name, f"test_{name}.py")
+        path.write_text(text, encoding="utf-8")
         return path
 
     def run_plainly(self, text: str) -> tuple[Counts, str]:
         """The counts by unittest, and what is printed."""
         path, said = self.write_tests(text), io.StringIO()
         with contextlib.redirect_stdout(said), mock.patch.object(sys, "stdout", said):
-            counts = plain_tests.run_file(path, (), Path(path).parent)
+            counts = plain_tests.run_file(str(path), (), path.parent)
         return counts, said.getvalue()
 
     def test_unittest(self) -> None:
@@ -113,7 +112,7 @@ class TestRuns(unittest.TestCase):
             words = test_runs.Part("tests", "not alone", workers).words()
             ran = subprocess.run(
                 [python, "-m", "pytest", "-c", os.devnull, *words, path],
-                cwd=os.path.dirname(path),
+                cwd=path.parent,
                 capture_output=True,
                 text=True,
                 check=False,
@@ -134,7 +133,7 @@ class TestRuns(unittest.TestCase):
 
     def test_files_are_found(self) -> None:
         """The files are those that unittest finds."""
-        here = os.path.relpath(__file__, support.TOP)
+        here = str(Path(__file__).relative_to(support.TOP))
         self.assertIn(here, test_runs.test_files())
 
     def test_markers(self) -> None:

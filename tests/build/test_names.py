@@ -4,8 +4,6 @@ The definitions that count are the types and predicates of the crates' specs/, w
 with a capital letter. Names of data in small letters, such as `line_of`, are told by their types.
 """
 import collections
-import glob
-import os
 import re
 import unittest
 
@@ -35,12 +33,9 @@ OF_LISTS = {
 def crates_by_name() -> dict[str, list[str]]:
     """Of each definition's name the crates that define it."""
     found: dict[str, set[str]] = collections.defaultdict(set)
-    for path in glob.glob(os.path.join(TOP, "crates", "*", "specs", "*.antt")):
-        with open(path, encoding="utf-8") as file:
-            text = file.read()
-        crate = os.path.relpath(path, os.path.join(TOP, "crates")).split(os.sep)[0]
-        for name in DEFINITION.findall(text):
-            found[name].add(crate)
+    for path in (TOP / "crates").glob("*/specs/*.antt"):
+        for name in DEFINITION.findall(path.read_text(encoding="utf-8")):
+            found[name].add(path.parent.parent.name)
     return {name: sorted(crates) for name, crates in found.items()}
 
 

@@ -7,6 +7,7 @@ import subprocess
 import sys
 import tempfile
 import unittest
+from pathlib import Path
 
 from build.newer_root import ROOM
 from tests import support
@@ -25,7 +26,7 @@ class NewerRootTest(unittest.TestCase):
     def setUp(self) -> None:
         self.above = tempfile.mkdtemp()
         self.addCleanup(shutil.rmtree, self.above)
-        self.root = os.path.join(self.above, "root")
+        self.root = Path(self.above, "root")
         if shutil.disk_usage(self.above).free < ROOM:
             self.skipTest(f"there is no room in {self.above}")
 

@@ -1,5 +1,4 @@
 """What is installed: the Debian package, `make install`, the manual pages and the completions."""
-import glob
 import gzip
 import json
 import os
@@ -10,20 +9,22 @@ import subprocess
 import sys
 import unittest
 from collections.abc import Iterator, Sequence
+from pathlib import Path
 
 import helps
 import manual
 
 from tests import support
+from tests.support import Word
 from tests.support.needs import alone
 from tests.support.running import ProgramCase
 
 
-PACKAGING = os.path.join(support.TOP, "packaging")
-EXAMPLE = os.path.join(support.TOP, "examples", "early-get.plan")
-SHIPPED = os.path.join(support.TOP, "record", "recordings", "names")
+PACKAGING = support.TOP / "packaging"
+EXAMPLE = support.TOP / "examples" / "early-get.plan"
+SHIPPED = support.TOP / "record" / "recordings" / "names"
 # A program of one's own, with a race.
-OWN = os.path.join(support.TOP, "record", "programs", "early.c")
+OWN = support.TOP / "record" / "programs" / "early.c"
 # What a live program needs: its compiler and launcher. As root Open MPI must be told that this is
 # meant, and a small machine may have less cores.
 LIVE = ("mpicc", "mpirun", "make", "cc", "pkg-config")
@@ -87,7 +88,7 @@ Completed = subprocess.CompletedProcess[str]
 
 
 def run(
-    *words: str, folder: str | None = None, settings: dict[str, str] | None = None
+    *words: Word, folder: Path | None = None, settings: dict[str, str] | None = None
 ) -> Completed:
     """Runs a program in a folder, with these settings in its environment."""
     return subprocess.run(
@@ -109,19 +110,18 @@ def need(*names: str) -> None:
             raise unittest.SkipTest(f"there is no {name}")
 
 
-def files_below(folder: str) -> list[str]:
+def files_below(folder: Path) -> list[str]:
     """The files below a folder, from there."""
-    found = [os.path.join(path, name) for path, _, names in os.walk(folder) for name in names]
-    return sorted(os.path.relpath(text, folder) for text in found)
+    found = (path for path in folder.rglob("*") if not path.is_dir())
+    return sorted(str(path.relative_to(folder)) for path in found)
 
 
-def read(path: str) -> str:
+def read(path: Path) -> str:
     """The text of a file."""
-    with open(path, encoding="utf-8") as file:
-        return file.read()
+    return path.read_text(encoding="utf-8")
 
 
-def read_packed(path: str) -> str:
+def read_packed(path: Path) -> str:
     """The text of a file that gzip packed."""
     with gzip.open(path, "rt", encoding="utf-8") as file:
         return file.read()
@@ -137,17 +137,17 @@ def found_in(pattern: str, text: str) -> str:
 class InstalledCase(ProgramCase):
     """Tests of what is below a prefix."""
 
-    def hold_works(self, prefix: str) -> None:
+    def hold_works(self, prefix: Path) -> None:
         """Holds that the program below a prefix finds the race of the example, the reporter there
         tells it by that program, and the recorder there, if it is, makes a plan."""
-        programs = os.path.join(prefix, "bin")
-        ran = run(os.path.join(programs, "wire_up"), "check", EXAMPLE)
+        programs = prefix / "bin"
+        ran = run(programs / "wire_up", "check", EXAMPLE)
         self.told_alike((1, FOUND, ""), (ran.returncode, ran.stdout, ran.stderr))
-        ran = run(os.path.join(programs, "wire_up-report"), "--text", EXAMPLE)
+        ran = run(programs / "wire_up-report", "--text", EXAMPLE)
         self.assertEqual(1, ran.returncode, f"{ran.stdout}{ran.stderr}")
         self.assertTrue(ran.stdout.startswith("early-get.plan: 1 race\n"), ran.stdout)
-        recorder = os.path.join(programs, "wire_up-record")
-        if os.path.exists(recorder):
+        recorder = programs / "wire_up-record"
+        if recorder.exists():
             ran = run(recorder, "-o", "-", "--from", SHIPPED)
             self.assertTrue(ran.stdout.startswith("# Recorded by wire_up-record"), ran.stderr)
 
@@ -161,10 +161,10 @@ class Package(InstalledCase):
     def setUpClass(cls) -> None:
         super().setUpClass()
         need("dpkg-deb")
-        os.chmod(cls.room, 0o755)
+        cls.room.chmod(0o755)
         if all(map(shutil.which, LIVE)):
             run("make", "-s", "record", "record-mpi", folder=support.TOP)
-        maker = os.path.join(PACKAGING, "deb.py")
+        maker = PACKAGING / "deb.py"
         ran = run(sys.executable, maker, cls.program, cls.room)
         if ran.returncode:
             raise AssertionError(f"no package was built: {ran.stderr}")
@@ -178,29 +178,29 @@ class Package(InstalledCase):
 
     def test_versions(self) -> None:
         """All that says a version says the same."""
-        said = dict(self.versions(os.path.join(self.room, "unpacked")))
+        said = dict(self.versions(self.room / "unpacked"))
         self.assertEqual(1, len(set(said.values())), str(said))
 
-    def versions(self, room: str) -> Iterator[tuple[str, str]]:
+    def versions(self, room: Path) -> Iterator[tuple[str, str]]:
         """What says a version, and which: the program, the package, its changes, the changes of the
         repository, manual pages, SARIF, the page. The package is unpacked for it: where a machine
         installs no documents, dpkg leaves them out below another root too."""
         run("dpkg-deb", "--extract", self.deb, room)
-        usr = os.path.join(room, "usr")
-        programs, share = os.path.join(usr, "bin"), os.path.join(usr, "share")
-        ran = run(os.path.join(programs, "wire_up"), "--version")
+        usr = room / "usr"
+        programs, share = usr / "bin", usr / "share"
+        ran = run(programs / "wire_up", "--version")
         yield "the program", ran.stdout.removeprefix("wire_up ").strip()
         yield "the package", run("dpkg-deb", "--field", self.deb, "Version").stdout.strip()
-        yield "the package's name", os.path.basename(self.deb).split("_")[1]
-        changes = read_packed(os.path.join(share, "doc", "wire-up", "changelog.gz"))
+        yield "the package's name", Path(self.deb).name.split("_")[1]
+        changes = read_packed(share / "doc" / "wire-up" / "changelog.gz")
         yield "the package's changes", found_in(r"\Awire-up \((.*?)\)", changes)
-        changes = read(os.path.join(support.TOP, "CHANGELOG.md"))
+        changes = read(support.TOP / "CHANGELOG.md")
         yield "CHANGELOG.md", found_in(r"(?m)^## (\S+)", changes)
-        for path in glob.glob(os.path.join(share, "man", "man*", "*.gz")):
+        for path in (share / "man").glob("man*/*.gz"):
             title = read_packed(path)
-            yield os.path.basename(path), found_in(r'\A\.TH .*"wire_up (\S+)"\n', title)
-        page, sarif = os.path.join(room, "it.html"), os.path.join(room, "it.sarif")
-        run(os.path.join(programs, "wire_up-report"), "-o", page, "--sarif", sarif, EXAMPLE)
+            yield path.name, found_in(r'\A\.TH .*"wire_up (\S+)"\n', title)
+        page, sarif = room / "it.html", room / "it.sarif"
+        run(programs / "wire_up-report", "-o", page, "--sarif", sarif, EXAMPLE)
         yield "the page", found_in(r"checked by wire_up (\S+)", read(page))
         yield "SARIF", json.loads(read(sarif))["runs"][0]["tool"]["driver"]["version"]
 
@@ -209,47 +209,47 @@ class Package(InstalledCase):
         commands of README.md, and is removed without a trace."""
         if os.geteuid():
             raise unittest.SkipTest("to install below a root of its own takes the rights of root")
-        root = os.path.join(self.room, "root")
+        root = self.room / "root"
         for folder in ("updates", "info"):
-            os.makedirs(os.path.join(root, "var", "lib", "dpkg", folder))
-        open(os.path.join(root, "var", "lib", "dpkg", "status"), "w", encoding="ascii").close()
+            (root / "var" / "lib" / "dpkg" / folder).mkdir(parents=True)
+        (root / "var" / "lib" / "dpkg" / "status").touch()
         dpkg = ["dpkg", f"--root={root}", *DPKG]
         ran = run(*dpkg, "--install", self.deb)
         self.assertEqual(0, ran.returncode, ran.stderr)
-        usr = os.path.join(root, "usr")
+        usr = root / "usr"
         with self.subTest("works"):
             self.hold_works(usr)
         with self.subTest("the commands of README.md"):
-            self.hold_commands(usr, os.path.join(self.room, "own"))
+            self.hold_commands(usr, self.room / "own")
         with self.subTest("is removed"):
             ran = run(*dpkg, "--purge", "wire-up")
             left = [file for file in files_below(root) if not file.startswith("var/lib/dpkg/")]
             self.told_alike((0, []), (ran.returncode, left))
 
-    def hold_commands(self, usr: str, room: str) -> None:
+    def hold_commands(self, usr: Path, room: Path) -> None:
         """Holds that the commands of README.md lead to the diagram of the race of a program. The
         package is installed already, below `usr`."""
-        text = read(os.path.join(support.TOP, "README.md")).partition("\n**By the recorder**")[2]
+        text = read(support.TOP / "README.md").partition("\n**By the recorder**")[2]
         block = found_in(r"\n((?:    .*\n)+)", text)
         first, *others = (part.strip() for part in block.split("\n    "))
-        self.assertIn(f" ./{os.path.basename(self.deb)} ", first)
+        self.assertIn(f" ./{Path(self.deb).name} ", first)
         self.assertEqual(3, len(others))
         need(*LIVE)
-        programs = os.path.join(usr, "bin")
-        if not os.path.exists(os.path.join(programs, "wire_up-record")):
+        programs = usr / "bin"
+        if not (programs / "wire_up-record").exists():
             raise unittest.SkipTest("the recorder isn't built")
-        if re.search(r"[\s:;]", usr):
+        if re.search(r"[\s:;]", str(usr)):
             raise unittest.SkipTest("the path of the package has a space")
         path = f"{programs}{os.pathsep}{os.environ.get('PATH', os.defpath)}"
         self.hold_by_hand(others, {**MPI, "PATH": path}, room)
 
-    def hold_by_hand(self, commands: Sequence[str], settings: dict[str, str], room: str) -> None:
+    def hold_by_hand(self, commands: Sequence[str], settings: dict[str, str], room: Path) -> None:
         """Compiles a program in a new folder and runs the commands there. On a slow machine the
         race may go the other way, and MPI ends the program: so it is tried again."""
         ran: list[Completed] = []
         for n in range(TRIES):
-            folder = os.path.join(room, str(n))
-            os.makedirs(folder)
+            folder = room / str(n)
+            folder.mkdir(parents=True)
             ran = [run("mpicc", "-g", "-o", "program", OWN, folder=folder, settings=settings)]
             ran += [
                 run("sh", "-c", command, folder=folder, settings=settings) for command in commands
@@ -263,7 +263,7 @@ class Package(InstalledCase):
             ]
         )
         self.assertEqual([0, 0, 1, 1], [each_ran.returncode for each_ran in ran], told)
-        page = read(os.path.join(folder, "report.html"))
+        page = read(folder / "report.html")
         for part in DIAGRAM:
             self.assertIn(part, page)
 
@@ -271,26 +271,26 @@ class Package(InstalledCase):
 class Install(InstalledCase):
     """What `make install` puts in place."""
 
-    def make_install(self, room: str) -> str:
+    def make_install(self, room: Path) -> Path:
         """Installs below a folder, and answers the prefix."""
         words = [f"PROGRAM={self.program}", f"DESTDIR={room}", "PREFIX=/opt/it"]
         ran = run("make", "-s", "install", *words, folder=support.TOP)
         self.assertEqual(0, ran.returncode, ran.stderr)
-        return os.path.join(room, "opt", "it")
+        return room / "opt" / "it"
 
     def test_installs(self) -> None:
-        prefix = self.make_install(os.path.join(self.room, "made"))
+        prefix = self.make_install(self.room / "made")
         self.assertEqual([], sorted(INSTALLED.difference(files_below(prefix))))
         self.hold_works(prefix)
 
     def test_no_file_of_an_earlier_version_stays(self) -> None:
         """What an earlier version had of the package of the recorder and the reporter goes."""
-        room = os.path.join(self.room, "twice")
+        room = self.room / "twice"
         prefix = self.make_install(room)
-        old = os.path.join(prefix, "share", "wire_up", "wire_up_tools", "gone.py")
-        open(old, "w", encoding="utf-8").close()
+        old = prefix / "share" / "wire_up" / "wire_up_tools" / "gone.py"
+        old.touch()
         self.make_install(room)
-        self.assertFalse(os.path.exists(old))
+        self.assertFalse(old.exists())
         self.hold_works(prefix)
 
 
@@ -299,10 +299,9 @@ class Pages(ProgramCase):
 
     def shown(self, name: str) -> str:
         """A page as `man` shows it."""
-        manual.write_page(name, self.program, self.room)
-        path = os.path.join(self.room, name)
-        words = ["man", "--warnings", "-Tutf8", "-P", "cat", "-l", path]
-        ran = run(*words, settings=READER)
+        manual.write_page(name, self.program, str(self.room))
+        words = ("man", "--warnings", "-Tutf8", "-P", "cat", "-l")
+        ran = run(*words, self.room / name, settings=READER)
         self.assertEqual((0, ""), (ran.returncode, ran.stderr))
         return re.sub("\u2010\n\\s*", "", re.sub(r"\x1b\[[\d;]*m|.\x08", "", ran.stdout))
 
@@ -311,7 +310,7 @@ class Pages(ProgramCase):
         if name == "wire_up.5":
             return ["rehearsal 2", "keep", "get-now", "lookup-wait"]
         for script in (manual.RECORDER, manual.REPORTER, manual.RUNNER):
-            if name == f"{os.path.basename(script)}.1":
+            if name == f"{Path(script).name}.1":
                 return [
                     each_name
                     for option in helps.of_script(script).options
@@ -340,14 +339,14 @@ class Completions(ProgramCase):
     @classmethod
     def setUpClass(cls) -> None:
         super().setUpClass()
-        maker = os.path.join(PACKAGING, "completions.py")
+        maker = PACKAGING / "completions.py"
         ran = run(sys.executable, maker, cls.program, cls.room)
         if ran.returncode:
             raise AssertionError(f"no completions were made: {ran.stderr}")
 
     def file(self, shell: str, line: str, name: str) -> str:
         """The path of the completions of the program that a line begins with."""
-        return os.path.join(self.room, shell, name.format(line.split()[0]))
+        return str(self.room / shell / name.format(line.split()[0]))
 
     def test_bash(self) -> None:
         need("bash")

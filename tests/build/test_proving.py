@@ -4,6 +4,7 @@ import os
 import shutil
 import unittest
 from collections.abc import Callable
+from pathlib import Path
 
 from build import records
 from build.crates import Crate
@@ -88,7 +89,7 @@ class Proving(BuildCase):
         seen = []
 
         def look(crate: Crate) -> None:
-            seen.append(os.path.exists(records.stamp_of(crate)))
+            seen.append(records.stamp_of(crate).exists())
 
         self.build(Prover(meanwhile=look))
         self.assertEqual([False] * 3, seen)
@@ -180,7 +181,7 @@ class BuiltOnceMore(BuildCase):
         """`rt` takes a library as built whatever its verdict says: so it is proved here."""
         self.build(Prover())
         low = self.crate("low", Prover())
-        shutil.rmtree(os.path.dirname(low.rlib))
+        shutil.rmtree(Path(low.rlib).parent)
         with open(os.devnull, "w", encoding="utf-8") as low.out:
             low.build_rlib(["--jobs", "1"], anew=False)
         self.assertIn("low", self.built_for_rt())

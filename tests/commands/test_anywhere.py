@@ -1,7 +1,6 @@
 """`check --anywhere` of random plans of up to five ranks, held to `check` and `replay` of all their
 placements; and each race that it names, held to `check` and `witness` of the placement that `place`
 writes. And what the recorder says of other placements."""
-import os
 import random
 import subprocess
 import unittest
@@ -79,7 +78,7 @@ class Anywhere(ProgramCase):
     def test_recorder(self) -> None:
         """The recorder says what is found on other placements alone."""
         for name, said in ELSEWHERE.items():
-            path = os.path.join(support.TOP, "examples", f"{name}.plan")
+            path = support.TOP / "examples" / f"{name}.plan"
             with self.subTest(name), open(path, encoding="ascii") as file:
                 self.assertEqual(said, judge_placements(Checker(self.program), file.read()))
 

@@ -1,6 +1,6 @@
 """Runs `check` of the built program: findings, and with `--lines` their groups."""
-import os
 import unittest
+from pathlib import Path
 
 from tests.support.running import (
     EARLY_GET,
@@ -24,7 +24,7 @@ from tests.support.running import (
 )
 
 
-def checks(room: str) -> Runs:
+def checks(room: Path) -> Runs:
     """The runs of `check`, as lines of findings and with `--lines`."""
     yield from checks_of_plans(room)
     yield from refused_checks(room)
@@ -35,14 +35,14 @@ def checks(room: str) -> Runs:
     yield from groups_that_fail(room)
 
 
-def twice_plan(room: str) -> str:
+def twice_plan(room: Path) -> str:
     """The path of a plan in which two ranks publish the same names."""
     names = b"".join(b"publish x%d 1\n" % n for n in range(4096))
     head = b"rehearsal 1\nnode n0\njob app\n"
     return written(room, "twice.plan", head + (b"rank n0\n" + names) * 2)
 
 
-def checks_of_plans(room: str) -> Runs:
+def checks_of_plans(room: Path) -> Runs:
     """Checks of plans."""
     plan = text_of(EXAMPLE)
     races = text_of("tests/examples/early-get.findings")
@@ -63,7 +63,7 @@ def checks_of_plans(room: str) -> Runs:
     yield Run("help on check", ["check", "--help"], wrote=(b"Usage: wire_up check",))
 
 
-def refused_checks(room: str) -> Runs:
+def refused_checks(room: Path) -> Runs:
     """Checks of what is refused, or of too much."""
     odd = odd_plan(room)
     fences = fences_plan(room)
@@ -77,12 +77,12 @@ def refused_checks(room: str) -> Runs:
     )
 
 
-def unread_checks(room: str) -> Runs:
+def unread_checks(room: Path) -> Runs:
     """Checks of what can't be read, and of what can't be written."""
     yield Run(
         "a check, and standard input closed", ["check"], status=4, said=READ, set_up=closed(0)
     )
-    yield Run("no such file to check", ["check", os.path.join(room, "none")], status=4, said=READ)
+    yield Run("no such file to check", ["check", f"{room}/none"], status=4, said=READ)
     yield Run(
         "a check, and a full device",
         ["check", EARLY_GET],
@@ -98,7 +98,7 @@ def misused_checks() -> Runs:
     yield Run("check with an unknown option", ["check", "--loud", EXAMPLE], status=5, said=USAGE)
 
 
-def groups_of_plans(room: str) -> Runs:
+def groups_of_plans(room: Path) -> Runs:
     """Groups of the findings of plans."""
     words, twice = ["check", "--lines"], twice_plan(room)
     calls = "%s:7: 1 race on key card: app:0 2 commit\n%s:9: note: app:1 1 get-now\n"
@@ -168,7 +168,7 @@ def groups_of_calls() -> Runs:
     )
 
 
-def groups_that_fail(room: str) -> Runs:
+def groups_that_fail(room: Path) -> Runs:
     """Groups of what is refused or can't be read."""
     words = ["check", "--lines"]
     yield Run(
@@ -193,7 +193,7 @@ def groups_that_fail(room: str) -> Runs:
     )
     yield Run(
         "no such file to check with lines",
-        [*words, os.path.join(room, "none")],
+        [*words, f"{room}/none"],
         status=4,
         said=READ,
     )

@@ -3,6 +3,7 @@ import os
 import re
 import unittest
 from collections.abc import Iterator
+from pathlib import Path
 
 from tests.support.explained import (
     ASKED,
@@ -34,7 +35,7 @@ WAITING = (b"waiting",)
 LINE = re.compile(rb"^    (\S+) (\d+) (\S+) waits for (.*)$", re.MULTILINE)
 
 
-def explanations(room: str) -> Runs:
+def explanations(room: Path) -> Runs:
     """The runs with `--explain`."""
     yield from explained_files(room)
     yield from explained_patterns()
@@ -46,7 +47,7 @@ def explanations(room: str) -> Runs:
     yield from other_explanations(room)
 
 
-def explained_files(room: str) -> Runs:
+def explained_files(room: Path) -> Runs:
     """Files that are refused."""
     for name, plan, said in EXPLAINED:
         first = b"wire_up: " + said.split(b"\n")[0] + b"\n"
@@ -113,7 +114,7 @@ def explained_patterns() -> Runs:
     )
 
 
-def explained_orders(room: str) -> Runs:
+def explained_orders(room: Path) -> Runs:
     """Orders and plans that are refused."""
     racy = written(room, "explained.plan", RACY)
     order = written(room, "explained.order", b"# first\napp:0\n  app:7 \n")
@@ -142,7 +143,7 @@ def explained_orders(room: str) -> Runs:
     )
 
 
-def explained_words(room: str) -> Runs:
+def explained_words(room: Path) -> Runs:
     """Words of a question that are wrong."""
     racy = written(room, "explained.plan", RACY)
     for n, (word, told) in enumerate(ASKED, 1):
@@ -164,7 +165,7 @@ def explained_words(room: str) -> Runs:
             )
 
 
-def explained_stops(room: str) -> Runs:
+def explained_stops(room: Path) -> Runs:
     """Orders of which a step can't be taken."""
     order = written(room, "explained.order", b"# first\napp:0\n  app:7 \n")
     for name, plan, steps, said in STOPPED:
@@ -221,7 +222,7 @@ def objects_of(lines: bytes) -> Iterator[bytes]:
         yield b"{%s}" % b",".join([*members, b'"waits_for":"%s"' % what])
 
 
-def nothing_to_explain(room: str) -> Runs:
+def nothing_to_explain(room: Path) -> Runs:
     """Runs that go well."""
     racy = written(room, "explained.plan", RACY)
     cards = written(room, "explained-cards.plan", CARDS)
@@ -262,14 +263,13 @@ def unread(about: str, path: str, name: str, reason: str) -> Run:
     )
 
 
-def other_explanations(room: str) -> Runs:
+def other_explanations(room: Path) -> Runs:
     """Other faults."""
     cards = written(room, "explained-cards.plan", CARDS)
-    none, folder = os.path.join(room, "none"), os.path.join(room, "a\tfolder")
-    os.mkdir(folder)
+    none, folder = f"{room}/none", room / "a\tfolder"
+    folder.mkdir()
     yield unread("no such file", none, none, "No such file or directory (os error 2)")
-    name = os.path.join(room, "a?folder")
-    yield unread("a folder", folder, name, "Is a directory (os error 21)")
+    yield unread("a folder", str(folder), f"{room}/a?folder", "Is a directory (os error 21)")
     yield Run(
         "no worker, explained",
         ["replay", "--explain", "--workers", "0", cards],

@@ -1,6 +1,7 @@
 """Runs `follow` of the built program: orders to the end, and what is refused."""
 import os
 import unittest
+from pathlib import Path
 
 from tests.support.running import (
     EXAMPLE,
@@ -22,7 +23,7 @@ from tests.support.running import (
 )
 
 
-def follows(room: str) -> Runs:
+def follows(room: Path) -> Runs:
     """The runs of `follow`."""
     yield from followed_orders(room)
     yield from refused_orders(room)
@@ -32,12 +33,12 @@ def follows(room: str) -> Runs:
     yield from misused_follows(room)
 
 
-def whole_order(room: str) -> str:
+def whole_order(room: Path) -> str:
     """The path of an order that takes the example to its end."""
     return written(room, "whole.order", b"# rank 0 first\napp:0\napp:0\n\napp:1\n")
 
 
-def followed_orders(room: str) -> Runs:
+def followed_orders(room: Path) -> Runs:
     """Orders that can be followed."""
     plan = text_of(EXAMPLE)
     report = text_of(ITS_REPORT)
@@ -53,7 +54,7 @@ def followed_orders(room: str) -> Runs:
     yield Run("help on follow", ["follow", "--help"], wrote=USAGE)
 
 
-def refused_orders(room: str) -> Runs:
+def refused_orders(room: Path) -> Runs:
     """Orders that are refused."""
     odd = odd_plan(room)
     early = written(room, "early.order", b"# too early\n\napp:1\n")
@@ -81,23 +82,26 @@ def refused_orders(room: str) -> Runs:
     )
 
 
-def unread_follows(room: str) -> Runs:
+def unread_follows(room: Path) -> Runs:
     """Orders and files that can't be read."""
     odd = odd_plan(room)
     unknown = written(room, "unknown.order", b"app:1\napp:9\n")
-    none = os.path.join(room, "none")
+    none, folder = f"{room}/none", str(room)
     yield Run("no such order", ["follow", none, EXAMPLE], status=4, said=READ)
     yield Run(
         "no such order, with a file that is refused", ["follow", none, odd], status=4, said=READ
     )
     yield Run(
-        "a folder as order, with a file that is refused", ["follow", room, odd], status=2, said=ODD
+        "a folder as order, with a file that is refused",
+        ["follow", folder, odd],
+        status=2,
+        said=ODD,
     )
     yield Run("no such file to follow an order on", ["follow", unknown, none], status=4, said=READ)
-    yield Run("a folder as order", ["follow", room, EXAMPLE], status=4, said=READ)
+    yield Run("a folder as order", ["follow", folder, EXAMPLE], status=4, said=READ)
 
 
-def closed_follows(room: str) -> Runs:
+def closed_follows(room: Path) -> Runs:
     """Standard input that is closed."""
     report = text_of(ITS_REPORT)
     order = whole_order(room)
@@ -123,7 +127,7 @@ def closed_follows(room: str) -> Runs:
     )
 
 
-def odd_streams_of_follows(room: str) -> Runs:
+def odd_streams_of_follows(room: Path) -> Runs:
     """Standard streams of another kind."""
     order = whole_order(room)
     yield Run(
@@ -142,7 +146,7 @@ def odd_streams_of_follows(room: str) -> Runs:
     )
 
 
-def misused_follows(room: str) -> Runs:
+def misused_follows(room: Path) -> Runs:
     """Words that `follow` doesn't take."""
     plan = text_of(EXAMPLE)
     order = whole_order(room)

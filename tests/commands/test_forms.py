@@ -1,6 +1,7 @@
 """Runs the commands with `--json`."""
 import json
 import unittest
+from pathlib import Path
 
 from tests.support.forms import (
     Placed,
@@ -29,7 +30,7 @@ from tests.support.running import (
 )
 
 
-def forms(room: str) -> Runs:
+def forms(room: Path) -> Runs:
     """The runs of `check`, `follow`, `why` and `witness` with `--json`."""
     yield from forms_of_findings()
     yield from forms_of_chains()
@@ -89,7 +90,7 @@ def forms_of_chains() -> Runs:
     )
 
 
-def forms_of_orders(room: str) -> Runs:
+def forms_of_orders(room: Path) -> Runs:
     """Reports of orders as JSON."""
     cards = written(room, "cards.plan", CARDS)
     order = written(
@@ -170,7 +171,7 @@ def forms_of_witnesses() -> Runs:
     yield Run("the races as JSON", ["witness", "--json", EARLY_GET], status=1, wrote=tried)
 
 
-def forms_that_fail(room: str) -> Runs:
+def forms_that_fail(room: Path) -> Runs:
     """Refusals and full devices, where JSON is asked for."""
     odd = written(room, "odd.plan", b"# only\n")
     fence = "examples/card-fence.plan"

@@ -2,6 +2,7 @@
 which nothing can be written."""
 import os
 import unittest
+from pathlib import Path
 
 from tests import support
 from tests.models.grammar import NUMBERS
@@ -24,12 +25,12 @@ from tests.support.running import (
 
 
 STARTED = b"app:0 1 put ready\napp:0 2 commit unreached\napp:1 1 get waiting\nwaiting 1\n"
-EXAMPLE_AT = os.path.join(support.TOP, EXAMPLE)
+EXAMPLE_AT = str(support.TOP / EXAMPLE)
 # The greatest order.
 ORDER_LINES = b"\n" * (8 << 20)
 
 
-def files(room: str) -> Runs:
+def files(room: Path) -> Runs:
     """The runs on the hostile files, of each command."""
     for hostile in table():
         path = written(room, "hostile.plan", hostile.text)
@@ -52,7 +53,7 @@ def read_files(hostile: Hostile, path: str) -> Runs:
     yield Run(name, ["replay"], given=hostile.text, wrote=hostile.answer)
 
 
-def refused_files(room: str, hostile: Hostile, path: str) -> Runs:
+def refused_files(room: Path, hostile: Hostile, path: str) -> Runs:
     """The runs on a hostile file that is refused."""
     nothing = written(room, "nothing.order", b"")
     commands: dict[str, list[str]] = {
@@ -69,7 +70,7 @@ def refused_files(room: str, hostile: Hostile, path: str) -> Runs:
     yield Run(name, ["replay"], given=hostile.text, status=2, said=hostile.answer)
 
 
-def orders(room: str) -> Runs:
+def orders(room: Path) -> Runs:
     """The runs on hostile orders."""
 
     def bad_order(name: str, text: bytes, line: int) -> Run:
@@ -85,14 +86,14 @@ def orders(room: str) -> Runs:
     yield bad_order("an order with a NUL", b"app:0\0\n", 1)
 
 
-def places(room: str) -> Runs:
+def places(room: Path) -> Runs:
     """Each command, and places from which there is nothing to read, or to which nothing can be
     written."""
-    none, loop = os.path.join(room, "none"), os.path.join(room, "loop")
+    none, loop = f"{room}/none", f"{room}/loop"
     os.symlink(loop, loop)
     odd = written(room, "odd name\n\x1b[31m.plan", PLAN)
     unreadable = {
-        "a folder": room,
+        "a folder": str(room),
         "no file": none,
         "a name of 5,000 bytes": "x" * 5000,
         "an empty name": "",
@@ -137,7 +138,7 @@ def streams(name: str, words: list[str], none: str) -> Runs:
         yield Run(on_none, [*words, none], status=4, set_up=set_up)
 
 
-def words_alone(room: str) -> Runs:
+def words_alone(room: Path) -> Runs:
     """Odd words, and streams that no command can use."""
     racy, digits = written(room, "racy.plan", RACY), "9" * 5_000
     for words in (

@@ -2,6 +2,7 @@
 from collections.abc import Iterator
 import resource
 import unittest
+from pathlib import Path
 
 from tests.support.running import NOTHING, ProgramCase, Run, Runs, as_lines, written
 
@@ -51,7 +52,7 @@ def machine_races() -> Iterator[str]:
     yield f"findings {MACHINE_RANKS}"
 
 
-def machines(room: str) -> Runs:
+def machines(room: Path) -> Runs:
     """The runs of a plan of a large machine."""
     fenced, early = (
         written(room, name, as_lines(machine(flag)))
@@ -131,7 +132,7 @@ def with_memory() -> None:
     resource.setrlimit(resource.RLIMIT_AS, (MEMORY, MEMORY))
 
 
-def replays(room: str) -> Runs:
+def replays(room: Path) -> Runs:
     """The replays of plans that have as many ranks as a board may have, or more."""
     for ranks in (MOST_SEATED, MOST_SEATED + 2, MANY_RANKS):
         plans = {"machine": machine(True, ranks), "chain": chain(ranks)}

@@ -1,5 +1,6 @@
 """Runs `migrate` of the built program."""
 import unittest
+from pathlib import Path
 
 from tests.support.running import (
     EXAMPLE,
@@ -15,7 +16,7 @@ from tests.support.running import (
 )
 
 
-def migrations(room: str) -> Runs:
+def migrations(room: Path) -> Runs:
     """The runs of `migrate`: plans, and what is refused."""
     plan = text_of(EXAMPLE)
     odd = odd_plan(room)

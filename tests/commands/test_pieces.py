@@ -5,6 +5,7 @@ import tempfile
 import unittest
 from collections.abc import Iterator
 from dataclasses import dataclass
+from pathlib import Path
 
 from tests.soak.random_plans import damaged
 from tests.support.running import NOTHING, ProgramCase, Run, start, written
@@ -67,7 +68,7 @@ class Pieces(ProgramCase):
                 for place in places():
                     plan = Long.of(fill, place)
                     for last, fault in faults:
-                        path = written(room, "long.plan", plan.text(last))
+                        path = written(Path(room), "long.plan", plan.text(last))
                         said = f"wire_up: fault {fault} {plan.line()}\n".encode()
                         with self.subTest(fill=name, place=place, fault=fault):
                             self.hold(Run("", ["check", path], status=2, said=said))
@@ -82,7 +83,7 @@ class Pieces(ProgramCase):
             text = front.text(last) + behind
             said = f"wire_up: fault 4 BadLine {line or text[:-len(fill)].count(NEWLINE)}\n".encode()
             with self.subTest(last=last), tempfile.TemporaryDirectory() as room:
-                path = written(room, "long.plan", text)
+                path = written(Path(room), "long.plan", text)
                 self.hold(Run("", ["check", "--large", path], status=2, said=said))
 
     def test_the_last_line_may_have_no_feed(self) -> None:
@@ -92,7 +93,7 @@ class Pieces(ProgramCase):
                 text = Long.of(fill, 2 * SHARED_BYTES).text(b"") + b"get app:0 k"
                 for words in (["check"], ["check", "--lines"]):
                     with self.subTest(fill=name, words=words):
-                        path = written(room, "open.plan", text)
+                        path = written(Path(room), "open.plan", text)
                         self.hold(Run("", [*words, path], wrote=NOTHING))
 
     def test_calls_have_their_lines(self) -> None:
@@ -101,7 +102,7 @@ class Pieces(ProgramCase):
             plan = Long.of(FILLS["comments"], place)
             text = plan.text(b"rank n0\nget-now app:0 k\n")
             with tempfile.TemporaryDirectory() as room:
-                path = written(room, "race.plan", text)
+                path = written(Path(room), "race.plan", text)
                 ran = start(self.program, Run("", ["check", "--lines", path]))
             with self.subTest(place=place):
                 self.assertEqual(1, ran.returncode, ran.stderr)
@@ -114,7 +115,8 @@ class Pieces(ProgramCase):
             for number in range(DAMAGED):
                 fill = FILLS[dice.choice(list(FILLS))]
                 plan = Long.of(fill, dice.randrange(2 * SHARED_BYTES))
-                path = written(room, "damaged.plan", damaged(dice, plan.text(b"get app:0 k\n")))
+                text = damaged(dice, plan.text(b"get app:0 k\n"))
+                path = written(Path(room), "damaged.plan", text)
                 shared, alone = (
                     start(self.program, Run("", [word, path])) for word in ("check", "migrate")
                 )

@@ -1,5 +1,6 @@
 """Runs `place` of the built program."""
 import unittest
+from pathlib import Path
 
 from tests.support.running import (
     EXAMPLE,
@@ -14,7 +15,7 @@ from tests.support.running import (
 )
 
 
-def placements(room: str) -> Runs:
+def placements(room: Path) -> Runs:
     """The runs of `place`."""
     plan, usage = text_of(EXAMPLE), (b"Usage: wire_up place",)
     odd = odd_plan(room)

@@ -2,6 +2,7 @@
 together."""
 import json
 import unittest
+from pathlib import Path
 
 from tests.support.forms import Placed, answer_as_json, one_line
 from tests.support.running import (
@@ -28,7 +29,7 @@ from tests.support.running import (
 NO_FORM: list[str] = []
 
 
-def placings(room: str) -> Runs:
+def placings(room: Path) -> Runs:
     """The runs of `check`, `why` and `witness` with `--lines`, and with `--json` besides."""
     yield from lines_of_two_calls()
     yield from lines_of_races()
@@ -119,7 +120,7 @@ def placings_of_findings() -> Runs:
     )
 
 
-def placings_that_fail(room: str) -> Runs:
+def placings_that_fail(room: Path) -> Runs:
     """Refusals and full devices, where lines are asked for."""
     odd = written(room, "odd.plan", b"# only\n")
     pair = ["app:0", "2", "app:1", "1"]

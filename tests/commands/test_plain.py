@@ -1,6 +1,5 @@
 """Whether the unproved program of build/plain, which `check` is measured beside, answers what the
 built program answers. Where there is no rustc, this is left out."""
-import os
 import random
 import subprocess
 import unittest
@@ -88,7 +87,7 @@ class Plain(ProgramCase):
 
     def test_inputs(self) -> None:
         """They refuse a file that isn't there and a folder in the same way."""
-        for path in (os.path.join(self.room, "none.plan"), self.room):
+        for path in (f"{self.room}/none.plan", str(self.room)):
             with self.subTest(path):
                 proved, plain = self.ends_of(["check", path], b"")
                 self.assertEqual(proved, plain)

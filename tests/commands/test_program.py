@@ -1,9 +1,9 @@
 """Runs the built program as a user would: the examples, and what all commands share."""
-import os
 import resource
 import signal
 import unittest
 from collections.abc import Callable
+from pathlib import Path
 
 from tests.support.running import (
     EXAMPLE,
@@ -39,7 +39,7 @@ def with_file_size(size: int) -> Callable[[], None]:
     return set_up
 
 
-def runs(room: str) -> Runs:
+def runs(room: Path) -> Runs:
     """The runs of examples and of `replay`, and of what every command shares, in a folder that they
     may write to."""
     yield from runs_of_examples()
@@ -85,7 +85,7 @@ def runs_of_examples() -> Runs:
         )
 
 
-def runs_of_help(room: str) -> Runs:
+def runs_of_help(room: Path) -> Runs:
     """Input, and what the program says of itself."""
     plan = text_of(EXAMPLE)
     report = text_of(ITS_REPORT)
@@ -112,7 +112,7 @@ def runs_of_help(room: str) -> Runs:
     yield Run("help as a command", ["help"], wrote=USAGE)
 
 
-def refused_runs(room: str) -> Runs:
+def refused_runs(room: Path) -> Runs:
     """Files that are refused, or can't be read."""
     odd = odd_plan(room)
     large = written(room, "large.plan", b"rehearsal 1\n#".ljust(4 << 20, b"x"))
@@ -137,8 +137,8 @@ def refused_runs(room: str) -> Runs:
         said=MEMORY,
         set_up=with_little_memory,
     )
-    yield Run("no such file", ["replay", os.path.join(room, "none")], status=4, said=READ)
-    yield Run("a folder", ["replay", room], status=4, said=READ)
+    yield Run("no such file", ["replay", f"{room}/none"], status=4, said=READ)
+    yield Run("a folder", ["replay", str(room)], status=4, said=READ)
 
 
 def streams_of_runs() -> Runs:
@@ -173,7 +173,7 @@ def misused_runs() -> Runs:
     )
 
 
-def runs_with_large_limits(room: str) -> Runs:
+def runs_with_large_limits(room: Path) -> Runs:
     """Plans past the limits of version 1."""
     many = written(room, "many.plan", b"rehearsal 1\nnode n0\njob app\n" + b"rank n0\n" * 257)
     past = b"wire_up: fault 8 TooMany 260\n"
@@ -208,13 +208,12 @@ class Program(ProgramCase):
         for size in (1, 20, len(report) - 1):
             with self.subTest(size=size):
                 run = Run("", ["replay", EXAMPLE], set_up=with_file_size(size))
-                path = os.path.join(self.room, "report")
+                path = self.room / "report"
                 with open(path, "wb") as to:
                     ran = start(self.program, run, to)
                 fault = b"wire_up: fault 11 Write %d\n" % size
                 self.told_alike((4, fault), (ran.returncode, ran.stderr))
-                with open(path, "rb") as file:
-                    self.told_alike(report[:size], file.read())
+                self.told_alike(report[:size], path.read_bytes())
 
     def test_example_of_crate(self) -> None:
         """The crate of the program runs the example of the documents."""

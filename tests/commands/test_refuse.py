@@ -19,6 +19,7 @@ import tempfile
 import unittest
 from collections.abc import Iterator
 from dataclasses import dataclass, field
+from pathlib import Path
 
 from tests import support
 from tests.support.forms import as_json
@@ -103,7 +104,7 @@ class Form:
 Forms = Iterator[Form]
 
 
-def forms(room: str) -> Forms:
+def forms(room: Path) -> Forms:
     """All commands in all their forms."""
     cards, racy = written(room, "cards.plan", CARDS), written(room, "racy.plan", RACY)
     whole = written(room, "cards.order", ORDER)
@@ -135,7 +136,7 @@ def forms_of(name: str, path: str, order: str, question: list[str]) -> Forms:
     yield Form(f"why, {name}", ["why", *question, path])
 
 
-def odd_forms(room: str, cards: str, racy: str) -> Forms:
+def odd_forms(room: Path, cards: str, racy: str) -> Forms:
     """Commands that only tell something, or refuse what they are given."""
     early = written(room, "early.order", b"app:1\napp:1\n")
     unknown = written(room, "unknown.order", b"# one\napp:0\napp:9\n")
@@ -150,7 +151,7 @@ def odd_forms(room: str, cards: str, racy: str) -> Forms:
     yield Form("a step that isn't ready", ["follow", early, racy])
     yield Form("an unknown rank in an order", ["follow", unknown, racy])
     yield Form("a wrong word of a question", ["why", "app:0", "1", "app:7", "x", cards])
-    yield Form("no such file", ["check", os.path.join(room, "none")])
+    yield Form("no such file", ["check", f"{room}/none"])
     for name, text, fault in REFUSED:
         path = written(room, name.replace(" ", "-"), text)
         usual = Outcome(2, b"", b"wire_up: fault %s\n" % fault)
@@ -201,7 +202,7 @@ class Turns:
 class Trial:
     """One form: what it does without a refusal, and with each."""
 
-    def __init__(self, program: str, library_path: str, room: str, form: Form) -> None:
+    def __init__(self, program: str, library_path: Path, room: Path, form: Form) -> None:
         self.program, self.library, self.room, self.form = program, library_path, room, form
         self.fault, self.others = (WITHIN, AROUND) if form.is_part else (MEMORY, [])
         self.usual, _ = self.run()
@@ -261,7 +262,7 @@ class Trial:
 class Refusals(ProgramCase):
     """All forms, each without a refusal, and with both sorts of refusals."""
 
-    library: str
+    library: Path
 
     @classmethod
     def setUpClass(cls) -> None:

@@ -1,6 +1,6 @@
 """Runs `replay` of the built program: by workers, to the end, and over plans that keep."""
-import os
 import unittest
+from pathlib import Path
 
 from tests.support.forms import as_json
 from tests.support.running import (
@@ -23,7 +23,7 @@ from tests.support.running import (
 NO_OPTION: list[str] = []
 
 
-def replays(room: str) -> Runs:
+def replays(room: Path) -> Runs:
     """The runs of `replay` by workers, with its options."""
     yield from replays_by_workers(room)
     yield from replays_of_races(room)
@@ -31,7 +31,7 @@ def replays(room: str) -> Runs:
     yield from misused_replays(room)
 
 
-def replays_by_workers(room: str) -> Runs:
+def replays_by_workers(room: Path) -> Runs:
     """Plans without findings."""
     cards = written(room, "cards.plan", CARDS)
     report = CARDS_REPORT
@@ -62,7 +62,7 @@ def replays_by_workers(room: str) -> Runs:
     )
 
 
-def replays_of_races(room: str) -> Runs:
+def replays_of_races(room: Path) -> Runs:
     """A plan with a race."""
     racy = written(room, "racy.plan", RACY)
     late = written(room, "late.order", b"app:1\napp:0\napp:0\n")
@@ -90,10 +90,10 @@ def replays_of_races(room: str) -> Runs:
     )
 
 
-def refused_workers(room: str) -> Runs:
+def refused_workers(room: Path) -> Runs:
     """Numbers of workers that are refused."""
     cards = written(room, "cards.plan", CARDS)
-    none = os.path.join(room, "none")
+    none = f"{room}/none"
     odd = written(room, "odd.plan", b"# only\n")
     workers = b"wire_up: fault 9 Workers\n"
     for n in ("0", "65", "99999999999999999999"):
@@ -117,7 +117,7 @@ def refused_workers(room: str) -> Runs:
     yield Run("less than no worker", words, status=5, said=WORKERS_MISUSED)
 
 
-def misused_replays(room: str) -> Runs:
+def misused_replays(room: Path) -> Runs:
     """Words that `replay` doesn't take, and those that it does."""
     cards = written(room, "cards.plan", CARDS)
     usage = (b"Usage: wire_up",)
@@ -136,7 +136,7 @@ def misused_replays(room: str) -> Runs:
     )
 
 
-def completions(room: str) -> Runs:
+def completions(room: Path) -> Runs:
     """The runs of `replay --complete`."""
     yield from completions_of_plans()
     yield from completions_of_races(room)
@@ -194,7 +194,7 @@ def completions_of_plans() -> Runs:
             )
 
 
-def completions_of_races(room: str) -> Runs:
+def completions_of_races(room: Path) -> Runs:
     """A plan with a race."""
     racy = written(room, "racy.plan", RACY)
     race = b"race app:0 2 app:1 1 key app:0 k"
@@ -219,7 +219,7 @@ def completions_of_races(room: str) -> Runs:
     )
 
 
-def completions_that_fail(room: str) -> Runs:
+def completions_that_fail(room: Path) -> Runs:
     """Files that are refused, streams that are closed or full, and odd words."""
     racy = written(room, "racy.plan", RACY)
     usage = (b"Usage: wire_up",)
@@ -267,7 +267,7 @@ KEEPING = (
 )
 
 
-def keepings(room: str) -> Runs:
+def keepings(room: Path) -> Runs:
     """The runs of plans that keep what gets bring, and of lines `keep` that are refused."""
     yield from keepings_of_plans()
     yield from keepings_with_races()

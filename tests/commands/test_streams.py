@@ -10,6 +10,7 @@ import subprocess
 import threading
 import unittest
 from collections.abc import Callable
+from pathlib import Path
 from typing import IO
 
 from tests import support
@@ -88,7 +89,7 @@ def feed(path: str, text: bytes) -> None:
     threading.Thread(target=hand_over, daemon=True).start()
 
 
-def large_forms(room: str) -> list[Form]:
+def large_forms(room: Path) -> list[Form]:
     """Commands that write more than a pipe takes."""
     calls = written(room, "calls.plan", HEAD + b"rank n0\n" + b"commit\n" * COMMITS)
     names = b"".join(b"publish x%d 1\n" % n for n in range(4096))
@@ -156,12 +157,12 @@ class Readers(ProgramCase):
     def test_named_pipes(self) -> None:
         for form in forms(self.room):
             with self.subTest(form.name):
-                path = os.path.join(self.room, f"{form.name}.pipe")
+                path = f"{self.room}/{form.name}.pipe"
                 os.mkfifo(path)
                 feed(path, PLAN)
                 self.hold(Run("", [*form.words, path], wrote=form.wrote, status=form.status))
         with self.subTest("an order"):
-            order = os.path.join(self.room, "order.pipe")
+            order = f"{self.room}/order.pipe"
             os.mkfifo(order)
             feed(order, b"app:0\napp:0\napp:1\n")
             self.hold(Run("", ["follow", order, EXAMPLE], wrote=REPORT))
@@ -256,7 +257,7 @@ class Prefixes(ProgramCase):
 class Broken(ProgramCase):
     """Reads and writes that give or take little, or fail."""
 
-    library: str
+    library: Path
     plan: str
     readers: list[Form]
     writers: list[Form]

@@ -17,6 +17,7 @@ import concurrent.futures
 import os
 import subprocess
 import unittest
+from pathlib import Path
 
 from tests import support
 from tests.rows import Row
@@ -27,7 +28,7 @@ from tests.support.running import SECONDS, ProgramCase
 class Started(RowRuns):
     """The runs of rows by the built program."""
 
-    def __init__(self, program: str, parts: str, room: str) -> None:
+    def __init__(self, program: str, parts: str, room: Path) -> None:
         super().__init__(room)
         self.program, self.parts = program, parts
 
@@ -48,8 +49,8 @@ class Tables(ProgramCase):
     """The tables, each a test."""
 
     def hold_table(self, name: str) -> None:
-        parts, room = support.parts(), os.path.join(self.room, name)
-        os.mkdir(room)
+        parts, room = support.parts(), self.room / name
+        room.mkdir()
         rows, started = rows_of(name), Started(self.program, parts, room)
         with concurrent.futures.ThreadPoolExecutor(os.cpu_count()) as pool:
             ended = list(pool.map(started.ends_of, rows))

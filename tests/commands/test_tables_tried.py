@@ -53,7 +53,7 @@ def tables() -> list[str]:
 class TriedTables(unittest.TestCase):
     """The tables that are asked for."""
 
-    def runs(self, room: str) -> dict[str, RowRun]:
+    def runs(self, room: Path) -> dict[str, RowRun]:
         """All runs, by what they are called."""
         found = {}
         for table in tables():
@@ -64,14 +64,15 @@ class TriedTables(unittest.TestCase):
         return found
 
     def test_rows(self) -> None:
-        with tempfile.TemporaryDirectory() as other, tempfile.TemporaryDirectory() as room:
-            runs = self.runs(other)
+        with tempfile.TemporaryDirectory() as other, tempfile.TemporaryDirectory() as folder:
+            room = Path(folder)
+            runs = self.runs(Path(other))
             for number, run in enumerate(runs.values()):
                 written(room, f"run{number}", run.plan)
                 words = "".join(f"{word}\n" for word in run.words)
                 written(room, f"run{number}.args", words.encode())
                 written(room, f"run{number}.stdout", run.ended.wrote)
-            ran = run_cases(Path(room), Path(support.TOP))
+            ran = run_cases(room, support.TOP)
         ends = {hit[1]: hit for hit in CASE.finditer(ran.stdout + ran.stderr)}
         self.assertTrue(ends, f"{ran.stdout}{ran.stderr}")
         for number, (name, run) in enumerate(runs.items()):

@@ -1,6 +1,6 @@
 """Runs `why` of the built program: what is asked, and what is refused."""
-import os
 import unittest
+from pathlib import Path
 
 from tests.support.running import (
     EXAMPLE,
@@ -21,7 +21,7 @@ from tests.support.running import (
 )
 
 
-def questions(room: str) -> Runs:
+def questions(room: Path) -> Runs:
     """The runs of `why`."""
     yield from answered_questions(room)
     yield from refused_questions(room)
@@ -40,7 +40,7 @@ def through_fences(count: int) -> bytes:
     return "\n".join(["before", *steps, *ends, ""]).encode()
 
 
-def answered_questions(room: str) -> Runs:
+def answered_questions(room: Path) -> Runs:
     """Questions that are answered."""
     plan = text_of(EXAMPLE)
     fences = fences_plan(room)
@@ -53,7 +53,7 @@ def answered_questions(room: str) -> Runs:
     yield Run("help on why", ["why", "--help"], wrote=(b"Usage: wire_up why",))
 
 
-def refused_questions(room: str) -> Runs:
+def refused_questions(room: Path) -> Runs:
     """Questions that are refused."""
     odd = odd_plan(room)
     fences = fences_plan(room)
@@ -81,7 +81,7 @@ def refused_questions(room: str) -> Runs:
     )
     yield Run("a question, and standard input closed", words, status=4, said=READ, set_up=closed(0))
     yield Run(
-        "no such file to ask about", [*words, os.path.join(room, "none")], status=4, said=READ
+        "no such file to ask about", [*words, f"{room}/none"], status=4, said=READ
     )
 
 

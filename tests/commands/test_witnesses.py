@@ -17,7 +17,6 @@ WIRE_UP_PLANS names, with `:` between them: all files *.plan there and below, an
 
 The first 200 races of a plan are looked at. At least one race of all plans must be shown.
 """
-import glob
 import os
 import random
 import re
@@ -25,6 +24,7 @@ import subprocess
 import unittest
 from collections import Counter
 from collections.abc import Iterator, Sequence
+from pathlib import Path
 
 from tests import support
 from tests.models import grammar, model, model_runs
@@ -78,10 +78,9 @@ def counts_in(line: str) -> list[int]:
 class Look:
     """The looks at the races of one plan."""
 
-    def __init__(self, program: str, plan: str, room: str) -> None:
+    def __init__(self, program: str, plan: str, room: Path) -> None:
         self.program, self.plan, self.room = program, plan, room
-        with open(plan, "rb") as file:
-            self.model = model.Plan(grammar.read(file.read()))
+        self.model = model.Plan(grammar.read(Path(plan).read_bytes()))
 
     def run(self, *words: str) -> tuple[int, Lines]:
         """The status and the lines of a run."""
@@ -175,10 +174,9 @@ class Look:
         """The report of an order that `witness` writes by itself."""
         status, order = self.run("witness", option, "--", *words, self.plan)
         want(status == 1 and order == lines, f"{option} {words}")
-        path = os.path.join(self.room, "order")
-        with open(path, "w", encoding="latin-1") as file:
-            file.writelines(f"{line}\n" for line in order)
-        status, report = self.run("follow", path, self.plan)
+        path = self.room / "order"
+        path.write_text("".join(f"{line}\n" for line in order), encoding="latin-1")
+        status, report = self.run("follow", str(path), self.plan)
         want(status == 0, f"follow {option} {words}: {status}")
         return report
 
@@ -189,18 +187,17 @@ class Look:
         want(well, f"witness {words}: {status} {lines}")
 
 
-def written(room: str, name: str, text: bytes) -> str:
+def written(room: Path, name: str, text: bytes) -> str:
     """The path of a plan of this text."""
-    path = os.path.join(room, f"{name}.plan")
-    with open(path, "wb") as file:
-        file.write(text)
-    return path
+    path = room / f"{name}.plan"
+    path.write_bytes(text)
+    return str(path)
 
 
-def our_plans(room: str, dice: random.Random) -> Iterator[str]:
+def our_plans(room: Path, dice: random.Random) -> Iterator[str]:
     """The examples, plans in which values are alike, and random plans that are read, have races and
     aren't long."""
-    yield from sorted(glob.glob(os.path.join(support.TOP, "examples", "*.plan")))
+    yield from map(str, sorted((support.TOP / "examples").glob("*.plan")))
     for number, ranks in enumerate(ALIKE):
         yield written(room, f"alike-{number}", b"rehearsal 1\nnode n0\njob app\n" + ranks)
     count = PLANS
@@ -224,15 +221,8 @@ def is_wanted(text: bytes) -> bool:
 
 def plans_below(folders: Sequence[str]) -> Lines:
     """All plans in and below folders."""
-    found = []
-    for folder in folders:
-        for here, _, names in os.walk(folder):
-            found += [
-                os.path.join(here, name)
-                for name in names
-                if name.endswith(".plan") or name == "plan"
-            ]
-    return sorted(found)
+    found = [path for folder in folders for path in Path(folder).rglob("*") if path.is_file()]
+    return sorted(str(path) for path in found if path.suffix == ".plan" or path.name == "plan")
 
 
 class Witnesses(ProgramCase):
@@ -244,7 +234,7 @@ class Witnesses(ProgramCase):
         plans = plans_below(folders.split(":")) if folders else our_plans(self.room, dice)
         for plan in plans:
             if self.is_read(plan):
-                with self.subTest(plan if folders else os.path.basename(plan)):
+                with self.subTest(plan if folders else Path(plan).name):
                     told += Look(self.program, plan, self.room).at_all(dice)
         print(f"witness: {told[True]} of {told.total()} races shown", flush=True)
         with self.subTest("at least one race is shown"):

@@ -2,15 +2,13 @@
 
 The other files that it names are looked at with those of all documents.
 """
-import glob
-import os
 import re
 import unittest
 
 from tests.support import TOP
 
 
-CRATES = os.path.join(TOP, "crates")
+CRATES = TOP / "crates"
 MOST_WORDS = 200
 MOST_COLUMNS = 100
 # Where tests show no more than contracts say, nothing is said of them.
@@ -22,15 +20,13 @@ FILE = r"((?:src|specs|proofs)/[\w/]+\.(?:rt|antt))"
 
 def crate_names() -> list[str]:
     """The crates of crates.txt, in its order."""
-    with open(os.path.join(TOP, "crates.txt"), encoding="utf-8") as file:
-        lines = file.read().splitlines()
+    lines = (TOP / "crates.txt").read_text(encoding="utf-8").splitlines()
     return [line.partition(":")[0] for line in lines if line and not line.startswith("#")]
 
 
 def read_readme(crate: str) -> str:
     """The README of a crate."""
-    with open(os.path.join(CRATES, crate, "README.md"), encoding="utf-8") as file:
-        return file.read()
+    return (CRATES / crate / "README.md").read_text(encoding="utf-8")
 
 
 def named_files(crate: str, text: str) -> list[str]:
@@ -45,8 +41,7 @@ class CrateReadmes(unittest.TestCase):
     """The README of each crate of crates.txt."""
 
     def test_each_crate_has_a_readme(self) -> None:
-        found = glob.glob(os.path.join(CRATES, "*", "README.md"))
-        names = [os.path.basename(os.path.dirname(path)) for path in found]
+        names = [path.parent.name for path in CRATES.glob("*/README.md")]
         self.assertEqual(sorted(names), sorted(crate_names()))
 
     def test_each_has_its_title_and_its_sections(self) -> None:
@@ -64,7 +59,7 @@ class CrateReadmes(unittest.TestCase):
     def test_named_files_are_there(self) -> None:
         for crate in crate_names():
             for path in named_files(crate, read_readme(crate)):
-                self.assertTrue(os.path.exists(os.path.join(TOP, path)), f"{crate}: {path}")
+                self.assertTrue((TOP / path).exists(), f"{crate}: {path}")
 
 
 if __name__ == "__main__":

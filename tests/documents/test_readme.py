@@ -15,6 +15,7 @@ import subprocess
 import tempfile
 import unittest
 from dataclasses import dataclass, field
+from pathlib import Path
 
 from tests import support
 from tests.support.needs import needs_program
@@ -51,13 +52,11 @@ class Shown:
 
 def documents() -> list[str]:
     """All documents of the repository."""
-    found = [path for place in PLACES for path in glob.glob(os.path.join(support.TOP, place))]
-    return sorted(os.path.relpath(text, support.TOP) for text in found)
+    return sorted(path for place in PLACES for path in glob.glob(place, root_dir=support.TOP))
 
 
 def text_of(path: str) -> str:
-    with open(os.path.join(support.TOP, path), encoding="utf-8") as file:
-        return file.read()
+    return (support.TOP / path).read_text(encoding="utf-8")
 
 
 def commands_in(path: str) -> list[Shown]:
@@ -78,17 +77,17 @@ def commands_in(path: str) -> list[Shown]:
 def named_files(path: str) -> list[str]:
     """The paths of the files that a document names, from the top of the repository."""
     text = text_of(path)
-    links = [os.path.join(os.path.dirname(path), found) for found in LINK.findall(text)]
+    links = [Path(path).parent / found for found in LINK.findall(text)]
     return links + [f"crates/{found}" for found in OF_CRATE.findall(text)] + OF_TOP.findall(text)
 
 
-def make_like_the_top(room: str) -> None:
+def make_like_the_top(room: Path) -> None:
     """Makes an empty folder look like the top of the repository."""
     for name in os.listdir(support.TOP):
-        os.symlink(os.path.join(support.TOP, name), os.path.join(room, name))
+        (room / name).symlink_to(support.TOP / name)
 
 
-def output_of(words: str, room: str, program: str) -> str:
+def output_of(words: str, room: Path, program: str) -> str:
     """What a shown command writes, with this program in the place of ./wire_up."""
     really = PROGRAM.sub(lambda _: shlex.quote(program), words)
     ran = subprocess.run(
@@ -111,17 +110,17 @@ class Files(unittest.TestCase):
         for path in documents():
             with self.subTest(path):
                 named = {os.path.normpath(file) for file in named_files(path)}
-                found = {text for text in named if os.path.exists(os.path.join(support.TOP, text))}
+                found = {text for text in named if (support.TOP / text).exists()}
                 self.assertEqual([], sorted(named - found), "files that aren't there")
 
     def test_examples(self) -> None:
         """Each has a line in their index."""
-        folder = os.path.join(support.TOP, "examples")
+        folder = support.TOP / "examples"
         paths = glob.glob("**/*.p*", root_dir=folder, recursive=True)
         words = re.findall(r"[\w-]+", re.sub(r"\([^)]*\)", "", text_of("examples/README.md")))
         for path in paths:
             with self.subTest(path):
-                self.assertIn(os.path.splitext(os.path.basename(path))[0], words)
+                self.assertIn(Path(path).stem, words)
 
 
 class Commands(unittest.TestCase):
@@ -133,7 +132,8 @@ class Commands(unittest.TestCase):
     def test_shown_commands(self) -> None:
         program = support.program()
         for path in documents():
-            with tempfile.TemporaryDirectory(prefix="wire-up-") as room:
+            with tempfile.TemporaryDirectory(prefix="wire-up-") as folder:
+                room = Path(folder)
                 make_like_the_top(room)
                 for command in commands_in(path):
                     with self.subTest(f"{path}:{command.number}", words=command.words):

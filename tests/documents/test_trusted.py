@@ -1,8 +1,6 @@
 """What docs/guarantees.md says is trusted: it names each library of the kit that the program is
 built with, and no other."""
 import functools
-import glob
-import os
 import re
 import shutil
 import subprocess
@@ -19,25 +17,26 @@ BROUGHT = {"simdutf8", "strsim"}
 
 
 @functools.cache
-def find_kit() -> str:
-    """The folder of the kit; nothing where there is none."""
+def find_kit() -> Path | None:
+    """The folder of the kit; None where there is none."""
     if not shutil.which("rt"):
-        return ""
+        return None
     ran = subprocess.run(["rt", "doc"], capture_output=True, text=True, check=False)
-    return os.path.dirname(ran.stdout.partition("\n")[0])
+    return Path(ran.stdout.partition("\n")[0]).parent
 
 
 def list_direct() -> set[str]:
     """The libraries of the kit that the program's crates name."""
-    uses = crate_list.uses_at(Path(TOP))
+    uses = crate_list.uses_at(TOP)
     crates = crate_list.names_below("program")
     return {text for crate in crates for text in uses[crate] if text not in uses}
 
 
 def list_below(name: str) -> set[str]:
     """The libraries that one of the kit is built with, by the kit's own list."""
-    found = glob.glob(os.path.join(find_kit(), "rlibs", f"{name}.rlib", "below", "*"))
-    names = {os.path.basename(path).removesuffix(".rlib") for path in found}
+    kit = find_kit()
+    found = (kit / "rlibs" / f"{name}.rlib" / "below").glob("*") if kit else ()
+    names = {path.name.removesuffix(".rlib") for path in found}
     return {each_name for each_name in names if not STANDARD.fullmatch(each_name)}
 
 
@@ -49,7 +48,7 @@ def list_all(names: set[str]) -> set[str]:
 
 def list_named() -> set[str]:
     """The libraries that the document names."""
-    with open(os.path.join(TOP, "docs", "guarantees.md"), encoding="utf-8") as file:
+    with open(TOP / "docs" / "guarantees.md", encoding="utf-8") as file:
         trusted = file.read().partition("\n## What is trusted\n")[2]
     _, _, crates = trusted.partition("The contracts of these crates of the kit")
     return set(re.findall(r"`(\w+)`", crates))

@@ -1,6 +1,4 @@
 """`expand` of the built program: the plan of one instance of a pattern, and what is refused."""
-import glob
-import os
 import random
 import resource
 import unittest
@@ -73,8 +71,7 @@ def written_plans() -> Runs:
 
 
 def pattern_text(path: str) -> bytes:
-    with open(os.path.join(support.TOP, path), "rb") as file:
-        return file.read()
+    return (support.TOP / path).read_bytes()
 
 
 def refusal(words: list[str], given: bytes, fault: str, number: int) -> Run:
@@ -161,10 +158,9 @@ class Expand(ProgramCase):
 
     def test_examples(self) -> None:
         """Instances of all examples, as the reference has them."""
-        verdicts = os.path.join(support.TOP, "tests", "examples", "patterns", "*.verdict")
-        for path in sorted(glob.glob(verdicts)):
-            name = os.path.basename(path).removesuffix(".verdict")
-            file = os.path.join(support.TOP, "examples", "patterns", f"{name}.pattern")
+        verdicts = (support.TOP / "tests" / "examples" / "patterns").glob("*.verdict")
+        for path in sorted(verdicts):
+            file = f"{support.TOP}/examples/patterns/{path.stem}.pattern"
             pattern = pattern_reference.read_pattern(pattern_text(file))
             for number in range(INSTANCES):
                 dice = random.Random(number)

@@ -2,11 +2,11 @@
 --pattern` of the built program beside the reference."""
 import glob
 import json
-import os
 import random
 import tempfile
 import unittest
 from collections.abc import Iterator
+from pathlib import Path
 
 from tests import support
 from tests.models import grammar, model, model_runs, pattern_faults, pattern_reference
@@ -18,8 +18,8 @@ from tests.support.forms import one_line, pattern_as_json
 from tests.support.running import ProgramCase, Run, Runs, as_lines, start
 
 
-FOLDER = os.path.join(support.TOP, "examples", "patterns")
-EXPECTED = os.path.join(support.TOP, "tests", "examples", "patterns")
+FOLDER = support.TOP / "examples" / "patterns"
+EXPECTED = support.TOP / "tests" / "examples" / "patterns"
 # How many random patterns are tried, of at most so many instances.
 PATTERNS, MOST_INSTANCES = 200, 64
 # For which instances the answers may be.
@@ -44,21 +44,20 @@ OF_SCOPE = {
 OF_OTHERS = {3: NOT_FOUND, 4: NOT_FOUND, 5: SUCCESS, 6: NOT_FOUND, 8: "none"}
 
 
-def text_at(path: str) -> bytes:
-    with open(path, "rb") as file:
-        return file.read()
+def text_at(path: str | Path) -> bytes:
+    return Path(path).read_bytes()
 
 
 def examples(ending: str) -> list[str]:
     """The examples of patterns that have a file of this ending, without it; what is expected of
     them stands in a folder of its own."""
     names = [name for text in (FOLDER, EXPECTED) for name in glob.glob(f"*{ending}", root_dir=text)]
-    return sorted(os.path.join(FOLDER, name.removesuffix(ending)) for name in names)
+    return sorted(str(FOLDER / name.removesuffix(ending)) for name in names)
 
 
 def expected_of(path: str, ending: str) -> bytes:
     """What is expected of an example, by its path without an ending."""
-    return text_at(os.path.join(EXPECTED, os.path.basename(path) + ending))
+    return text_at(EXPECTED / f"{Path(path).name}{ending}")
 
 
 def small_patterns(count: int) -> list[bytes]:
@@ -252,7 +251,7 @@ class Program(ProgramCase):
 
     def test_complete_as_json(self) -> None:
         """`--complete` changes the status alone."""
-        path = os.path.join(FOLDER, "node-local.pattern")
+        path = str(FOLDER / "node-local.pattern")
         words = ["check", "--pattern", "--complete", "--json", path]
         clean = pattern_reference.CLEAN + b"\n"
         wrote = pattern_as_json(clean + pattern_reference.ANSWERED)

@@ -7,6 +7,7 @@ import os
 import unittest
 from collections.abc import Iterator, Mapping, Sequence
 from dataclasses import dataclass, field
+from pathlib import Path
 
 from wire_up_tools.run.suite import read_suite, write_plan
 from wire_up_tools.run.tables import CALL, PLAN
@@ -19,8 +20,8 @@ from tests.support import TOP
 
 Replies = Mapping[Event, bytes]
 # The tables of libraries, and those that a forerunner of the suite made.
-TABLES = os.path.join(TOP, "python", "wire_up_tools", "run", "tables")
-EARLIER = os.path.join(TOP, "tests", "earlier_tables")
+TABLES = TOP / "python" / "wire_up_tools" / "run" / "tables"
+EARLIER = TOP / "tests" / "earlier_tables"
 PLANS = {suite_plan.name: Facts(suite_plan.text.encode()) for suite_plan in read_suite()}
 # The plans of which a run has no history, by the library, each with the calls at which the history
 # stands that gets furthest; and the plans that put a key again of which a run has none: 4.2 reads
@@ -104,12 +105,12 @@ class Run:
     replies: dict[Event, bytes] = field(default_factory=dict)
 
 
-def read_runs(folder: str, library: str) -> dict[str, list[Run]]:
+def read_runs(folder: Path, library: str) -> dict[str, list[Run]]:
     """The runs of each plan of a library's table. The calls of a run stand in their order, with how
     often it came; where fewer came than there were, the others were as the rules say."""
     runs: dict[str, list[Run]] = {}
     name, times = "", 0
-    with open(os.path.join(folder, f"{library}.txt"), encoding="ascii") as file:
+    with open(folder / f"{library}.txt", encoding="ascii") as file:
         for line in file.read().splitlines():
             plan, call = PLAN.fullmatch(line), CALL.fullmatch(line)
             if plan:

@@ -1,7 +1,6 @@
 """`check --portable` of the built program: the table of rows/portable.py, each form of its answer,
 and what it says of small random plans beside all that libraries may do by the axioms."""
 import itertools
-import os
 import unittest
 from collections import Counter
 from collections.abc import Iterator
@@ -113,11 +112,9 @@ class Examples(ProgramCase):
 
     def test_examples(self) -> None:
         found: dict[str, str] = {}
-        for name in sorted(os.listdir(os.path.join(TOP, "examples"))):
-            if name.endswith(".plan"):
-                path = os.path.join("examples", name)
-                ran = start(self.program, Run(name, [CHECK, PORTABLE, path]))
-                found[name.removesuffix(".plan")] = ran.stdout.decode().splitlines()[-1]
+        for path in sorted((TOP / "examples").glob("*.plan")):
+            ran = start(self.program, Run(path.name, [CHECK, PORTABLE, str(path)]))
+            found[path.stem] = ran.stdout.decode().splitlines()[-1]
         for name in ("business-card", "optimistic", "standstill", "waiting-lookup", "kept-fence"):
             self.assertEqual("portable 4.2,5.0,7.0", found[name], name)
         for name in ("card-fence", "leaders", "shared-fence"):

@@ -2,11 +2,11 @@
 and SARIF, and what `wire_up-run` says of a library that breaks an axiom."""
 import contextlib
 import io
-import os
 import stat
 import tempfile
 import unittest
 from collections.abc import Iterator
+from pathlib import Path
 
 from wire_up_tools.checker import Checker
 from wire_up_tools.portable import (
@@ -40,12 +40,12 @@ def take(text: str) -> Portable:
 def checker_that(said: str, option: str = "--portable", status: int = 1) -> Iterator[Checker]:
     """A checker that has an option, and answers so."""
     with tempfile.TemporaryDirectory() as folder:
-        path = os.path.join(folder, "wire_up")
-        with open(path, "w", encoding="ascii") as file:
-            file.write(f"#!/bin/sh\ncase \"$*\" in *--help) echo '{option}'; exit 0;; esac\n")
-            file.write(f"cat > /dev/null\nprintf '%s' '{said}'\nexit {status}\n")
-        os.chmod(path, stat.S_IRWXU)
-        yield Checker(path)
+        path = Path(folder, "wire_up")
+        script = f"#!/bin/sh\ncase \"$*\" in *--help) echo '{option}'; exit 0;; esac\n"
+        script += f"cat > /dev/null\nprintf '%s' '{said}'\nexit {status}\n"
+        path.write_text(script, encoding="ascii")
+        path.chmod(stat.S_IRWXU)
+        yield Checker(str(path))
 
 
 class Reading(unittest.TestCase):

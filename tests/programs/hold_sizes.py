@@ -78,7 +78,7 @@ class Case(NamedTuple):
     """A program: of which family, where it is, and with which words."""
 
     family: str
-    folder: str
+    folder: Path
     words: Sequence[str]
 
 
@@ -126,22 +126,22 @@ class Asked(NamedTuple):
 
 def list_words(name: str) -> Sequence[str]:
     """The words that a program takes, in its own order."""
-    with open(os.path.join(PROGRAMS, f"{name}.c"), encoding="utf-8") as file:
-        return re.findall(WORDS_OF[name], file.read().partition("[] = {")[2])
+    text = (PROGRAMS / f"{name}.c").read_text(encoding="utf-8")
+    return re.findall(WORDS_OF[name], text.partition("[] = {")[2])
 
 
-def list_cases(folder: str) -> Iterator[Case]:
+def list_cases(folder: Path) -> Iterator[Case]:
     """The programs of the repository, built in a folder."""
     for form, shape in itertools.product(FORMS, list_words("shapes")):
-        words = [os.path.join(folder, "shapes"), shape, *([form] if form else [])]
+        words = [str(folder / "shapes"), shape, *([form] if form else [])]
         yield Case(f"shapes {form}".strip(), folder, words)
     for word in list_words("wireups"):
-        yield Case("wireups", folder, [os.path.join(folder, "wireups"), word])
+        yield Case("wireups", folder, [str(folder / "wireups"), word])
     for name in OTHERS:
-        yield Case("others", folder, [os.path.join(folder, name)])
+        yield Case("others", folder, [str(folder / name)])
 
 
-def list_suite(room: str) -> Iterator[Case]:
+def list_suite(room: Path) -> Iterator[Case]:
     """The programs of MPICH's suite that are built, one of each part in turn."""
     parts: dict[str, list[Case]] = {}
     for case in list_built(room):
@@ -150,30 +150,30 @@ def list_suite(room: str) -> Iterator[Case]:
         yield from filter(None, them)
 
 
-def list_built(room: str) -> Iterator[Case]:
+def list_built(room: Path) -> Iterator[Case]:
     """The programs of MPICH's suite that are built."""
-    built = Path(room, "built")
+    built = room / "built"
     programs: dict[tuple[str, str], SuiteProgram] = {}
-    for program in find_programs(built, Path(room, "source"), PARTS):
+    for program in find_programs(built, room / "source", PARTS):
         programs.setdefault((program.part, program.name), program)
     for program in programs.values():
-        folder = str(built / program.part)
-        path = os.path.join(folder, program.name)
+        folder = built / program.part
+        path = str(folder / program.name)
         if os.access(path, os.X_OK):
             settings = [f"{name}={value}" for name, value in program.variables.items()]
             before = ["env", *settings] if settings else []
             yield Case(f"MPICH/{program.part}", folder, [*before, path, *program.words])
 
 
-def build(folder: str) -> None:
+def build(folder: Path) -> None:
     """Builds the recorder, and the programs into a folder."""
     subprocess.run(["make", "-s", "record", "record-mpi"], cwd=support.TOP, check=True)
     asked = ["pkg-config", "--cflags", "--libs", "pmix"]
     of_pmix = subprocess.run(asked, capture_output=True, text=True, check=True).stdout.split()
     for name in ("shapes", "wireups", *OTHERS):
         compiler, *words = COMPILED.get(name, ("mpicc", f"{name}.c"))
-        path, words = os.path.join(folder, name), [os.path.join(PROGRAMS, words[-1]), *words[:-1]]
-        subprocess.run([compiler, "-g", "-o", path, *words, *of_pmix], check=True)
+        words = [str(PROGRAMS / words[-1]), *words[:-1], *of_pmix]
+        subprocess.run([compiler, "-g", "-o", folder / name, *words], check=True)
 
 
 def build_suite(room: Path) -> None:
@@ -186,19 +186,20 @@ def build_suite(room: Path) -> None:
         build_of_suite(built, program, room / "build.log")
 
 
-def launch(nodes: int, room: str) -> Sequence[str]:
+def launch(nodes: int, room: Path) -> Sequence[str]:
     """The words that start as many ranks as are asked for."""
-    hosts, words = os.path.join(room, "hosts"), ["mpirun"]
-    with open(hosts, "w", encoding="ascii") as to:
+    hosts, words = room / "hosts", ["mpirun"]
+    with hosts.open("w", encoding="ascii") as to:
         to.writelines(f"{NODES[rank % nodes]}\n" for rank in range(MOST_RANKS))
     if nodes > 1:
-        words += tell_daemons(Kind.OPEN_MPI_4, hosts, room) + list(PLACES[Kind.OPEN_MPI_4])
+        daemons = tell_daemons(Kind.OPEN_MPI_4, str(hosts), str(room))
+        words += daemons + list(PLACES[Kind.OPEN_MPI_4])
     return [*words, *([] if nodes > 1 else ["--oversubscribe"]), "-n", PLACE]
 
 
 def name_line(case: Case) -> str:
     """A program with its words."""
-    return " ".join([os.path.basename(case.words[0]), *case.words[1:]])
+    return " ".join([Path(case.words[0]).name, *case.words[1:]])
 
 
 def run_case(
@@ -221,8 +222,8 @@ def ask(case: Case, asked: argparse.Namespace) -> Asked:
     nodes, alone = asked.nodes, 0
     with tempfile.TemporaryDirectory(prefix="sizes-") as room:
         options = ["--sizes", asked.sizes, "--json", "--checker", support.program()]
-        recorder = [sys.executable, COMMAND, *options, "-o", os.path.join(room, "pattern")]
-        command = [*launch(nodes, room), *case.words]
+        recorder = [sys.executable, COMMAND, *options, "-o", f"{room}/pattern"]
+        command = [*launch(nodes, Path(room)), *case.words]
         ran = run_case(case, nodes, asked.seconds, [*recorder, *command])
         lines = ran.stderr.splitlines()
         told = [line.removeprefix(SAID) for line in lines if line.startswith(SAID)]
@@ -234,15 +235,15 @@ def ask(case: Case, asked: argparse.Namespace) -> Asked:
     return Asked(case.family, nodes, name_line(case), ran.returncode, ran.stdout, said, alone)
 
 
-def read_answers(path: str) -> list[Asked]:
+def read_answers(path: Path) -> list[Asked]:
     """What was answered before."""
-    if not os.path.exists(path):
+    if not path.exists():
         return []
-    with open(path, encoding="utf-8") as lines:
+    with path.open(encoding="utf-8") as lines:
         return [Asked(*json.loads(line)) for line in lines]
 
 
-def ask_all(words: argparse.Namespace, folder: str) -> None:
+def ask_all(words: argparse.Namespace, folder: Path) -> None:
     """Asks about all programs of which nothing stands in the file of answers, or at most so many,
     some side by side."""
     cases = [*list_cases(folder), *(list_suite(words.suite) if words.suite else ())]
@@ -292,15 +293,15 @@ def write_table(answers: Sequence[Asked]) -> Iterator[str]:
 def read_words() -> argparse.Namespace:
     """What the command line asks for."""
     parser = argparse.ArgumentParser(add_help=False, usage=__doc__)
-    parser.add_argument("answers")
+    parser.add_argument("answers", type=Path)
     parser.add_argument("--nodes", type=int, default=1, choices=(1, len(NODES)))
     parser.add_argument("--sizes", default="3,4,8")
-    parser.add_argument("--suite")
+    parser.add_argument("--suite", type=Path)
     parser.add_argument("--only", nargs="*", default=[])
     parser.add_argument("--most", type=int)
     parser.add_argument("--jobs", type=int, default=1)
     parser.add_argument("--seconds", type=int, default=MOST_SECONDS)
-    parser.add_argument("--built")
+    parser.add_argument("--built", type=Path)
     return parser.parse_args()
 
 
@@ -311,9 +312,9 @@ def main() -> int:
         ask_all(words, words.built)
         return 0
     with tempfile.TemporaryDirectory(prefix="wire-up-") as folder:
-        build(folder)
+        build(Path(folder))
         if words.suite:
-            build_suite(Path(words.suite))
+            build_suite(words.suite)
         module = "tests.programs.hold_sizes"
         again = [sys.executable, "-m", module, *sys.argv[1:], "--built", folder]
         if words.nodes > 1:

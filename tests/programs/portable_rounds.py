@@ -90,7 +90,7 @@ def seconds_of(words: list[str]) -> tuple[float, str]:
 def measure(program: str, names: list[str]) -> None:
     """Writes a line for each kind and size."""
     with tempfile.TemporaryDirectory() as folder:
-        path = os.path.join(folder, "plan")
+        path = f"{folder}/plan"
         for name in names:
             for ranks in SIZES:
                 with open(path, "w", encoding="ascii") as file:

@@ -1,4 +1,5 @@
 """Tests the command line of the recorder, for which it needn't be built."""
+import itertools
 import os
 import re
 import shutil
@@ -7,13 +8,15 @@ import stat
 import sys
 import tempfile
 import unittest
+from collections.abc import Sequence
+from pathlib import Path
 
 from wire_up_tools import VERSION
 from wire_up_tools.failures import Refused
 from wire_up_tools.record.command_line import OPTIONS
 from wire_up_tools.record.running import OF_PMIX, find_library, make_folder
 from tests import support
-from tests.support import TOP
+from tests.support import TOP, Word
 from tests.support.needs import needs_program
 from tests.support.tapes import (
     COMMAND,
@@ -35,15 +38,15 @@ class RoomTest(unittest.TestCase):
     def setUp(self) -> None:
         room = tempfile.TemporaryDirectory(prefix="wire-up-")
         self.addCleanup(room.cleanup)
-        self.room = room.name
-        self.plan = os.path.join(self.room, "plan")
-        self.good = write_file(os.path.join(self.room, "good.recording"), Tape(0).text())
+        self.room = Path(room.name)
+        self.plan = self.room / "plan"
+        self.good = write_file(self.room / "good.recording", Tape(0).text())
 
 
 class CommandLineTest(RoomTest):
     """What a command line ends with, and says."""
 
-    def use(self, words: list[str], status: int, said: str = "") -> None:
+    def use(self, words: Sequence[Word], status: int, said: str = "") -> None:
         """Tests the status and a part of what is said."""
         with self.subTest(words):
             ran = run_recorder(*words)
@@ -62,43 +65,48 @@ class CommandLineTest(RoomTest):
         self.assertNotRegex(ran.stdout, r"(?m) $")
 
     def test_two_texts_for_one_file(self) -> None:
-        link = os.path.join(self.room, "link")
-        os.symlink(self.plan, link)
+        link = self.room / "link"
+        link.symlink_to(self.plan)
         for option, path in (("--answers", self.plan), ("--pattern", link)):
-            words = ["-o", self.plan, option, path, "--from", self.good]
-            self.use(words, 125, "each need a file of their own")
-        self.assertFalse(os.path.exists(self.plan))
+            self.use(
+                ["-o", self.plan, option, path, "--from", self.good],
+                125,
+                "each need a file of their own",
+            )
+        self.assertFalse(self.plan.exists())
         self.use(["-o", os.devnull, "--answers", os.devnull, "--from", self.good], 0)
 
     def test_folders_for_recordings(self) -> None:
         """None is made in place of the text, nor beside the name of an open file."""
         both = f"^{self.plan}: -o and --keep each need a path of their own$"
         with self.assertRaisesRegex(Refused, both):
-            make_folder(os.path.join(self.room, ".", "plan"), self.plan)
-        self.assertFalse(os.path.exists(self.plan))
+            make_folder(f"{self.room}/./plan", str(self.plan))
+        self.assertFalse(self.plan.exists())
         os.chdir(self.room)
         self.addCleanup(os.chdir, TOP)
         with open(self.good, "rb") as file:
             made = make_folder(f"/dev/fd/{file.fileno()}", None)
-        self.assertEqual(os.path.dirname(made), os.path.realpath(self.room))
+        self.assertEqual(Path(made).parent, self.room.resolve())
 
     def test_a_text_for_a_recording_that_is_read(self) -> None:
         """It isn't overwritten, by whichever way it is named."""
-        copy, link = os.path.join(self.room, "0.recording"), os.path.join(self.room, "link")
+        copy, link = self.room / "0.recording", self.room / "link"
         shutil.copy(self.good, copy)
-        os.symlink(copy, link)
+        link.symlink_to(copy)
         before = read_file(copy)
-        for words in (["-o", copy], ["-o", link], ["-o", self.plan, "--answers", copy]):
-            for named in (copy, self.room):
-                self.use([*words, "--from", named], 125, "is a recording that is read")
+        outputs: tuple[Sequence[Word], ...] = (
+            ["-o", copy], ["-o", link], ["-o", self.plan, "--answers", copy]
+        )
+        for words, named in itertools.product(outputs, (copy, self.room)):
+            self.use([*words, "--from", named], 125, "is a recording that is read")
         self.assertEqual(before, read_file(copy))
-        self.assertFalse(os.path.exists(self.plan))
+        self.assertFalse(self.plan.exists())
 
     def test_what_is_no_file(self) -> None:
         self.use(["-o", self.plan, "--from", "/dev/zero"], 125, "/dev/zero: it is no file")
-        folder = os.path.join(self.room, "folder")
-        os.mkdir(folder)
-        os.mkfifo(os.path.join(folder, "0.recording"))
+        folder = self.room / "folder"
+        folder.mkdir()
+        os.mkfifo(folder / "0.recording")
         self.use(["-o", self.plan, "--from", folder], 125, "0.recording: it is no file")
 
     def test_what_is_missing(self) -> None:
@@ -118,8 +126,8 @@ class CommandLineTest(RoomTest):
         self.use(["-o", self.plan, "-o", self.plan, "true"], 125, "-o stands twice")
         self.use(["-o"], 125, "-o needs a file")
         self.use(["--keep"], 125, "--keep needs a folder")
-        kept = ["--keep", os.path.join(self.room, "kept")]
-        self.use(["-o", self.plan, *kept, "--from", self.good], 125, "--keep goes with a command")
+        kept = ("--keep", f"{self.room}/kept", "--from", self.good)
+        self.use(["-o", self.plan, *kept], 125, "--keep goes with a command")
 
     def test_an_error_is_one_line(self) -> None:
         ran = run_recorder("-o")
@@ -130,13 +138,13 @@ class CommandLineTest(RoomTest):
         self.use(["-o", self.plan, "--from", self.good], 0)
         self.use(["-o", "-", "--from", self.good], 0)
         self.use(["-o", self.plan, "--from", self.room], 0)
-        none = os.path.join(self.room, "none")
-        twice = ["-o", self.plan, "--from", self.good, "--", self.good]
-        self.use(twice, 125, "is rank 0 of job once more")
+        twice = ("--from", self.good, "--", self.good)
+        self.use(["-o", self.plan, *twice], 125, "is rank 0 of job once more")
+        none = self.room / "none"
         self.use(["-o", self.plan, "--from", none], 125, "none: No such file")
 
     def test_where_the_plan_goes(self) -> None:
-        no_place = os.path.join(self.room, "no", "plan")
+        no_place = self.room / "no" / "plan"
         self.use(["-o", no_place, "--from", self.good], 125, "No such file")
         self.use(["-o", "/dev/full", "--from", self.good], 125, "No space left")
         self.use(["-o", self.room, "--from", self.good], 125, "Is a directory")
@@ -144,33 +152,36 @@ class CommandLineTest(RoomTest):
     @needs_program
     def test_where_the_plan_of_a_command_goes(self) -> None:
         """It is tried before the command runs, and nothing is left there."""
-        ran = os.path.join(self.room, "ran")
-        no_place = os.path.join(self.room, "no", "plan")
-        refused = {self.room: "Is a directory", "/dev/full": "No space left", no_place: "No such"}
+        refused = {
+            str(self.room): "Is a directory",
+            "/dev/full": "No space left",
+            f"{self.room}/no/plan": "No such",
+        }
         for path, said in refused.items():
-            for words in (["-o", path], ["-o", self.plan, "--answers", path]):
-                self.refuse_before(words, ran, f"wire_up-record: {path}: {said}")
+            for words in (["-o", path], ["-o", str(self.plan), "--answers", path]):
+                self.refuse_before(words, f"wire_up-record: {path}: {said}")
         self.assertEqual([name for name in os.listdir("/dev") if "wire_up" in name], [])
         self.assertEqual(os.listdir(self.room), ["good.recording"])
 
-    def refuse_before(self, words: list[str], touched: str, said: str) -> None:
+    def refuse_before(self, words: Sequence[str], said: str) -> None:
         """Tests that a command isn't run, and what is said."""
         if not find_library(TOP, OF_PMIX):
             self.skipTest("the recorder isn't built")
+        touched = self.room / "ran"
         self.use([*words, "touch", touched], 125, said)
-        self.assertFalse(os.path.exists(touched))
+        self.assertFalse(touched.exists())
 
     def test_options_after_recordings(self) -> None:
         """They mean the same there; behind a command they are the command's."""
         self.use(["--from", self.good, "-o", self.plan], 0)
         self.use(["--from", self.good, "--from", self.good, "-o"], 125, "-o needs a file")
         self.use(["true", "-o", self.plan], 125, "-o PLAN says where")
-        self.assertTrue(os.path.exists(self.plan))
+        self.assertTrue(self.plan.exists())
 
     def test_version(self) -> None:
         """Each command tells that of the program."""
         for name in ("record", "report", "run"):
-            path = os.path.join(TOP, f"wire_up-{name}")
+            path = TOP / f"wire_up-{name}"
             for option in ("-V", "--version"):
                 ran = ask_program(sys.executable, path, option)
                 self.assertEqual((ran.returncode, ran.stderr), (0, ""))
@@ -179,12 +190,12 @@ class CommandLineTest(RoomTest):
     def test_a_signal_before_the_command_has_begun(self) -> None:
         """While its parts are read, one line says so."""
         for name in ("record", "report", "run"):
-            room = os.path.join(self.room, name)
-            package = os.path.join(room, "python", "wire_up_tools", name)
-            os.makedirs(package)
-            shutil.copy(os.path.join(TOP, f"wire_up-{name}"), room)
-            write_file(os.path.join(package, "command_line.py"), b"raise KeyboardInterrupt\n")
-            ran = ask_program(sys.executable, os.path.join(room, f"wire_up-{name}"))
+            room = self.room / name
+            package = room / "python" / "wire_up_tools" / name
+            package.mkdir(parents=True)
+            shutil.copy(TOP / f"wire_up-{name}", room)
+            write_file(package / "command_line.py", b"raise KeyboardInterrupt\n")
+            ran = ask_program(sys.executable, room / f"wire_up-{name}")
             self.assertEqual(ran.returncode, 130)
             self.assertEqual(ran.stderr, f"wire_up-{name}: interrupted\n")
 
@@ -192,23 +203,22 @@ class CommandLineTest(RoomTest):
         """Those that come after the first one don't disturb it."""
         sends = b"while kill -TERM $PPID; do sleep 0.002; done"
         words = b"#!/bin/sh\n(" + sends + b") > /dev/null 2>&1 < /dev/null &\nsleep 9\n"
-        checker = write_file(os.path.join(self.room, "checker"), words)
+        checker = write_file(self.room / "checker", words)
         os.chmod(checker, stat.S_IRWXU)
-        plan = os.path.join(self.room, "plan")
-        ran = ask_program(COMMAND, "--checker", checker, "-o", plan, "--from", self.good)
+        ran = ask_program(COMMAND, "--checker", checker, "-o", self.plan, "--from", self.good)
         self.assertEqual(ran.returncode, 128 + signal.SIGTERM)
         self.assertEqual(ran.stderr, "wire_up-record: ended by signal 15\n")
-        self.assertFalse(os.path.exists(plan))
+        self.assertFalse(self.plan.exists())
 
     def test_a_link_is_replaced(self) -> None:
-        link = os.path.join(self.room, "link")
-        os.symlink(os.path.join(self.room, "elsewhere"), link)
+        link = self.room / "link"
+        link.symlink_to(self.room / "elsewhere")
         self.use(["-o", link, "--from", self.good], 0)
-        self.assertFalse(os.path.islink(link))
+        self.assertFalse(link.is_symlink())
 
     def test_the_command_by_a_link(self) -> None:
-        link = os.path.join(self.room, "recorder")
-        os.symlink(COMMAND, link)
+        link = self.room / "recorder"
+        link.symlink_to(COMMAND)
         ran = ask_program(link, "-o", "-", "--from", self.good)
         self.assertEqual((ran.returncode, JUDGED.sub("", ran.stderr)), (0, ""))
         self.assertTrue(ran.stdout.startswith("# Recorded by wire_up-record on 2023-11-14"))
@@ -220,12 +230,12 @@ class LargeTest(RoomTest):
     def test_large(self) -> None:
         """They are written where the checker has --large, and say so at their head."""
         words = b"#!/bin/sh\necho '      --large  lifts the limits'\n"
-        checker = write_file(os.path.join(self.room, "checker"), words)
+        checker = write_file(self.room / "checker", words)
         os.chmod(checker, stat.S_IRWXU)
         tape = Tape()
         for _ in range(16385):
             tape.call("commit")
-        large = write_file(os.path.join(self.room, "large.0"), tape.text())
+        large = write_file(self.room / "large.0", tape.text())
         ran = run_recorder("-o", "-", "--checker", checker, "--from", large)
         said = "# Larger than the plain limits: `wire_up check --large` reads it.\n"
         self.assertIn(said, ran.stdout)
@@ -244,7 +254,7 @@ class InPartTest(RoomTest):
         tapes[0].call("publish blocks m=text:x -").end(fence)
         tapes[1].call("fence blocks all pmix.collect=number:1:1")
         files = [
-            write_file(os.path.join(self.room, f"part.{n}"), tape.text())
+            write_file(self.room / f"part.{n}", tape.text())
             for n, tape in enumerate(tapes)
         ]
         ran = run_recorder("-o", self.plan, "--from", *files)
@@ -277,7 +287,7 @@ class LibraryTest(RoomTest):
             tape.lines[-1] = library
             for call, end in script:
                 tape.call(call.replace("job:", f"{namespace}:"), end)
-            write_file(os.path.join(self.room, f"{namespace}.{rank}.recording"), tape.text())
+            write_file(self.room / f"{namespace}.{rank}.recording", tape.text())
         os.remove(self.good)
         ran = run_recorder("--checker", support.program(), "-o", self.plan, "--from", self.room)
         self.assertEqual(ran.returncode, 0, ran.stderr)
@@ -336,9 +346,9 @@ class WhereTest(RoomTest):
 
     def test_a_race(self) -> None:
         """The calls of a finding lead to the lines of the program that made them."""
-        ran = run_recorder("-o", self.plan, "--from", os.path.join(SHIPPED, "wild1"))
+        ran = run_recorder("-o", self.plan, "--from", SHIPPED / "wild1")
         self.assertEqual(ran.returncode, 0)
-        source = read_file(os.path.join(PROGRAMS, "cases.c")).splitlines()
+        source = read_file(PROGRAMS / "cases.c").splitlines()
         scripts = read_scripts(read_file(self.plan))
         calls = (
             ("app:0", "lookup first", "look_up", "MPI_Lookup_name"),
@@ -352,24 +362,24 @@ class WhereTest(RoomTest):
 
     def test_a_program_of_python(self) -> None:
         """A call of mpi4py comes from its line of Python."""
-        run_recorder("-o", self.plan, "--from", os.path.join(SHIPPED, "mpi4py"))
+        run_recorder("-o", self.plan, "--from", SHIPPED / "mpi4py")
         number = read_scripts(read_file(self.plan))[0].index("publish told port") + 1
-        source = read_file(os.path.join(PROGRAMS, "cases.py")).splitlines()
+        source = read_file(PROGRAMS / "cases.py").splitlines()
         line = 1 + next(n for n, text in enumerate(source) if 'Publish_name("told"' in text)
         self.assertEqual(self.find("app:0", number), f"<module> (cases.py:{line})\n")
 
     def test_a_call_that_is_not_there(self) -> None:
-        run_recorder("-o", self.plan, "--from", os.path.join(SHIPPED, "wild1"))
+        run_recorder("-o", self.plan, "--from", SHIPPED / "wild1")
         for process, number in (("app:0", "99"), ("app:9", "1"), ("other:0", "1")):
             ran = run_recorder("--where", process, number, self.plan)
             said = f"wire_up-record: {self.plan}: has no call {number} of {process}\n"
             self.assertEqual((ran.returncode, ran.stderr), (125, said))
 
     def test_words_that_are_wrong(self) -> None:
-        few: list[str] = []
-        more = ["app:0", "1", self.plan, "--", "app:1"]
-        wrong = ["app:0", "0", self.plan], ["app:0", "x", self.plan]
-        for words in (few, ["app:0", "1"], more, *wrong):
+        plan = str(self.plan)
+        more = ("app:0", "1", plan, "--", "app:1")
+        wrong = ("app:0", "0", plan), ("app:0", "x", plan)
+        for words in ((), ("app:0", "1"), more, *wrong):
             with self.subTest(words):
                 ran = run_recorder("--where", *words)
                 self.assertEqual(ran.returncode, 125)
@@ -378,7 +388,7 @@ class WhereTest(RoomTest):
     @needs_program
     def test_the_finding_names_these_calls(self) -> None:
         program = support.program()
-        run_recorder("-o", self.plan, "--from", os.path.join(SHIPPED, "wild1"))
+        run_recorder("-o", self.plan, "--from", SHIPPED / "wild1")
         first, second = read_scripts(read_file(self.plan))[:2]
         calls = first.index("lookup first") + 1, second.index("publish first port") + 1
         said = f"race app:0 {calls[0]} app:1 {calls[1]} name first"

@@ -3,13 +3,13 @@ names a file and, where one line is wrong, its number."""
 import contextlib
 import gc
 import io
-import os
 import random
 import re
 import shutil
 import tempfile
 import unittest
 from collections.abc import Callable, Mapping, Sequence
+from pathlib import Path
 
 from wire_up_tools.failures import Refused
 from wire_up_tools.record.tasks import Output, make
@@ -86,13 +86,9 @@ def damage(dice: random.Random, data: bytes) -> bytes:
     return b"\n".join(lines)
 
 
-def read_folder(folder: str) -> Mapping[str, bytes]:
+def read_folder(folder: Path) -> Mapping[str, bytes]:
     """The files of a folder."""
-    found = {}
-    for entry in os.scandir(folder):
-        with open(entry.path, "rb") as file:
-            found[entry.name] = file.read()
-    return found
+    return {path.name: path.read_bytes() for path in folder.iterdir()}
 
 
 class DamagedTest(unittest.TestCase):
@@ -102,22 +98,22 @@ class DamagedTest(unittest.TestCase):
         room = tempfile.TemporaryDirectory(prefix="wire-up-")
         self.addCleanup(room.cleanup)
         self.addCleanup(gc.enable)
-        self.folder = os.path.join(room.name, "folder")
-        self.plan, self.answers = (os.path.join(room.name, word) for word in ("plan", "answers"))
-        names = sorted(entry.name for entry in os.scandir(SHIPPED) if entry.is_dir())
-        self.shipped = [read_folder(os.path.join(SHIPPED, name)) for name in names]
+        self.folder = Path(room.name, "folder")
+        self.plan, self.answers = (Path(room.name, word) for word in ("plan", "answers"))
+        folders = sorted(path for path in SHIPPED.iterdir() if path.is_dir())
+        self.shipped = [read_folder(folder) for folder in folders]
 
     def make(self, files: Mapping[str, bytes]) -> bool:
         """Makes the plan of some files, or tests how they are refused. Answers whether there is a
         plan."""
         shutil.rmtree(self.folder, ignore_errors=True)
-        os.mkdir(self.folder)
+        self.folder.mkdir()
         for name, data in files.items():
-            write_file(os.path.join(self.folder, name), data)
-        output = Output(self.plan, self.answers, checker="/dev/null")
+            write_file(self.folder / name, data)
+        output = Output(str(self.plan), str(self.answers), checker="/dev/null")
         try:
             with contextlib.redirect_stderr(io.StringIO()):
-                make(output, [self.folder], self.folder)
+                make(output, [str(self.folder)], str(self.folder))
         except Refused as why:
             self.assertRegex(str(why), rf"\A(?:{REFUSAL.pattern})\Z")
             return False

@@ -1,7 +1,7 @@
 """Tests gets that don't block: whether the order that a plan takes from them hides a race."""
-import os
 import tempfile
 import unittest
+from pathlib import Path
 
 from wire_up_tools.plan_reading import read_plan
 from wire_up_tools.record.notes import FLOATING, UNAWAITED
@@ -45,12 +45,12 @@ class FloatingTest(unittest.TestCase):
     def record(self, *tapes: Tape, checker: str = "") -> tuple[str, str]:
         """The plan of some processes, and what is said of it."""
         paths = [
-            write_file(os.path.join(self.room, f"{n}.recording"), tape.text())
+            write_file(Path(self.room, f"{n}.recording"), tape.text())
             for n, tape in enumerate(tapes)
         ]
-        plan = os.path.join(self.room, "plan")
-        words = ["--checker", checker or self.program, "-o", plan, "--from"]
-        ran = run_recorder(*words, *paths)
+        plan = Path(self.room, "plan")
+        options = ("--checker", checker or self.program, "-o", plan)
+        ran = run_recorder(*options, "--from", *paths)
         self.assertEqual(ran.returncode, 0, ran.stderr)
         return read_file(plan), ran.stderr
 

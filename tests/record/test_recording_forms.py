@@ -1,8 +1,6 @@
 """Tests that the recorder's C code asks its own printf (record/core/text.c) only for forms that it
 knows: a compiler that checks forms knows more of them.
 """
-import glob
-import os
 import re
 import unittest
 
@@ -19,16 +17,11 @@ KNOWN = re.compile(r"%(?:%|s|c|(?:0[1-9][0-9]?)?(?:ll|l|z)?[dux])$")
 def formats() -> list[tuple[str, str]]:
     """Each file of the recorder with each of its format strings."""
     found: list[tuple[str, str]] = []
-    for path in sorted(glob.glob(os.path.join(TOP, "record", "**", "*.[ch]"), recursive=True)):
-        with open(path, encoding="utf-8") as file:
-            for call in CALL.finditer(file.read()):
-                # Words that are told stand behind the format, and none of them has a percent sign.
-                name = os.path.relpath(path, TOP)
-                found += [
-                    (name, each_found)
-                    for each_found in STRING.findall(call.group(1))
-                    if "%" in each_found
-                ]
+    for path in sorted((TOP / "record").rglob("*.[ch]")):
+        name = str(path.relative_to(TOP))
+        for call in CALL.finditer(path.read_text(encoding="utf-8")):
+            # Words that are told stand behind the format, and none of them has a percent sign.
+            found += [(name, text) for text in STRING.findall(call.group(1)) if "%" in text]
     return found
 
 

@@ -3,7 +3,6 @@
 Where they aren't, all of this is skipped, and says what lacks. Without a built `wire_up` plans are
 made, and not checked.
 """
-import glob
 import os
 import re
 import shutil
@@ -14,6 +13,7 @@ import tempfile
 import time
 import unittest
 from collections.abc import Iterator, Mapping, Sequence
+from pathlib import Path
 
 from wire_up_tools.limits import VERSION_1
 from wire_up_tools.record.calls import Collective, CollectiveEnd, Sources
@@ -79,12 +79,12 @@ SOURCES: Mapping[str, Sequence[Sources | tuple[int, ...]]] = {
 STEPS = 20
 
 
-def wait_for_recordings(folder: str, count: int) -> None:
+def wait_for_recordings(folder: Path, count: int) -> None:
     """Waits until so many recordings have the world of MPI in them: not for long, but on a slow
     machine."""
     for _ in range(2000):
         time.sleep(0.02)
-        files = glob.glob(os.path.join(folder, "wire_up-record-*", "*.recording"))
+        files = [*folder.glob("wire_up-record-*/*.recording")]
         if len(files) == count and all(" world " in read_file(file) for file in files):
             return
 
@@ -141,9 +141,9 @@ class ProgramsTest(LiveTest):
     def test_a_program_that_is_named_like_a_component(self) -> None:
         """It isn't taken for a part of PMIx or MPI."""
         for folder in ("pmix-tests", "openmpi"):
-            there = os.path.join(self.folder.name, folder)
-            os.mkdir(there)
-            path = shutil.copy(self.compile("early"), os.path.join(there, "mca_early"))
+            there = Path(self.folder.name, folder)
+            there.mkdir()
+            path = shutil.copy(self.compile("early"), there / "mca_early")
             self.record(*mpirun(2, path))
             self.assertEqual(read_file(self.plan).count("\npublish solver"), 1)
 
@@ -164,7 +164,7 @@ class ProgramsTest(LiveTest):
         python = find_python()
         if not python:
             self.skipTest("there is no mpi4py")
-        path = os.path.join(PROGRAMS, "cases.py")
+        path = PROGRAMS / "cases.py"
         ran = self.record("--answers", self.answers, *mpirun(3, python, path))
         self.assertEqual(ran.returncode, 0, ran.stderr[:300])
         if self.program:
@@ -209,7 +209,7 @@ class CasesTest(LiveTest):
 
     def hold(self, name: str, of: Program, compiled: str = "cases") -> None:
         """Tests one of them."""
-        words = ["--checker", self.program or "/dev/null", "--answers", self.answers]
+        words = ("--checker", self.program or "/dev/null", "--answers", self.answers)
         ran = self.record(*words, *mpirun(of.processes, self.compile(compiled), name))
         self.assertEqual((ran.returncode, ran.stdout), (0, f"{name} done\n"), ran.stderr[:300])
         luck = of.says_otherwise(is_checked=self.program is not None, is_live=True)
@@ -255,7 +255,7 @@ class CasesTest(LiveTest):
         if not shutil.which("addr2line"):
             self.skipTest("there is no addr2line")
         self.hold("wild1", CASES["wild1"])
-        source = read_file(os.path.join(PROGRAMS, "cases.c")).splitlines()
+        source = read_file(PROGRAMS / "cases.c").splitlines()
         number = read_scripts(read_file(self.plan))[0].index("lookup first") + 1
         found = run_recorder("--where", "app:0", str(number), self.plan).stdout
         form = r"main \({0}\) -> wild \({0}\) -> look_up \({0}\)\n".format(r"cases\.c:(\d+)")
@@ -282,13 +282,13 @@ class CasesTest(LiveTest):
 
     def test_too_many_calls(self) -> None:
         """A program with more calls than a plan may have is told so, and its recordings stay."""
-        kept = os.path.join(self.room, "kept")
-        words = ["--checker", "/bin/false", "--keep", kept]
+        kept = self.room / "kept"
+        words = ("--checker", "/bin/false", "--keep", kept)
         ran = self.record(*words, *mpirun(2, self.compile("cases"), "toomany"))
         self.assertEqual((ran.returncode, ran.stdout), (125, "toomany done\n"))
         said = r"a plan has at most 16,384 calls, and this one would have 20,0\d\d\n"
         self.assertRegex(ran.stderr, said)
-        self.assertEqual(len(glob.glob(os.path.join(kept, "*.recording"))), 2)
+        self.assertEqual(len([*kept.glob("*.recording")]), 2)
 
     def test_a_script(self) -> None:
         """A script that holds `mpirun -x` is recorded, and its status is passed on."""
@@ -356,7 +356,7 @@ class OtherWaysTest(LiveTest):
     def test_a_tool_of_pmix(self) -> None:
         """Also one whose name begins like that of a launcher."""
         path = self.compile("alone")
-        for item in (path, shutil.copy(path, os.path.join(self.folder.name, "prun_tests"))):
+        for item in (path, shutil.copy(path, Path(self.folder.name, "prun_tests"))):
             ran = self.record(item, "tool")
             self.assertEqual((ran.returncode, drop_each_run(ran.stderr)), (0, ""))
             self.assertEqual(read_scripts(read_file(self.plan)), [["put global key number:1"]])
@@ -390,7 +390,7 @@ class OtherWaysTest(LiveTest):
         except subprocess.CalledProcessError:
             self.skipTest("there is no AddressSanitizer")
         without_leaks = {**ENVIRONMENT, "ASAN_OPTIONS": "detect_leaks=0"}
-        words = ["--checker", "/bin/false", "-o", self.plan]
+        words = ("--checker", "/bin/false", "-o", self.plan)
         ran = run_recorder(*words, *mpirun(2, path), environment=without_leaks)
         self.assertEqual((ran.returncode, ran.stderr), (0, ""))
         self.assertIn("\nlookup solver\n", read_file(self.plan))
@@ -460,7 +460,7 @@ class OtherWaysTest(LiveTest):
         self.hold("mixed")
         self.hold("mixed-barrier")
         self.hold("fortran")
-        source = read_file(os.path.join(PROGRAMS, "fortran.f90")).splitlines()
+        source = read_file(PROGRAMS / "fortran.f90").splitlines()
         called, line = (
             1 + next(n for n, text in enumerate(source) if wanted in text)
             for wanted in ("call old_way(rank)", 'Publish_name("old"')
@@ -476,13 +476,13 @@ class MessagesTest(LiveTest):
 
     def setUp(self) -> None:
         super().setUp()
-        self.kept = os.path.join(self.room, "kept")
+        self.kept = self.room / "kept"
         ran = self.record("--keep", self.kept, *mpirun(4, self.compile("messages")))
         self.assertEqual(ran.returncode, 0, ran.stderr[:300])
         self.assertEqual(ran.stdout.count(f": {STEPS} steps, 0 wrong"), 4)
 
     def test_whom_processes_waited_for(self) -> None:
-        for recording in read_recordings([self.kept], VERSION_1):
+        for recording in read_recordings([str(self.kept)], VERSION_1):
             for call in recording.calls:
                 if isinstance(call.action, Collective):
                     name = call.action.name
@@ -519,7 +519,7 @@ class StatusesTest(LiveTest):
         self.hold(["./no-such-command"], 127, "No such file")
 
     def test_a_command_that_cannot_be_run(self) -> None:
-        self.hold([self.room], 126, "Permission denied")
+        self.hold([str(self.room)], 126, "Permission denied")
 
     def test_a_folder_that_is_not_empty(self) -> None:
         kept = self.folder.name
@@ -534,10 +534,10 @@ class StatusesTest(LiveTest):
     def test_a_launcher_that_is_killed(self) -> None:
         """What was recorded by then becomes a plan, which says that the run was cut off."""
         run = " ".join(mpirun(2, self.compile("cases"), "sleep"))
-        number = os.path.join(self.room, "number")
-        words = ["-o", self.plan, "sh", "-c", f"echo $$ > {number}; exec {run}"]
+        number = self.room / "number"
+        words = ["sh", "-c", f"echo $$ > {number}; exec {run}"]
         with subprocess.Popen(
-            [sys.executable, COMMAND, *words],
+            [sys.executable, COMMAND, "-o", self.plan, *words],
             stdout=subprocess.DEVNULL,
             stderr=subprocess.PIPE,
             text=True,
@@ -554,7 +554,7 @@ class StatusesTest(LiveTest):
         """Tests a signal."""
         run = mpirun(2, self.compile("cases"), "sleep")
         with tempfile.TemporaryDirectory(prefix="wire-up-") as here:
-            words = [sys.executable, COMMAND, "-o", os.path.join(here, "plan"), *run]
+            words = [sys.executable, COMMAND, "-o", f"{here}/plan", *run]
             with subprocess.Popen(
                 words,
                 stdout=subprocess.DEVNULL,
@@ -562,7 +562,7 @@ class StatusesTest(LiveTest):
                 text=True,
                 env=ENVIRONMENT,
             ) as ran:
-                wait_for_recordings(here, 2)
+                wait_for_recordings(Path(here), 2)
                 began = time.monotonic()
                 ran.send_signal(number)
                 said = ran.communicate(timeout=PATIENCE)[1]
@@ -580,15 +580,15 @@ class MemoryTest(LiveTest):
         """Tests a program of two processes."""
         if not shutil.which("valgrind"):
             self.skipTest("there is no valgrind")
-        log = os.path.join(self.room, "memcheck.%p")
+        log = self.room / "memcheck.%p"
         words = ["valgrind", "-q", "--leak-check=full", f"--log-file={log}", self.compile(name)]
         ran = self.record(*mpirun(2, *words, *options))
         self.assertEqual(ran.returncode, 0, ran.stderr[:300])
-        logs = glob.glob(os.path.join(self.room, "memcheck.*"))
+        logs = [*self.room.glob("memcheck.*")]
         self.assertEqual(len(logs), 2)
         for path in logs:
-            with open(path, encoding="utf-8", errors="replace") as file:
-                self.assertEqual(list(find_faults(file.read())), [])
+            text = path.read_text(encoding="utf-8", errors="replace")
+            self.assertEqual(list(find_faults(text)), [])
 
     def test_threads_and_callbacks(self) -> None:
         self.hold("calls", "threads")

@@ -4,10 +4,10 @@ what is loaded. They end as without it.
 
 Where MPI and PMIx aren't there, all of this is skipped, and says what lacks.
 """
-import os
 import subprocess
 import unittest
 from collections.abc import Sequence
+from pathlib import Path
 
 from tests.support.live import LiveTest, find_python, mpirun
 from tests.support.recorded import IN_PART, THREADS, why_other_findings
@@ -67,8 +67,8 @@ class LocksTest(LiveTest):
             self.skipTest("there is no mpi4py")
         asked = subprocess.run([python, "-c", ASK], capture_output=True, text=True, check=True)
         folder, name, home = asked.stdout.splitlines()
-        library = os.path.join(folder, name)
-        if not name.endswith((".so", ".so.1.0")) or not os.path.exists(library):
+        library = Path(folder, name)
+        if not name.endswith((".so", ".so.1.0")) or not library.exists():
             self.skipTest("this Python has no library")
         run = ["env", f"PYTHONHOME={home}", *mpirun(2, self.compile("embed"), library)]
         self.hold(run, "", 0)

@@ -1,8 +1,8 @@
 """Tests the plan of several runs: what they share, and where they part."""
-import os
 import tempfile
 import unittest
 from collections.abc import Sequence
+from pathlib import Path
 
 from wire_up_tools.failures import Refused
 from wire_up_tools.record.merging import merge_plans
@@ -150,16 +150,16 @@ class MergedTest(unittest.TestCase):
         """It says one verdict, and whether that holds for each run."""
         program = support.program()
         with tempfile.TemporaryDirectory(prefix="wire-up-") as room:
-            plan = os.path.join(room, "plan")
-            words = ["-o", plan, "--checker", program]
-            first, second = (os.path.join(SHIPPED, name) for name in ("wild1", "wild2"))
+            plan = Path(room, "plan")
+            words = ("-o", plan, "--checker", program)
+            first, second = (Path(SHIPPED, name) for name in ("wild1", "wild2"))
             ran = run_recorder(*words, "--from", first, "--from", second)
             each = "by themselves they have findings 1, findings 1"
             received = CASES["wild1"].says_otherwise().replace("2", "4")
             said = f"wire_up-record: what the runs share has findings 1; {each}\n"
             self.assertEqual((ran.returncode, ran.stderr), (0, received + said))
             self.assertIn("# 2 runs: ", read_file(plan))
-            told = os.path.join(SHIPPED, "told")
+            told = SHIPPED / "told"
             ran = run_recorder(*words, "--from", told, "--from", told)
             said = "wire_up-record: findings 0: it holds for each of the 2 runs\n"
             self.assertEqual((ran.returncode, ran.stderr), (0, said))
@@ -169,8 +169,8 @@ class MergedTest(unittest.TestCase):
         """They are said of several runs as of one."""
         program = support.program()
         with tempfile.TemporaryDirectory(prefix="wire-up-") as room:
-            plan, poll = os.path.join(room, "plan"), os.path.join(SHIPPED, "poll")
-            words = ["-o", plan, "--checker", program, "--from", poll, "--from", poll]
+            plan, poll = Path(room, "plan"), Path(SHIPPED, "poll")
+            words = ("-o", plan, "--checker", program, "--from", poll, "--from", poll)
             ran = run_recorder(*words)
             both = "findings 0, and findings 1 with --strict"
             self.assertIn(f"wire_up-record: {both}, which takes nothing from 2 ends", ran.stderr)
@@ -178,7 +178,7 @@ class MergedTest(unittest.TestCase):
 
     def test_no_files(self) -> None:
         with tempfile.TemporaryDirectory(prefix="wire-up-") as room:
-            file = write_file(os.path.join(room, "a.recording"), Tape(0).text())
+            file = write_file(Path(room, "a.recording"), Tape(0).text())
             ran = run_recorder("-o", "-", "--from", file, "--from")
             self.assertEqual(ran.returncode, 125)
             self.assertIn("which recordings?", ran.stderr)

@@ -1,14 +1,13 @@
 """Tests which functions of a header the recorders note, and which they count."""
-import glob
-import os
 import re
 import shutil
 import subprocess
 import sys
 import tempfile
 import unittest
+from pathlib import Path
 
-from tests.support import TOP
+from tests.support import TOP, Word
 from tests.support.tapes import write_file
 
 
@@ -60,10 +59,10 @@ class OwnersTest(unittest.TestCase):
         if not shutil.which("cc"):
             self.skipTest("there is no cc")
         with tempfile.TemporaryDirectory(prefix="wire-up-") as room:
-            source = write_file(os.path.join(room, "owners.c"), OWNERS)
-            path = os.path.join(room, "owners")
-            sources = sorted(glob.glob(os.path.join(TOP, "record", "core", "*.c")))
-            flags = ["-std=gnu11", "-pthread", f"-I{os.path.join(TOP, 'record')}", "-ldl"]
+            source = write_file(Path(room, "owners.c"), OWNERS)
+            path = Path(room, "owners")
+            sources = sorted((TOP / "record" / "core").glob("*.c"))
+            flags = ["-std=gnu11", "-pthread", f"-I{TOP / 'record'}", "-ldl"]
             subprocess.run(["cc", "-o", path, source, *sources, *flags], check=True)
             ran = subprocess.run([path, *OWNER_OF], capture_output=True, text=True, check=True)
         self.assertEqual([int(word) for word in ran.stdout.split()], list(OWNER_OF.values()))
@@ -72,9 +71,9 @@ class OwnersTest(unittest.TestCase):
 class OthersTest(unittest.TestCase):
     """record/others.py writes the functions that a recorder doesn't have, and that aren't local."""
 
-    def write(self, program: str, header: str, table: str) -> str:
+    def write(self, program: str, header: str, table: Word) -> str:
         """What one of the programs writes for a header."""
-        words = [sys.executable, "-B", os.path.join(TOP, "record", program), "MPI", table]
+        words: list[Word] = [sys.executable, "-B", TOP / "record" / program, "MPI", table]
         ran = subprocess.run(words, input=header, capture_output=True, text=True, check=False)
         self.assertEqual(ran.returncode, 0, ran.stderr)
         return ran.stdout
@@ -82,7 +81,7 @@ class OthersTest(unittest.TestCase):
     def test_a_header(self) -> None:
         with tempfile.TemporaryDirectory(prefix="wire-up-") as room:
             table = write_file(
-                os.path.join(room, "source.c"), b"/* MPI_Odd */ int MPI_Known(int a) {}"
+                Path(room, "source.c"), b"/* MPI_Odd */ int MPI_Known(int a) {}"
             )
             wrote = self.write("others.py", HEADER, table)
         pattern = r"(?m)^int (\w+)\(|result = (?:real|tool)\((.*)\);|(forget_\w+\(.*\));"
@@ -101,7 +100,7 @@ class OthersTest(unittest.TestCase):
 
     def test_functions_with_large_counts(self) -> None:
         """They are noted as those with the usual counts."""
-        table = os.path.join(TOP, "record", "mpi.table")
+        table = TOP / "record" / "mpi.table"
         noted = self.write("wrappers.py", LARGE_HEADER, table)
         names = re.findall(r"(?m)^int (MPI_\w+)\(", noted)
         self.assertEqual(names, ["MPI_Send_c", "MPI_Bcast", "MPI_Bcast_c"])

@@ -1,9 +1,9 @@
 """Tests patterns that are made of plans: they expand to the plan that they come from."""
-import os
 import re
 import tempfile
 import unittest
 from collections.abc import Mapping, Sequence
+from pathlib import Path
 
 from wire_up_tools.failures import Refused
 from wire_up_tools.record.patterning import find_pattern, holds_in_part
@@ -296,7 +296,7 @@ class CommandTest(unittest.TestCase):
         room = tempfile.TemporaryDirectory(prefix="wire-up-")
         self.addCleanup(room.cleanup)
         self.room = room.name
-        self.plan, self.pattern = (os.path.join(room.name, word) for word in ("plan", "pattern"))
+        self.plan, self.pattern = (Path(room.name, word) for word in ("plan", "pattern"))
 
     def run_on(self, *files: str) -> str:
         """Makes the pattern of a recording, and answers what is said."""
@@ -308,7 +308,7 @@ class CommandTest(unittest.TestCase):
     def write_tapes(self, texts: Sequence[bytes]) -> list[str]:
         """Writes recordings, and answers their paths."""
         return [
-            write_file(os.path.join(self.room, f"{n}.recording"), text)
+            write_file(Path(self.room, f"{n}.recording"), text)
             for n, text in enumerate(texts)
         ]
 
@@ -331,9 +331,9 @@ class CommandTest(unittest.TestCase):
         self.assertIn(in_part, said)
 
     def test_a_recording_without(self) -> None:
-        said = self.run_on(os.path.join(SHIPPED, "collectives"))
+        said = self.run_on(str(SHIPPED / "collectives"))
         self.assertRegex(said, r"^wire_up-record: there is no pattern: app:\d+ \d+: `fence .*\n$")
-        self.assertFalse(os.path.exists(self.pattern))
+        self.assertFalse(self.pattern.exists())
 
 
 if __name__ == "__main__":

@@ -1,9 +1,9 @@
 """Tests where in the program calls come from: a function, and what called it."""
-import os
 import shutil
 import subprocess
 import tempfile
 import unittest
+from pathlib import Path
 
 from wire_up_tools.record.places import Places, find_lines
 from wire_up_tools.record.recordings import MOST_FRAMES, Address, Recording, read_recording
@@ -82,8 +82,8 @@ class InlinedTest(unittest.TestCase):
         if not all(map(shutil.which, ("cc", "addr2line", "objdump"))):
             self.skipTest("there is no cc, addr2line or objdump")
         with tempfile.TemporaryDirectory(prefix="wire-up-") as room:
-            source = write_file(os.path.join(room, "solve.c"), INLINED.encode())
-            made = os.path.join(room, "solve.so")
+            source = write_file(Path(room, "solve.c"), INLINED.encode())
+            made = f"{room}/solve.so"
             words = ["cc", "-g", "-O2", "-shared", "-fPIC", "-o", made, source]
             subprocess.run(words, capture_output=True, check=True)
             words = ["objdump", "-d", "--no-show-raw-insn", made]

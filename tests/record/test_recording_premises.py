@@ -6,6 +6,7 @@ import shutil
 import tempfile
 import unittest
 from collections.abc import Sequence
+from pathlib import Path
 
 from wire_up_tools.checker import Checker
 from wire_up_tools.report.asking import Asker
@@ -39,14 +40,14 @@ class PremisesCase(unittest.TestCase):
     def setUp(self) -> None:
         room = tempfile.TemporaryDirectory(prefix="wire-up-")
         self.addCleanup(room.cleanup)
-        self.room, self.plan = room.name, os.path.join(room.name, "plan")
+        self.room, self.plan = room.name, Path(room.name, "plan")
         self.program = support.program()
 
     def record(self, tapes: Sequence[Tape], *words: str, ends: bool = True) -> str:
         """What the recorder says of the plan of recordings, of which the last may not have
         ended."""
         files = [
-            write_file(os.path.join(self.room, f"{n}.recording"), tape.text(ends or n == 0))
+            write_file(Path(self.room, f"{n}.recording"), tape.text(ends or n == 0))
             for n, tape in enumerate(tapes)
         ]
         ran = run_recorder("-o", self.plan, "--checker", self.program, *words, "--from", *files)
@@ -56,7 +57,7 @@ class PremisesCase(unittest.TestCase):
     def report(self) -> Report:
         """What is reported of the plan."""
         data = read_file(self.plan).encode()
-        return make_report(self.plan, Asker(Checker(self.program), data))
+        return make_report(str(self.plan), Asker(Checker(self.program), data))
 
     def hold_silent(self, said: str) -> None:
         """Tests that nowhere each run is said to make these calls."""
@@ -88,14 +89,14 @@ class EachRunTest(PremisesCase):
 
     def test_a_ring_of_messages(self) -> None:
         """Of several recordings of it too."""
-        folder = os.path.join(SHIPPED, "ring")
-        words = ["-o", self.plan, "--checker", self.program, "--from", folder]
+        folder = SHIPPED / "ring"
+        words = ("-o", self.plan, "--checker", self.program, "--from", folder)
         self.assertEqual(run_recorder(*words).stderr, EACH_RUN)
         said = run_recorder(*words, "--from", folder).stderr
         self.assertTrue(said.startswith(EACH_RUN), said)
 
     def test_without_a_checker(self) -> None:
-        folder = os.path.join(SHIPPED, "ring")
+        folder = SHIPPED / "ring"
         ran = run_recorder("-o", self.plan, "--checker", "/dev/null", "--from", folder)
         self.assertEqual((ran.returncode, ran.stderr), (0, ""))
         self.assertNotIn(SENTENCE, read_file(self.plan))
@@ -273,9 +274,9 @@ class OtherwiseTest(PremisesCase):
 
     def test_the_line_of_the_program(self) -> None:
         """The first is told by its name and its line."""
-        folder = os.path.join(self.room, "later")
-        shutil.copytree(os.path.join(SHIPPED, "later"), folder)
-        path = os.path.join(folder, self.find_with(folder, "lookup"))
+        folder = Path(self.room, "later")
+        shutil.copytree(Path(SHIPPED, "later"), folder)
+        path = folder / self.find_with(folder, "lookup")
         text = read_file(path)
         call = next(line for line in text.splitlines() if " lookup " in line).split(" ")[1]
         found = next(line for line in text.splitlines() if line.startswith(f"- {call} "))
@@ -287,23 +288,23 @@ class OtherwiseTest(PremisesCase):
         self.assertRegex(ran.stderr, form + call)
         self.assertRegex(write_text(self.report()), r"no race seen.*, in part")
 
-    def find_with(self, folder: str, verb: str) -> str:
+    def find_with(self, folder: Path, verb: str) -> str:
         """The recording in a folder that has a call."""
         names = sorted(name for name in os.listdir(folder) if name.endswith(".recording"))
-        return next(name for name in names if f" {verb} " in read_file(os.path.join(folder, name)))
+        return next(name for name in names if f" {verb} " in read_file(folder / name))
 
     def test_one_of_several_runs(self) -> None:
         """The run is named."""
-        own = os.path.join(self.room, "own")
-        os.mkdir(own)
+        own = Path(self.room, "own")
+        own.mkdir()
         tapes = make_world(2)
         exchange_cards(tapes)
         for rank, tape in enumerate(tapes):
-            write_file(os.path.join(own, f"{rank}.recording"), tape.text())
+            write_file(own / f"{rank}.recording", tape.text())
             if rank == 1:
                 tape.lines[-2] = tape.lines[-2].replace("text:card", "text:other")
-            write_file(os.path.join(self.room, f"{rank}.recording"), tape.text())
-        words = ["-o", self.plan, "--checker", self.program]
+            write_file(Path(self.room, f"{rank}.recording"), tape.text())
+        words = ("-o", self.plan, "--checker", self.program)
         ran = run_recorder(*words, "--from", own, "--from", self.room)
         said = "answered otherwise than by the rules: in run 2, 1 of 10 calls, first app:1 5 get: "
         self.assertIn(said, ran.stderr)

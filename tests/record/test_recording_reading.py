@@ -1,8 +1,8 @@
 """Tests which recordings are refused, and what is said of each."""
-import os
 import tempfile
 import unittest
 from collections.abc import Mapping, Sequence
+from pathlib import Path
 
 from tests.support.tapes import (
     Tape,
@@ -55,13 +55,13 @@ class RefusedRecordingsTest(unittest.TestCase):
         """Tests that recordings are refused with a line that says this."""
         with self.subTest(what), tempfile.TemporaryDirectory(prefix="wire-up-") as room:
             for name, data in files.items():
-                write_file(os.path.join(room, f"{name}.recording"), data)
-            plan = os.path.join(room, "plan")
+                write_file(Path(room, f"{name}.recording"), data)
+            plan = Path(room, "plan")
             ran = run_recorder("-o", plan, "--checker", "/bin/false", "--from", room)
             self.assertEqual((ran.returncode, ran.stdout), (125, ""), ran.stderr[:300])
             self.assertRegex(ran.stderr, r"\Awire_up-record: [^\n]*\n\Z")
             self.assertIn(what, ran.stderr)
-            self.assertFalse(os.path.exists(plan), "a plan is there")
+            self.assertFalse(plan.exists(), "a plan is there")
 
     def refuse_one(self, data: bytes, what: str) -> None:
         """Tests that a recording is refused with a line that says this."""
@@ -162,8 +162,8 @@ class RefusedRecordingsTest(unittest.TestCase):
 
     def test_places_that_cannot_be_read(self) -> None:
         with tempfile.TemporaryDirectory(prefix="wire-up-") as room:
-            write_file(os.path.join(room, "0.recording"), FINE)
-            write_file(os.path.join(room, "places"), b"module 12 f (a.c:1)\nmodule xyz f\n")
+            write_file(Path(room, "0.recording"), FINE)
+            write_file(Path(room, "places"), b"module 12 f (a.c:1)\nmodule xyz f\n")
             ran = run_recorder("-o", "-", "--checker", "/bin/false", "--from", room)
             self.assertEqual((ran.returncode, ran.stdout), (125, ""))
             self.assertRegex(ran.stderr, r"\Awire_up-record: .*places: line 2 isn't a place\n\Z")

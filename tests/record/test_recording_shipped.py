@@ -3,6 +3,7 @@ and are replayed as the programs ran."""
 import os
 import tempfile
 import unittest
+from pathlib import Path
 
 from tests import support
 from tests.support import tapes
@@ -31,7 +32,7 @@ class ShippedTest(unittest.TestCase):
     def setUp(self) -> None:
         room = tempfile.TemporaryDirectory(prefix="wire-up-")
         self.addCleanup(room.cleanup)
-        self.plan, self.answers = (os.path.join(room.name, word) for word in ("plan", "answers"))
+        self.plan, self.answers = (Path(room.name, word) for word in ("plan", "answers"))
         self.program = find_program()
 
     def hold(self, name: str, with_mpi: bool, count: int) -> None:
@@ -45,10 +46,10 @@ class ShippedTest(unittest.TestCase):
         )
         of = SHIPPED[name]
         said = "" if is_without_doubt else of.says_in_part + of.says_left_out
-        words = ["-o", self.plan, "--answers", self.answers]
-        words += ["--checker", self.program or "/dev/null", *([] if with_mpi else ["--no-mpi"])]
-        source = ["--from", os.path.join(tapes.SHIPPED, name)]
-        ran = run_recorder(*words, *source, says_libraries=True)
+        words = ["--checker", self.program or "/dev/null", *([] if with_mpi else ["--no-mpi"])]
+        words += ["--from", str(tapes.SHIPPED / name)]
+        texts = ("-o", self.plan, "--answers", self.answers)
+        ran = run_recorder(*texts, *words, says_libraries=True)
         self.hold_libraries(name, ran.stderr, with_mpi)
         ran.stderr = LIBRARIES.sub("", ran.stderr)
         said += of.says_otherwise(with_mpi, self.program is not None)

@@ -16,6 +16,7 @@ import tempfile
 import threading
 import time
 import unittest
+from pathlib import Path
 
 from wire_up_tools.record.running import find_libraries, make_environment
 from tests.programs.show_launchers import find_words
@@ -46,7 +47,7 @@ def find_processes(path: str) -> list[int]:
     found = []
     for each_path in glob.glob("/proc/[0-9]*"):
         with contextlib.suppress(OSError):
-            number = int(os.path.basename(each_path))
+            number = int(Path(each_path).name)
             found += [number] if path in read_words(number) else []
     return found
 
@@ -87,7 +88,7 @@ class ShowingCase(LiveTest):
         """Runs the recorder. Nothing is left beside the plan."""
         options = self.options(hold)
         ran = run_recorder("-o", self.plan, *options, *task, *words, environment=environment)
-        self.assertEqual([], glob.glob(os.path.join(self.room, "wire_up-record-*")))
+        self.assertEqual([], [*self.room.glob("wire_up-record-*")])
         return ran
 
     def find_words(self, ran: Ran) -> list[str]:
@@ -157,7 +158,7 @@ class ShownTest(ShowingCase):
         self.hold(["shown"], "and they end alike", 2, "shown", "bigsend")
 
     def test_an_order_that_is_not_recorded(self) -> None:
-        flag = os.path.join(self.room, "flag")
+        flag = f"{self.room}/flag"
         said = r"app:1 had left MPI_Barrier for \d+\.\d s: ordered by what isn't recorded"
         self.hold(["not-made"], said, 2, "shown", "file", flag, is_in_vain=True)
 
@@ -215,7 +216,7 @@ class TurnedTest(ShowingCase):
         python = find_python()
         if not python:
             self.skipTest("there is no mpi4py")
-        ran = self.show(["--turn"], mpirun(2, python, os.path.join(PROGRAMS, "cases.py")))
+        ran = self.show(["--turn"], mpirun(2, python, PROGRAMS / "cases.py"))
         self.assertEqual({"kept"}, set(self.find_words(ran)), ran.stderr)
 
     def test_a_get_that_is_given_up(self) -> None:
@@ -262,7 +263,7 @@ class CommandTest(ShowingCase):
 
     def test_a_race_of_a_plan_that_is_there(self) -> None:
         words = self.words(2, "shown", "branch")
-        shown = os.path.join(self.room, "shown.json")
+        shown = self.room / "shown.json"
         self.assertEqual(0, self.record(*words).returncode)
         assert self.program is not None
         found = re.search(r"race (app:0 \d+ app:1 \d+) ", self.ask_checker())
@@ -273,8 +274,7 @@ class CommandTest(ShowingCase):
         )
         self.assertEqual(["shown"], self.find_words(ran), ran.stderr)
         self.assertEqual(0, ran.returncode)
-        with open(shown, encoding="utf-8") as file:
-            race = json.load(file)["races"][0]
+        race = json.loads(shown.read_text(encoding="utf-8"))["races"][0]
         self.assertEqual("shown", race["word"])
         self.assertEqual([0, 139], [item["status"] for item in race["runs"]])
         self.assertIn("# Shown in this program on ", read_file(self.plan))
@@ -283,7 +283,7 @@ class CommandTest(ShowingCase):
     def ask_checker(self) -> str:
         """What the checker says of the plan."""
         assert self.program is not None
-        words = [self.program, "check", self.plan]
+        words = [self.program, "check", str(self.plan)]
         return subprocess.run(words, capture_output=True, text=True, check=False).stdout
 
     def test_a_plan_of_another_program(self) -> None:
@@ -328,15 +328,15 @@ class CommandTest(ShowingCase):
         words, refused = self.words(2, "shown", "branch"), 0
         for size in (64, 80, 96):
             with small_disk(self, self.room, size) as folder:
-                plan = os.path.join(folder, "plan")
-                options = ["-o", plan, *self.options(), "--show"]
-                ran = run_recorder(*options, *words, environment=ENVIRONMENT)
+                plan = folder / "plan"
+                options = (*self.options(), "--show")
+                ran = run_recorder("-o", plan, *options, *words, environment=ENVIRONMENT)
                 if ran.returncode:
                     refused += 1
                     self.assertEqual(125, ran.returncode)
                     full = "No space left|no room|room for|is empty, and no recording"
                     self.assertRegex(ran.stderr.splitlines()[-1], full)
-                    if os.path.exists(plan):
+                    if plan.exists():
                         self.assertEqual(["plan"], os.listdir(folder))
                         self.assertNotIn("# Shown", read_file(plan))
         self.assertTrue(refused)
@@ -358,13 +358,12 @@ class CommandTest(ShowingCase):
         self.assertRegex(ran.stderr, r"ended status 0 \| no end")
 
     def test_input_that_all_runs_read(self) -> None:
-        words, source = self.words(2, "shown", "input"), os.path.join(self.room, "input")
-        with open(source, "w", encoding="ascii") as to:
-            to.write("some words\n")
-        ran = self.show(["--show", "--input", source, "--keep", f"{self.room}/kept"], words)
+        words, source = self.words(2, "shown", "input"), self.room / "input"
+        source.write_text("some words\n", encoding="ascii")
+        ran = self.show(["--show", "--input", str(source), "--keep", f"{self.room}/kept"], words)
         self.assertEqual(["shown"], self.find_words(ran), ran.stderr)
         for word in ("race-1-first", "race-1-second"):
-            output = os.path.join(self.room, "kept", word, "output")
+            output = self.room / "kept" / word / "output"
             self.assertIn("read some words", read_file(output))
         with open(source, "rb") as come:
             refused = self.begin(["--show"], words, come.fileno())
@@ -405,25 +404,25 @@ class CommandTest(ShowingCase):
             words = self.words(2, "shown", "hang")
             running = self.begin(["--show", "--limit", "60"], words)
             until = time.monotonic() + 4 * PATIENCE
-            pattern = os.path.join(self.room, "wire_up-record-*", "race-1-second", "*.recording")
-            while len(glob.glob(pattern)) < 2 and time.monotonic() < until:
+            pattern = "wire_up-record-*/race-1-second/*.recording"
+            while len([*self.room.glob(pattern)]) < 2 and time.monotonic() < until:
                 time.sleep(0.1)
             said = self.end(running, number)
             self.assertEqual(128 + number, running.returncode, said)
             head = read_file(self.plan)
             self.assertRegex(head, rf"(?m)^# Trying was stopped on \S+ by signal {number}$")
-            self.assertEqual([], glob.glob(os.path.join(self.room, "wire_up-record-*")))
+            self.assertEqual([], [*self.room.glob("wire_up-record-*")])
             self.assertEqual([], find_processes(words[-2]))
 
     def test_a_signal_in_the_first_run(self) -> None:
         """The plan is there, and the command doesn't run again."""
-        begun = os.path.join(self.room, "begun")
+        begun = self.room / "begun"
         first = " ".join(self.words(2, "early"))
         # Each run leaves a line, and the first waits for the signal.
         script = f"trap 'exit 3' INT; {first}; echo >>{begun}; while :; do sleep 0.1; done"
         running = self.begin(["--show"], ["sh", "-c", script])
         until = time.monotonic() + 4 * PATIENCE
-        while not os.path.exists(begun) and time.monotonic() < until:
+        while not begun.exists() and time.monotonic() < until:
             time.sleep(0.1)
         running.send_signal(signal.SIGINT)
         _, said = running.communicate(timeout=PATIENCE)
@@ -459,9 +458,8 @@ class WithoutServerTest(ShowingCase):
     def run_with(self, address: str) -> Ran:
         """Runs a program whose calls are named, with a server at an address."""
         folder = tempfile.mkdtemp(dir=self.room)
-        with open(os.path.join(folder, "hold"), "x", encoding="ascii") as to:
-            to.write(f"server {address} word\n")
-            to.write("call 0 0 1 publish port\ncall 0 1 1 lookup port\n")
+        calls = "call 0 0 1 publish port\ncall 0 1 1 lookup port\n"
+        Path(folder, "hold").write_text(f"server {address} word\n{calls}", encoding="ascii")
         environment = {**ENVIRONMENT, **make_environment(find_libraries(TOP, True), folder)}
         return subprocess.run(
             self.words(2, "shown", "abort"),
@@ -473,12 +471,12 @@ class WithoutServerTest(ShowingCase):
         )
 
     def test_none(self) -> None:
-        for address in (os.path.join(self.room, "talk"), "127.0.0.1:1", "no.such.host:1", "x"):
+        for address in (f"{self.room}/talk", "127.0.0.1:1", "no.such.host:1", "x"):
             ran = self.run_with(address)
             self.assertEqual((0, "joined\n"), (ran.returncode, ran.stdout), ran.stderr)
 
     def test_one_that_closes(self) -> None:
-        path, heard = os.path.join(self.room, "talk"), []
+        path, heard = f"{self.room}/talk", []
         with socket.socket(socket.AF_UNIX) as server:
             server.bind(path)
             server.listen(9)

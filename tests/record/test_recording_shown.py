@@ -1,6 +1,5 @@
 """Tests how races are shown in a program, as far as that needs no MPI: names of calls, traces, what
 differs, where a process stood, the server, options, and the head of a plan."""
-import os
 import socket
 import tempfile
 import threading
@@ -41,18 +40,18 @@ LOOKUP = Target("app:1", 1, 0, 1, "lookup port", 1, "lookup")
 BOTH = (PUBLISH, LOOKUP)
 
 
-def write_tapes(folder: str, tapes: Sequence[Tape]) -> None:
+def write_tapes(folder: Path, tapes: Sequence[Tape]) -> None:
     """Writes recordings, with the zeros that may follow them."""
     for number, tape in enumerate(tapes):
-        with open(os.path.join(folder, f"job.{number}.n0.{number}.recording"), "wb") as to:
+        with open(folder / f"job.{number}.n0.{number}.recording", "wb") as to:
             to.write("".join(f"{line}\n" for line in tape.lines).encode() + b"\0" * 10)
 
 
 def make_traces(tapes: Sequence[Tape]) -> Traces:
     """The traces of recordings."""
-    with tempfile.TemporaryDirectory() as folder:
-        write_tapes(folder, tapes)
-        return read_traces(Path(folder))
+    with tempfile.TemporaryDirectory() as room:
+        write_tapes(Path(room), tapes)
+        return read_traces(Path(room))
 
 
 def make_run(
@@ -101,18 +100,13 @@ class NamesTest(unittest.TestCase):
     def test_names_of_a_plan_are_those_of_its_recordings(self) -> None:
         """The count over the lines of a plan alone is that of the recording, in each that ships,
         but for calls of several names and of fences that others stand for."""
-        for name in sorted(os.listdir(SHIPPED)):
-            folder = os.path.join(SHIPPED, name)
-            if not os.path.isdir(folder) or not any(
-                ".rec" in each_name for each_name in os.listdir(folder)
-            ):
-                continue
+        for folder in sorted(path for path in SHIPPED.iterdir() if any(path.glob("*.rec*"))):
             try:
-                plan = make_plan(read_recordings([folder], LARGE), Choices(most=LARGE))
+                plan = make_plan(read_recordings([str(folder)], LARGE), Choices(most=LARGE))
             except Refused:
                 continue
-            with self.subTest(name):
-                self.hold_names(read_traces(Path(folder)), plan)
+            with self.subTest(folder.name):
+                self.hold_names(read_traces(folder), plan)
 
     def hold_names(self, traces: Traces, plan: Plan) -> None:
         """Compares the names of the calls of a plan with those of its recordings."""
@@ -419,14 +413,14 @@ class ServerTest(unittest.TestCase):
     def setUp(self) -> None:
         folder = tempfile.TemporaryDirectory()
         self.addCleanup(folder.cleanup)
-        self.folder = folder.name
+        self.folder = Path(folder.name)
 
     def make_server(self, holds: Holds, hold: float) -> Server:
         """A server, whose hall is open until the test is over."""
         halls = open_hall_for(None)
         hall = halls.__enter__()
         self.addCleanup(halls.__exit__, None, None, None)
-        return Server(hall, holds, Motion(Path(self.folder)), Patience(hold, PATIENCE))
+        return Server(hall, holds, Motion(self.folder), Patience(hold, PATIENCE))
 
     def serve(self, holds: Holds, hold: float) -> Server:
         """Begins to serve, until the test is over."""
@@ -486,7 +480,7 @@ class ServerTest(unittest.TestCase):
         server = self.make_server(Holds(BOTH, {2: [Wait(1)]}), hold=3)
         course, server.moved = server.courses[2], 100.0
         course.came = 100.0
-        with open(os.path.join(self.folder, "job.0.n0.1.recording"), "ab", 0) as to:
+        with open(self.folder / "job.0.n0.1.recording", "ab", 0) as to:
             for now in range(101, 120):
                 to.write(b"= 0 1 0.000001 other more\n")
                 server.look(now)
@@ -515,9 +509,8 @@ class ServerTest(unittest.TestCase):
             second.recv(9)
 
     def test_file_of_holds(self) -> None:
-        write_holds(Holds(BOTH), Path(self.folder), "/a/talk", "word")
-        with open(os.path.join(self.folder, "hold"), encoding="ascii") as file:
-            said = file.read()
+        write_holds(Holds(BOTH), self.folder, "/a/talk", "word")
+        said = (self.folder / "hold").read_text(encoding="ascii")
         self.assertEqual(
             "server /a/talk word\ncall 0 0 1 publish port\ncall 0 1 1 lookup port\n", said
         )
@@ -547,7 +540,7 @@ class CommandTest(unittest.TestCase):
                 ran = run_recorder("-o", "plan", *words, "true")
                 self.assertEqual(125, ran.returncode)
                 self.assertIn(said, ran.stderr.splitlines()[0])
-                self.assertFalse(os.path.exists("plan"))
+                self.assertFalse(Path("plan").exists())
 
     def test_what_goes_with_no_command(self) -> None:
         ran = run_recorder("-o", "plan", "--show", "--from", SHIPPED)
@@ -558,9 +551,8 @@ class CommandTest(unittest.TestCase):
 
     def test_plan_that_was_not_recorded(self) -> None:
         with tempfile.TemporaryDirectory() as folder:
-            path = os.path.join(folder, "plan")
-            with open(path, "w", encoding="ascii") as to:
-                to.write("rehearsal 1\nnode n0\njob app\nrank n0\n")
+            path = Path(folder, "plan")
+            path.write_text("rehearsal 1\nnode n0\njob app\nrank n0\n", encoding="ascii")
             ran = run_recorder("--of", path, "--show", "true")
             self.assertEqual((125, ""), (ran.returncode, ran.stdout))
             self.assertIn("isn't a plan that wire_up-record wrote", ran.stderr)

@@ -38,7 +38,7 @@ class SizesTest(LiveTest):
         super().setUp()
         if not self.program:
             self.skipTest("there is no built wire_up")
-        self.pattern = os.path.join(self.room, "pattern")
+        self.pattern = self.room / "pattern"
 
     def run_sizes(self, sizes: str, *words: str) -> Ran:
         """Runs the recorder with sizes."""
@@ -108,10 +108,10 @@ class SizesTest(LiveTest):
 
     def test_a_pattern_that_can_not_be_written(self) -> None:
         """This is found before the command runs."""
-        for path in (self.room, os.path.join(self.room, "none", "pattern")):
+        for path in (self.room, self.room / "none" / "pattern"):
             with self.subTest(path):
                 self.pattern = path
-                ran = self.run_sizes("3,4", "touch", os.path.join(self.room, "ran{}"))
+                ran = self.run_sizes("3,4", "touch", f"{self.room}/ran{{}}")
                 self.assertEqual((ran.returncode, ran.stdout), (125, ""))
                 self.assertRegex(ran.stderr, f"^wire_up-record: {path}: [^\n]*\n$")
         self.assertEqual(os.listdir(self.room), [])

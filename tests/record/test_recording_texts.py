@@ -5,17 +5,17 @@ The recorder has a printf of its own, since it is called for each record. The co
 the words fit the forms; that no form is one that this printf lacks is looked at here.
 """
 import glob
-import os
 import re
 import shutil
 import subprocess
 import tempfile
 import unittest
+from pathlib import Path
 
 from tests.support import TOP
 
 
-RECORD = os.path.join(TOP, "record")
+RECORD = TOP / "record"
 # A number with zeros before it up to a width, a text, a byte, and the sign itself.
 FORM = re.compile(r"%(?:0\d)?(?:l|ll|z)?[dux]|%[sc%]")
 CALL = re.compile(r"\bwire_up_text_add\(")
@@ -88,8 +88,7 @@ class FormsTest(unittest.TestCase):
         """Each is written out where it is given, and has no other part than `FORM` says."""
         count = 0
         for path in sources():
-            with open(os.path.join(RECORD, path), encoding="utf-8") as file:
-                text = file.read()
+            text = (RECORD / path).read_text(encoding="utf-8")
             for call in CALL.finditer(text):
                 given = second_argument(text[call.end():])
                 if given.startswith("const char *"):
@@ -117,9 +116,9 @@ class SanitizedTest(unittest.TestCase):
         if not compiler:
             self.skipTest("there is no cc")
         room = self.enterContext(tempfile.TemporaryDirectory())
-        program = os.path.join(room, "texts")
-        source = os.path.join(RECORD, "core", "text.c")
-        words = ["-std=gnu11", f"-I{RECORD}", "-x", "c", "-", source, "-o", program]
+        program = Path(room, "texts")
+        source = str(RECORD / "core" / "text.c")
+        words = ["-std=gnu11", f"-I{RECORD}", "-x", "c", "-", source, "-o", str(program)]
         for sanitized in (SANITIZED, list[str]()):
             built = subprocess.run(
                 [compiler, *sanitized, *words], input=PROGRAM, capture_output=True, text=True,

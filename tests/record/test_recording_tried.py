@@ -287,7 +287,7 @@ class PaceTest(unittest.TestCase):
 
     def test_no_run_begins_later(self) -> None:
         with tempfile.TemporaryDirectory() as room, self.assertRaises(OutOfTime):
-            run_held(make_session(0.0), Holds(()), os.path.join(room, "run"))
+            run_held(make_session(0.0), Holds(()), f"{room}/run")
 
 
 @unittest.skipUnless(find_library(support.TOP, OF_PMIX), "the recorder isn't built")
@@ -298,11 +298,10 @@ class RefusedRaceTest(unittest.TestCase):
         """What comes of a race with a plan that is there: the status, what is said, and whether the
         command ran."""
         with tempfile.TemporaryDirectory() as room:
-            plan, ran = os.path.join(room, "plan"), os.path.join(room, "ran")
-            with open(plan, "w", encoding="ascii") as to:
-                to.write(text)
+            plan, ran = Path(room, "plan"), Path(room, "ran")
+            plan.write_text(text, encoding="ascii")
             tried = run_recorder("-o", plan, "--show-race", race, "touch", ran)
-            return tried.returncode, tried.stderr, os.path.exists(ran)
+            return tried.returncode, tried.stderr, ran.exists()
 
     def test_orders_of_mpi(self) -> None:
         head = "# Recorded by wire_up-record on 2026-12-01: 2 processes\n"
@@ -329,10 +328,9 @@ class EarlierRaceTest(unittest.TestCase):
         first, second = (f"rank n0\n{more}publish {name} v\n", "rank n0\nlookup a\n")
         race = read_race("race app:0 1 app:1 1 name a")
         with tempfile.TemporaryDirectory() as room:
-            path = os.path.join(room, "plan")
-            with open(path, "w", encoding="ascii") as to:
-                to.write(f"{head}{HEAD}rank n0\npublish a v\n{second}")
-            earlier = find_earlier(race, path)
+            path = Path(room, "plan")
+            path.write_text(f"{head}{HEAD}rank n0\npublish a v\n{second}", encoding="ascii")
+            earlier = find_earlier(race, str(path))
         asked = Asked(False, race, False, 0, None, 8, None, None, 300.0, None, None)
         return follow_race(asked, earlier, f"{head}{HEAD}{first}{second}", said.append).race, said
 

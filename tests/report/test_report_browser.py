@@ -7,9 +7,10 @@ import subprocess
 import sys
 import tempfile
 import unittest
+from pathlib import Path
 
 from tests import support
-from tests.support import report_support
+from tests.support import Word, report_support
 from tests.support.browser import Browser, find_browser
 from tests.support.needs import alone, needs_program
 
@@ -22,9 +23,9 @@ SHEET = (718, 1045)
 # The letters of a diagram of two lanes have at least so many pixels on the narrowest screen.
 LEAST_LETTERS = 9
 # What is asked in the page.
-MEASURE = os.path.join(support.TOP, "tests", "support", "measure.js")
+MEASURE = support.TOP / "tests" / "support" / "measure.js"
 # How wide the picture of README.md is, in pixels, and its greatest size in bytes.
-PICTURE = os.path.join(support.TOP, "docs", "report.png")
+PICTURE = support.TOP / "docs" / "report.png"
 PICTURE_WIDTH, PICTURE_BYTES = 960, 150_000
 # The first screen of README.md, in lines.
 FIRST_SCREEN = 24
@@ -41,7 +42,7 @@ class BrowserCase(unittest.TestCase):
         cls.browser = Browser()
         cls.addClassCleanup(cls.browser.close)
 
-    def load(self, page: str) -> None:
+    def load(self, page: Path) -> None:
         """Shows a page, of which can be asked what MEASURE has."""
         self.browser.load(page)
         self.browser.ask(report_support.read(MEASURE))
@@ -93,7 +94,7 @@ class PagesTest(BrowserCase, report_support.PlanCase):
         room = os.environ.get("WIRE_UP_PAGES", "")
         if room:
             os.makedirs(room, exist_ok=True)
-            self.browser.take_picture(os.path.join(room, name))
+            self.browser.take_picture(Path(room, name))
 
 
 # Functions, with a change to a page that each must find, and what it must say.
@@ -160,10 +161,9 @@ class PointingTest(BrowserCase):
         self.assertEqual(min(map(len, lit.values())), 1)
 
 
-def measure_picture(path: str) -> tuple[int, int]:
+def measure_picture(path: Path) -> tuple[int, int]:
     """The width of a picture in pixels, and its size in bytes; 0 and 0 if it is none."""
-    with open(path, "rb") as file:
-        data = file.read()
+    data = path.read_bytes()
     is_picture = data.startswith(b"\x89PNG\r\n\x1a\n")
     return (int.from_bytes(data[16:20], "big"), len(data)) if is_picture else (0, 0)
 
@@ -172,14 +172,14 @@ def measure_picture(path: str) -> tuple[int, int]:
 class PictureTest(unittest.TestCase):
     """README.md shows the picture of a report first, and it can be made again."""
 
-    def check(self, path: str) -> None:
+    def check(self, path: Path) -> None:
         """Tests the width and the size of a picture."""
         width, size = measure_picture(path)
         self.assertEqual(width, PICTURE_WIDTH)
         self.assertLess(size, PICTURE_BYTES)
 
     def test_it_is_shown_first(self) -> None:
-        text = report_support.read(os.path.join(support.TOP, "README.md"))
+        text = report_support.read(support.TOP / "README.md")
         first = "\n".join(text.split("\n")[:FIRST_SCREEN])
         self.assertIn("](docs/report.png)", first)
         self.check(PICTURE)
@@ -187,10 +187,10 @@ class PictureTest(unittest.TestCase):
     @needs_program
     def test_it_can_be_made(self) -> None:
         find_browser()
-        maker = os.path.join(support.TOP, "packaging", "picture.py")
+        maker = support.TOP / "packaging" / "picture.py"
         with tempfile.TemporaryDirectory(prefix="wire-up-report-") as room:
-            made = os.path.join(room, "made.png")
-            command = [sys.executable, maker, support.program(), made]
+            made = Path(room, "made.png")
+            command: list[Word] = [sys.executable, maker, support.program(), made]
             ran = subprocess.run(command, capture_output=True, text=True, check=False)
             self.assertEqual(ran.returncode, 0, ran.stderr)
             self.check(made)

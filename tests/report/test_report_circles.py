@@ -1,9 +1,9 @@
 """Tests what a report says of ranks that wait in a circle, and of those that wait for what never
 comes: of a plan, and of the smallest plan of a pattern in which a rank waits."""
-import os
 import re
 import tempfile
 import unittest
+from pathlib import Path
 
 from wire_up_tools.report.pattern_answers import Settled
 from wire_up_tools.report.ring import DRAWN, Label, draw_ring
@@ -50,8 +50,8 @@ class CircleCase(unittest.TestCase):
 
     def report(self, name: str, text: str) -> tuple[str, str]:
         """The text and the page of a file, in which all white space is one space."""
-        path = report_support.write(os.path.join(self.room, name), text.encode())
-        page = os.path.join(self.room, "page.html")
+        path = report_support.write(Path(self.room, name), text.encode())
+        page = Path(self.room, "page.html")
         ran = report_support.run_report("--text", path, checker=support.program())
         paged = report_support.run_report("-o", page, path, checker=support.program())
         self.assertEqual((ran.returncode, paged.returncode), (0, 0), ran.stderr + paged.stderr)

@@ -6,11 +6,12 @@ import subprocess
 import sys
 import tempfile
 import unittest
+from pathlib import Path
 
 from wire_up_tools.failures import Unusable
 from wire_up_tools.report.command_line import HELP, read_options
 from tests import support
-from tests.support import report_support
+from tests.support import Word, report_support
 from tests.support.needs import needs_program
 from tests.support.report_support import EARLY
 
@@ -24,18 +25,18 @@ class CommandCase(unittest.TestCase):
     def setUp(self) -> None:
         room = tempfile.TemporaryDirectory(prefix="wire-up-report-")
         self.addCleanup(room.cleanup)
-        self.room = room.name
+        self.room = Path(room.name)
         self.kept = report_support.write(self.find("kept.html"), KEPT.encode())
 
-    def find(self, name: str) -> str:
+    def find(self, name: str) -> Path:
         """A path in the folder."""
-        return os.path.join(self.room, name)
+        return self.room / name
 
 
 class RefusalsTest(CommandCase):
     """What can't be reported ends with status 125 and one line, and leaves what was there."""
 
-    def refuse(self, said: str, *words: str, checker: str | None = None) -> None:
+    def refuse(self, said: str, *words: Word, checker: Word | None = None) -> None:
         """Tests that the command says this line, as a pattern, and writes nothing."""
         ran = report_support.run_report(*words, checker=checker)
         self.assertEqual((ran.returncode, ran.stdout), (FAILED, ""))
@@ -60,7 +61,7 @@ class RefusalsTest(CommandCase):
     @needs_program
     def test_a_folder_that_is_not_there(self) -> None:
         said = "wire_up-report: .*No such file or directory"
-        self.refuse(said, "-o", os.path.join(self.find("no"), "x.html"), EARLY)
+        self.refuse(said, "-o", self.find("no") / "x.html", EARLY)
 
     def test_a_checker_that_is_not_there(self) -> None:
         said = r"wire_up-report: \S+no: No such file or directory"
@@ -73,10 +74,10 @@ class RefusalsTest(CommandCase):
     def test_a_checker_that_ends_with_a_fault(self) -> None:
         said = "wire_up-report: .* ended with status 7"
         script = report_support.write(self.find("checker"), b"#!/bin/sh\nexit 7\n")
-        os.chmod(script, 0o755)
+        script.chmod(0o755)
         self.refuse(said, "-o", self.kept, EARLY, checker=script)
 
-    def refuse_line(self, line: str, *words: str) -> None:
+    def refuse_line(self, line: str, *words: Word) -> None:
         """Tests that a command line is refused with this line alone."""
         ran = report_support.run_report(*words)
         self.assertEqual((ran.returncode, ran.stdout), (FAILED, ""))
@@ -154,10 +155,11 @@ class WritingTest(CommandCase):
         self.assertEqual((ran.returncode, ran.stdout, ran.stderr), (1, "", ""))
 
     def test_a_plan_of_a_strange_name(self) -> None:
-        name = os.path.join(self.room, os.fsdecode(b"\xff<b>.plan"))
+        name = self.find(os.fsdecode(b"\xff<b>.plan"))
         shutil.copy(EARLY, name)
-        for words in (["-o", "-", name], ["--text", "--sarif", self.find("it.sarif"), name]):
-            ran = report_support.run_report(*words)
+        sarif: tuple[Word, ...] = ("--text", "--sarif", self.find("it.sarif"))
+        for words in (("-o", "-"), sarif):
+            ran = report_support.run_report(*words, name)
             self.assertEqual(ran.returncode, 1, ran.stderr)
 
 
@@ -176,8 +178,8 @@ class StartsTest(CommandCase):
         """How many times it is started for the page of a file among the examples."""
         text = NOTING.format(room=self.room, program=support.program())
         checker = report_support.write(self.find("checker"), text.encode())
-        os.chmod(checker, 0o755)
-        path = os.path.join(report_support.EXAMPLES, plan)
+        checker.chmod(0o755)
+        path = report_support.EXAMPLES / plan
         report_support.run_report("-o", "/dev/null", path, checker=checker)
         return len(report_support.read(self.find("starts")).splitlines())
 
@@ -190,16 +192,17 @@ class StartsTest(CommandCase):
         self.assertEqual(self.count("ordered-get.plan"), 6)
 
     def test_a_pattern(self) -> None:
-        self.assertEqual(self.count(os.path.join("patterns", "business-cards.pattern")), 2)
+        self.assertEqual(self.count("patterns/business-cards.pattern"), 2)
 
 
 class PartsTest(CommandCase):
     """The command finds its parts, and the checker beside it."""
 
-    def ask(self, command: str, *words: str) -> "subprocess.CompletedProcess[str]":
+    def ask(self, command: Word, *words: Word) -> "subprocess.CompletedProcess[str]":
         """Runs a command that isn't that of the repository."""
-        run = [sys.executable, command, *words]
-        return subprocess.run(run, capture_output=True, text=True, check=False)
+        return subprocess.run(
+            [sys.executable, command, *words], capture_output=True, text=True, check=False
+        )
 
     def test_help(self) -> None:
         for option in ("-h", "--help"):
@@ -208,15 +211,15 @@ class PartsTest(CommandCase):
 
     def test_called_by_a_link(self) -> None:
         link = self.find("report")
-        os.symlink(report_support.COMMAND, link)
+        link.symlink_to(report_support.COMMAND)
         self.assertEqual(self.ask(link, "--help").stdout, HELP)
 
-    def install(self) -> str:
+    def install(self) -> Path:
         """Lays the command and its parts out as `make install` does. Answers its path."""
-        parts = os.path.join(support.TOP, "python", "wire_up_tools")
-        shutil.copytree(parts, os.path.join(self.room, "share", "wire_up", "wire_up_tools"))
-        os.mkdir(self.find("bin"))
-        command = os.path.join(self.find("bin"), "wire_up-report")
+        parts = support.TOP / "python" / "wire_up_tools"
+        shutil.copytree(parts, self.room / "share" / "wire_up" / "wire_up_tools")
+        command = self.find("bin") / "wire_up-report"
+        command.parent.mkdir()
         shutil.copy(report_support.COMMAND, command)
         return command
 
@@ -226,7 +229,7 @@ class PartsTest(CommandCase):
     @needs_program
     def test_the_checker_beside_it(self) -> None:
         command = self.install()
-        os.symlink(support.program(), os.path.join(self.find("bin"), "wire_up"))
+        (self.find("bin") / "wire_up").symlink_to(support.program())
         ran = self.ask(command, "--text", EARLY)
         self.assertEqual((ran.returncode, ran.stderr), (1, ""))
         self.assertTrue(re.match("early-get.plan: 1 race\n", ran.stdout), ran.stdout)

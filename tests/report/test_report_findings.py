@@ -27,8 +27,7 @@ class GroupsTest(report_support.PlanCase):
     """The groups of each plan are the same by the JSON, and by the lines that `check` writes."""
 
     def check(self, name: str) -> None:
-        with open(report_support.find_plan(name), "rb") as file:
-            data = file.read()
+        data = report_support.find_plan(name).read_bytes()
         plan = read_plan(data)
         asker = Asker(Checker(support.program(), bool(report_support.list_options(name))), data)
         found = [describe(group) for group in findings.find_groups(asker, plan)]
@@ -43,8 +42,7 @@ class ManyTest(unittest.TestCase):
     """No more groups are read than are to be read."""
 
     def test_only_the_first(self) -> None:
-        with open(report_support.find_plan("manygroups"), "rb") as file:
-            data = file.read()
+        data = report_support.find_plan("manygroups").read_bytes()
         asker = Asker(Checker(support.program()), data)
         with mock.patch.object(findings, "MOST_GROUPS", 5):
             groups = findings.find_groups(asker, read_plan(data))

@@ -4,6 +4,7 @@ import subprocess
 import sys
 import tempfile
 import unittest
+from pathlib import Path
 
 from build.timing import Command, Taken, run
 from tests import support
@@ -16,13 +17,13 @@ NODES, RANKS = 8, 2000
 TIMES, MOST = 10, 500 * 1000 * 1000 // 1024
 
 
-def write_cards(path: str) -> str:
+def write_cards(path: Path) -> str:
     """Writes the exchange of cards. Answers the path."""
-    maker = os.path.join(report_support.EXAMPLES, "cards.py")
-    with open(path, "wb") as to:
+    maker = str(report_support.EXAMPLES / "cards.py")
+    with path.open("wb") as to:
         words = [sys.executable, maker, str(NODES), str(RANKS)]
         subprocess.run(words, stdout=to, check=True)
-    return path
+    return str(path)
 
 
 @needs_program
@@ -37,7 +38,7 @@ class CardsTest(unittest.TestCase):
     def setUpClass(cls) -> None:
         program = support.program()
         with tempfile.TemporaryDirectory(prefix="wire-up-report-") as room:
-            plan = write_cards(os.path.join(room, "cards.plan"))
+            plan = write_cards(Path(room, "cards.plan"))
             cls.check = run(Command([program, "check", "--large", plan]))
             words = [sys.executable, report_support.COMMAND, "--checker", program]
             words += ["--large", "-o", os.devnull, plan]

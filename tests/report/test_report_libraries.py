@@ -1,8 +1,8 @@
 """Tests what a report says of a library that is known."""
-import os
 import re
 import tempfile
 import unittest
+from pathlib import Path
 
 from wire_up_tools.failures import Refused
 from wire_up_tools.plan_reading import read_plan
@@ -40,8 +40,8 @@ class LibraryCase(unittest.TestCase):
 
     def report(self, text: str, library: str) -> tuple[str, str]:
         """The text and the page of a plan, with white space as one space."""
-        path = report_support.write(os.path.join(self.room, "it.plan"), text.encode())
-        page = os.path.join(self.room, "page.html")
+        path = report_support.write(Path(self.room, "it.plan"), text.encode())
+        page = Path(self.room, "page.html")
         words, older = ("--library", library), report_support.make_older()
         ran = report_support.run_report(*words, "--text", path, checker=older)
         report_support.run_report(*words, "-o", page, path, checker=older)

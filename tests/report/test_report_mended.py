@@ -1,9 +1,9 @@
 """Tests that a fix takes the race away, and lets no rank wait for ever."""
 import json
-import os
 import tempfile
 import unittest
 from collections.abc import Mapping
+from pathlib import Path
 
 from wire_up_tools.plan import Call, Plan, Rank
 from wire_up_tools.plan_reading import read_plan
@@ -127,7 +127,7 @@ class MendedTest(unittest.TestCase):
     def ask(self, data: bytes, command: str) -> dict[str, object]:
         """What the program says of a plan, as JSON."""
         with tempfile.TemporaryDirectory(prefix="wire-up-report-") as room:
-            path = report_support.write(os.path.join(room, "a.plan"), data)
+            path = report_support.write(Path(room, "a.plan"), data)
             said: dict[str, object] = json.loads(
                 report_support.run_checker(command, "--json", path).stdout
             )
@@ -136,7 +136,7 @@ class MendedTest(unittest.TestCase):
     def find(self, data: bytes) -> tuple[Order, Finding]:
         """The only finding of a plan."""
         with tempfile.TemporaryDirectory(prefix="wire-up-report-") as room:
-            path = report_support.write(os.path.join(room, "a.plan"), data)
+            path = report_support.write(Path(room, "a.plan"), data)
             first, last, _ = report_support.run_checker("check", path).stdout.split("\n")
         self.assertEqual(last, "findings 1")
         order = find_order(read_plan(data))

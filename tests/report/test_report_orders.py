@@ -30,8 +30,7 @@ class OrdersTest(report_support.PlanCase):
     """The order of some pairs of calls of each plan."""
 
     def check(self, name: str) -> None:
-        with open(report_support.find_plan(name), "rb") as file:
-            order = find_order(read_plan(file.read()))
+        order = find_order(read_plan(report_support.find_plan(name).read_bytes()))
         pick = random.Random(name)
         for _ in range(ASKED if order.plan.calls else 0):
             self.check_pair(name, order, *pick.choices(order.plan.calls, k=2))

@@ -5,6 +5,7 @@ They are whole, and nothing of a plan stands in one as other than text.
 import html.parser
 import re
 import unittest
+from pathlib import Path
 
 from tests.support import report_support
 from tests.support.needs import needs_program
@@ -65,10 +66,9 @@ class PageReader(html.parser.HTMLParser):
         if self.line:
             self.lines[self.line] = self.lines.get(self.line, "") + data
 
-    def list_wrong_lines(self, path: str) -> list[str]:
+    def list_wrong_lines(self, path: Path) -> list[str]:
         """The numbers of lines of the plan that are shown otherwise than they are."""
-        with open(path, "rb") as file:
-            lines = file.read().decode("utf-8", "replace").split("\n")
+        lines = path.read_bytes().decode("utf-8", "replace").split("\n")
         shown = {line: text.removeprefix(line) for line, text in self.lines.items()}
         shown.update(
             {each_title: title for each_title, title in self.titles.items() if each_title and title}
@@ -104,7 +104,7 @@ class PagesTest(report_support.PlanCase):
         self.check_elements(PageReader(text), path)
         self.check_count(text, checked.stdout.count("\n") - 1)
 
-    def check_elements(self, page: PageReader, path: str) -> None:
+    def check_elements(self, page: PageReader, path: Path) -> None:
         """Tests that each link leads somewhere, and that nothing was brought in by the plan."""
         self.assertEqual(page.list_lost_links(), [])
         self.assertEqual(page.wrong, [])

@@ -1,6 +1,4 @@
 """Tests from which lines of a pattern the calls of its counterexample are said to come."""
-import glob
-import os
 import unittest
 
 from wire_up_tools.plan import Plan
@@ -10,7 +8,7 @@ from tests import support
 from tests.support import report_support
 from tests.support.needs import needs_program
 
-FOLDER = os.path.join(support.TOP, "examples", "patterns")
+FOLDER = support.TOP / "examples" / "patterns"
 # Two groups of one job, a loop of some turns, indices, and a set of a job that has no role.
 PATTERN = """\
 pattern 1
@@ -132,7 +130,7 @@ class LinesTest(unittest.TestCase):
     @needs_program
     def test_counterexamples_that_are_shipped(self) -> None:
         count = 0
-        for path in glob.glob(os.path.join(FOLDER, "*.pattern")):
+        for path in FOLDER.glob("*.pattern"):
             ran = report_support.run_checker("check", "--pattern", path)
             if ran.returncode != 1:
                 continue

@@ -4,6 +4,7 @@ import os
 import re
 import tempfile
 import unittest
+from pathlib import Path
 
 from wire_up_tools.report.patterns import is_pattern
 from wire_up_tools.words import CUT_OFF, NO_CALL_RACES, NO_CALL_RACES_SENTENCE, PATTERN_BY
@@ -62,7 +63,7 @@ class PatternCase(unittest.TestCase):
 
     def write(self, name: str, text: str) -> str:
         """Writes a file in the folder. Answers its path."""
-        return report_support.write(os.path.join(self.room, name), text.encode())
+        return str(report_support.write(Path(self.room, name), text.encode()))
 
     def write_checker(self, said: str, status: int) -> str:
         """Writes the stand-in, which says this of every pattern."""
@@ -74,8 +75,8 @@ class PatternCase(unittest.TestCase):
 
     def report(self, checker: str, path: str, status: int) -> tuple[str, str]:
         """The text and the page of a file, in which all white space is one space."""
-        page = os.path.join(self.room, "page.html")
-        sarif = ("--sarif", os.path.join(self.room, "made.sarif"))
+        page = Path(self.room, "page.html")
+        sarif = ("--sarif", Path(self.room, "made.sarif"))
         ran = report_support.run_report("--text", path, checker=checker)
         paged = report_support.run_report("-o", page, *sarif, path, checker=checker)
         said = (ran.returncode, paged.returncode)
@@ -106,7 +107,7 @@ class CleanTest(PatternCase):
         self.assertIn('<header class="quiet">', page)
         self.assertIn(f"<h1>{said}</h1>", page)
         self.assertIn('<div id="line-11" class=""><b>11</b>get-now each card</div>', page)
-        made = json.loads(report_support.read(os.path.join(self.room, "made.sarif")))
+        made = json.loads(report_support.read(Path(self.room, "made.sarif")))
         self.assertEqual(made["runs"][0]["results"], [])
 
     def test_no_calls(self) -> None:
@@ -193,7 +194,7 @@ class ShippedTest(PatternCase):
 
     def badge(self, name: str) -> str:
         """The words of the verdict on the page of a pattern that is shipped."""
-        path = os.path.join(support.TOP, "examples", "patterns", f"{name}.pattern")
+        path = support.TOP / "examples" / "patterns" / f"{name}.pattern"
         page = report_support.run_report("-o", "-", path)
         self.assertEqual(page.returncode, 0, page.stderr)
         (found,) = re.findall('<span class="badge">(.*?)</span>', page.stdout)
@@ -222,7 +223,7 @@ class CounterexampleTest(PatternCase):
     def test_sarif_names_the_pattern(self) -> None:
         checker, path = self.write_checker(FOUND, 1), self.write("early.pattern", EARLY)
         self.report(checker, path, 1)
-        made = json.loads(report_support.read(os.path.join(self.room, "made.sarif")))
+        made = json.loads(report_support.read(Path(self.room, "made.sarif")))
         (result,) = made["runs"][0]["results"]
         where = result["locations"][0]["physicalLocation"]
         self.assertTrue(where["artifactLocation"]["uri"].endswith("/early.pattern"))

@@ -1,11 +1,11 @@
 """Tests what a report says of other placements, by a stand-in for a checker that judges them."""
-import os
 import re
 import tempfile
 import unittest
+from pathlib import Path
 
 from tests import support
-from tests.support import report_support
+from tests.support import Word, report_support
 from tests.support.needs import needs_program
 
 
@@ -39,21 +39,21 @@ class PlacementsTest(unittest.TestCase):
         self.room = room.name
         self.write("placed", place(report_support.read(PLAN)))
 
-    def write(self, name: str, text: str) -> str:
+    def write(self, name: str, text: str) -> Path:
         """Writes a file in the room. Answers its path."""
-        return report_support.write(os.path.join(self.room, name), text.encode())
+        return report_support.write(Path(self.room, name), text.encode())
 
-    def write_checker(self, script: str, *found: str, status: int = 0) -> str:
+    def write_checker(self, script: str, *found: str, status: int = 0) -> Path:
         """Writes the stand-in, which finds these lines on every placement."""
         self.write("found", "".join(f"{each_text}\n" for each_text in found))
         text = script.format(program=support.program(), room=self.room, status=status)
         path = self.write("checker", text)
-        os.chmod(path, 0o755)
+        path.chmod(0o755)
         return path
 
-    def report(self, checker: str) -> tuple[str, str]:
+    def report(self, checker: Word) -> tuple[str, str]:
         """The text and the page, in which all white space is one space."""
-        page = os.path.join(self.room, "page.html")
+        page = Path(self.room, "page.html")
         ran = report_support.run_report("--text", PLAN, checker=checker)
         paged = report_support.run_report("-o", page, PLAN, checker=checker)
         self.assertEqual((ran.returncode, paged.returncode), (0, 0), ran.stderr + paged.stderr)
@@ -116,7 +116,7 @@ class CrossedTest(unittest.TestCase):
 
     def test_the_ranks_are_named_once(self) -> None:
         with tempfile.TemporaryDirectory(prefix="wire-up-report-") as room:
-            plan = report_support.write(os.path.join(room, "it.plan"), CROSSED.encode())
+            plan = report_support.write(Path(room, "it.plan"), CROSSED.encode())
             ran = report_support.run_report("--text", plan)
         said = "nothing; with app:0 and app:1 on one node: 2 races such as these."
         self.assertIn(f"On the placement written: {said}\n", ran.stdout)

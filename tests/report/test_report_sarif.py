@@ -5,6 +5,7 @@ import os
 import re
 import tempfile
 import unittest
+from pathlib import Path
 from typing import Any
 
 from tests import support
@@ -21,7 +22,7 @@ BRACES = (
 )
 
 
-def read_sarif(path: str) -> Any:
+def read_sarif(path: Path) -> Any:
     """The one run of the SARIF in a file."""
     said = json.loads(report_support.read(path))
     assert said["version"] == "2.1.0" and said["$schema"].endswith("sarif-2.1.0.json")
@@ -80,7 +81,7 @@ class SarifTest(report_support.PlanCase):
 
 
 # What the standard requires of each object, as a schema of JSON.
-FIELDS = os.path.join(support.TOP, "tests", "report", "sarif_fields.json")
+FIELDS = support.TOP / "tests" / "report" / "sarif_fields.json"
 
 
 def find_validator() -> Any:
@@ -153,18 +154,18 @@ class EscapesTest(unittest.TestCase):
 
     def test_a_key_with_braces_and_brackets(self) -> None:
         with tempfile.TemporaryDirectory(prefix="wire-up-report-") as room:
-            plan = report_support.write(os.path.join(room, "a plan"), BRACES)
-            made = os.path.join(room, "made.sarif")
+            plan = report_support.write(Path(room, "a plan"), BRACES)
+            made = Path(room, "made.sarif")
             ran = report_support.run_report("-o", os.devnull, "--sarif", made, plan)
             self.assertEqual(ran.returncode, 1, ran.stderr)
             (result,) = read_sarif(made)["results"]
         self.assertIn(" k{0}[x](1)\\ ", read_text(result["message"]["text"]))
         where = result["locations"][0]["physicalLocation"]["artifactLocation"]
-        self.assertEqual(where, {"uri": f"file://{os.path.realpath(room)}/a%20plan"})
+        self.assertEqual(where, {"uri": f"file://{Path(room).resolve()}/a%20plan"})
 
     def test_a_plan_below_the_source(self) -> None:
         with tempfile.TemporaryDirectory(prefix="wire-up-report-") as room:
-            made = os.path.join(room, "made.sarif")
+            made = Path(room, "made.sarif")
             words = ("-o", os.devnull, "--sarif", made, "--source", support.TOP)
             report_support.run_report(*words, report_support.EARLY)
             run = read_sarif(made)

@@ -1,19 +1,19 @@
 """Tests what a report says of races that are found with --strict alone, and that the head of a
 recorded plan names them."""
-import os
 import subprocess
 import sys
 import tempfile
 import unittest
+from pathlib import Path
 
 from wire_up_tools.plan_reading import read_plan
 from wire_up_tools.report.strict import find_strict
 from tests import support
-from tests.support import report_support
+from tests.support import Word, report_support
 from tests.support.needs import needs_program
 
 # A rank that was told by a poll publishes a name, and the other looks it up.
-RECORDING = os.path.join(report_support.RECORDINGS, "answer")
+RECORDING = report_support.RECORDINGS / "answer"
 RACE = "race app:0 14 app:1 13 name port"
 TITLE = "With --strict alone"
 
@@ -25,12 +25,12 @@ class StrictTest(unittest.TestCase):
     def setUp(self) -> None:
         room = tempfile.TemporaryDirectory(prefix="wire-up-report-")
         self.addCleanup(room.cleanup)
-        self.plan = os.path.join(room.name, "it.plan")
+        self.plan = Path(room.name, "it.plan")
 
     def record(self, *options: str) -> str:
         """The plan of the recording."""
-        words = ["--checker", support.program(), "-o", self.plan, *options, "--from", RECORDING]
-        command = [sys.executable, report_support.RECORDER, *words]
+        words: list[Word] = ["--checker", support.program(), "-o", self.plan, *options]
+        command = [sys.executable, report_support.RECORDER, *words, "--from", RECORDING]
         subprocess.run(command, capture_output=True, check=True, timeout=report_support.SECONDS)
         return report_support.read(self.plan)
 

@@ -1,11 +1,11 @@
 """Tests the text that `wire_up-report` writes for a terminal, and what it says."""
-import os
 import re
 import tempfile
 import unittest
+from pathlib import Path
 
 from tests import support
-from tests.support import report_support
+from tests.support import Word, report_support
 from tests.support.needs import needs_program
 
 
@@ -142,16 +142,16 @@ class RunsTest(unittest.TestCase):
         self.addCleanup(room.cleanup)
         self.room = room.name
 
-    def write_checker(self, script: str, **words: str) -> str:
+    def write_checker(self, script: str, **words: str) -> Path:
         """Writes a program that stands before the built one."""
         text = script.format(program=support.program(), **words)
-        path = report_support.write(os.path.join(self.room, "checker"), text.encode())
-        os.chmod(path, 0o755)
+        path = report_support.write(Path(self.room, "checker"), text.encode())
+        path.chmod(0o755)
         return path
 
-    def check(self, checker: str, wanted: tuple[str, ...]) -> None:
+    def check(self, checker: Word, wanted: tuple[str, ...]) -> None:
         """Tests that the text and the page of a plan have these words."""
-        page = os.path.join(self.room, "page.html")
+        page = Path(self.room, "page.html")
         early = report_support.EARLY
         text = report_support.run_report("--text", early, checker=checker)
         paged = report_support.run_report("-o", page, early, checker=checker)

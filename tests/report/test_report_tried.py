@@ -1,10 +1,10 @@
 """Tests what pages, texts and SARIF say of races and orders that were tried in a program."""
 import json
-import os
 import subprocess
 import sys
 import tempfile
 import unittest
+from pathlib import Path
 from types import SimpleNamespace
 from typing import cast
 
@@ -14,7 +14,7 @@ from wire_up_tools.report.findings import Finding
 from wire_up_tools.report.runs import Outcome
 from wire_up_tools.report.verdict import SHOWN_IN_PROGRAM, say_without_runs
 from wire_up_tools.words import EACH_RUN_SENTENCE
-from tests.support import report_support
+from tests.support import Word, report_support
 from tests.support.needs import needs_program
 
 RACE = "race app:0 6 app:1 6 name solver"
@@ -54,12 +54,12 @@ class TriedTest(unittest.TestCase):
         folder = tempfile.TemporaryDirectory()
         self.addCleanup(folder.cleanup)
         self.plan, self.page, self.sarif = (
-            os.path.join(folder.name, word) for word in ("my.plan", "page", "sarif")
+            Path(folder.name, word) for word in ("my.plan", "page", "sarif")
         )
 
     def write(self, recording: str, *head: str) -> None:
         """Writes the plan of a recording, with these lines at the end of its head."""
-        words = ["-o", self.plan, "--from", os.path.join(report_support.RECORDINGS, recording)]
+        words: list[Word] = ["-o", self.plan, "--from", report_support.RECORDINGS / recording]
         subprocess.run([sys.executable, report_support.RECORDER, *words], check=True)
         text = report_support.read(self.plan)
         text = text.replace("rehearsal 1\n", "".join(head) + "rehearsal 1\n", 1)

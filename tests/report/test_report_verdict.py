@@ -1,7 +1,7 @@
 """Tests the verdict line of a report: it says what is known, and no more."""
-import os
 import tempfile
 import unittest
+from pathlib import Path
 
 from wire_up_tools.plan_reading import read_plan
 from wire_up_tools.report.partial import find_reasons, say_own_code
@@ -71,7 +71,7 @@ class VerdictTest(unittest.TestCase):
         with tempfile.TemporaryDirectory(prefix="wire-up-report-") as room:
             early = report_support.read(report_support.EARLY)
             more = "# More ordered than the program, so that a race can be missed:\n#   1 thread\n"
-            path = os.path.join(room, "a.plan")
+            path = Path(room, "a.plan")
             report_support.write(path, (HEAD + more + early).encode())
             said = report_support.run_report("--text", path).stdout
         self.assertTrue(said.startswith("a.plan: 1 race; others may be missed (1 thread)\n"), said)

@@ -12,6 +12,7 @@ import threading
 import time
 import unittest
 from collections.abc import Callable, Sequence
+from pathlib import Path
 from types import FrameType
 from unittest import mock
 
@@ -70,7 +71,7 @@ class Sessions(Started):
         for script, status in (("exit 3", 3), ("kill -9 $$", -9)):
             process = self.start(["sh", "-c", script])
             self.assertTrue(ending.ends_within(process, PATIENCE))
-            self.assertTrue(os.path.exists(f"/proc/{process.pid}"))
+            self.assertTrue(Path(f"/proc/{process.pid}").exists())
             found = [ending.find_status(process), process.wait(), ending.find_status(process)]
             self.assertEqual([status] * 3, found)
 
@@ -82,9 +83,9 @@ class Sessions(Started):
     def test_what_is_left(self) -> None:
         """All of a session that haven't ended, whatever their names are."""
         with tempfile.TemporaryDirectory() as room:
-            odd = os.path.join(room, ODD_NAME)
-            os.symlink(shutil.which(SLEEP[0]) or "", odd)
-            process = self.start(["sh", "-c", '"$0" 300 & sleep 300 & wait', odd])
+            odd = Path(room, ODD_NAME)
+            odd.symlink_to(shutil.which(SLEEP[0]) or "")
+            process = self.start(["sh", "-c", '"$0" 300 & sleep 300 & wait', str(odd)])
             self.wait_for(lambda: len(find_children(process.pid)) == 2)
             odd_one, other = find_children(process.pid)
             self.wait_for(lambda: ODD_NAME in self.read_name(odd_one))
@@ -162,7 +163,7 @@ class FakeNodes(WithNodes):
         process, first = self.start_nodes()
         ending.end_process(process, is_fake=True)
         self.assertIsNotNone(process.returncode)
-        self.assertFalse(os.path.exists(f"/proc/{first}"))
+        self.assertFalse(Path(f"/proc/{first}").exists())
 
     def test_one_is_killed(self) -> None:
         """What takes a moment to end is waited for."""
@@ -351,7 +352,7 @@ class Signals(Caught):
         )
         ran = subprocess.run(
             ["sh", "-c", 'trap "" HUP; exec "$0" -c "$1"', sys.executable, script],
-            env={**os.environ, "PYTHONPATH": os.path.join(support.TOP, "python")},
+            env={**os.environ, "PYTHONPATH": str(support.TOP / "python")},
             capture_output=True,
             text=True,
             check=True,

@@ -2,7 +2,6 @@
 launcher that isn't there or refuses a plan, and a full disk. One line says so, and nothing of it
 stays."""
 import functools
-import glob
 import os
 import resource
 import shutil
@@ -17,7 +16,7 @@ from tests.support.live import small_disk
 from tests.support.live_runs import SECONDS, WAITS, LiveRuns, Ran, read_words
 
 
-ENDS = os.path.join(TOP, "examples", "ordered-get.plan")
+ENDS = TOP / "examples" / "ordered-get.plan"
 # Ranks that wait on two nodes, and in two jobs.
 OF_TWO_NODES = WAITS.replace(b"node n0\n", b"node n0\nnode n1\n") + b"rank n1\nget app:1 k\n"
 OF_TWO_JOBS = b"rehearsal 1\nnode n0\njob a\nrank n0\nget b:0 k\njob b\nrank n0\nget a:0 k\n"
@@ -128,7 +127,7 @@ class Killed(LiveRuns):
         process.kill()
         self.assertEqual(-signal.SIGKILL, self.end(process).returncode)
         self.wait_for(lambda: not self.find_processes())
-        for path in glob.glob(os.path.join(self.room, "wire_up-run-*")):
+        for path in self.room.glob("wire_up-run-*"):
             shutil.rmtree(path)
 
     def interrupt(self, process: "subprocess.Popen[str]", number: int) -> None:
@@ -146,7 +145,7 @@ class Killed(LiveRuns):
         """However far they are."""
         for seconds in (0, 0.05, 0.2, 0.5):
             process = self.begin(OF_TWO_NODES)
-            self.wait_for(lambda: bool(glob.glob(os.path.join(self.room, "wire_up-run-*"))))
+            self.wait_for(lambda: any(self.room.glob("wire_up-run-*")))
             time.sleep(seconds)
             self.interrupt(process, signal.SIGTERM)
 
@@ -202,8 +201,8 @@ class NotStarted(LiveRuns):
     def test_plans(self) -> None:
         """One with a fault, one that isn't there, and what a launcher or a host file can't take."""
         bad = self.write("bad.plan", b"rehearsal\n")
-        blank = os.path.join(self.room, "a b")
-        os.mkdir(blank)
+        blank = self.room / "a b"
+        blank.mkdir()
         said = "a launcher takes no path with a blank: set TMPDIR"
         self.hold_refused(self.run_it(ENDS, temporary=blank), said)
         two_nodes = self.write("nodes.plan", OF_TWO_NODES)

@@ -1,9 +1,7 @@
 """What is known of libraries: the plans of the suite, the tables of what libraries did, and their
 rules, which predict it. The tables are held to those that a forerunner made."""
-import os
 import unittest
 from collections.abc import Mapping
-from pathlib import Path
 
 from wire_up_tools.plan_reading import read_plan
 from wire_up_tools.run.expected import Expected
@@ -36,7 +34,7 @@ UNTOLD = {
 }
 # The tables of a forerunner, and plans with which a library did something else then, since one of
 # their replies depends on which rank is fast.
-EARLIER = os.path.join(TOP, "tests", "earlier_tables")
+EARLIER = TOP / "tests" / "earlier_tables"
 UNLIKE = {
     "openpmix-4.2": {"get-then-now-samenode", "jobs-fence"},
     "openpmix-5.0": {"collect-mixed-one-node"},
@@ -211,7 +209,7 @@ class Agreement(unittest.TestCase):
         """They are alike, but for the plans that are listed."""
         for name, listed in UNLIKE.items():
             with self.subTest(name):
-                earlier = read_table(Path(EARLIER, f"{name}.txt")).plans
+                earlier = read_table(EARLIER / f"{name}.txt").plans
                 now = read_table(LIBRARIES[name].table).plans
                 self.assertEqual(set(), earlier.keys() - now.keys())
                 self.assertGreater(len(earlier), 95)

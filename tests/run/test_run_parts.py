@@ -2,7 +2,6 @@
 import contextlib
 import ipaddress
 import json
-import os
 import socket
 import subprocess
 import sys
@@ -35,7 +34,7 @@ from wire_up_tools.run.suite_answers import (
 from wire_up_tools.run.tables import read_table, write_table
 from tests.support import TOP
 
-COMMAND = os.path.join(TOP, "wire_up-run")
+COMMAND = TOP / "wire_up-run"
 # A host elsewhere, of those that are kept for documents.
 OTHER = "192.0.2.77"
 PLAN = b"""\
@@ -286,10 +285,10 @@ class SuiteAnswers(unittest.TestCase):
     def test_table(self) -> None:
         """A table says again what was written; what couldn't be run isn't in it."""
         with tempfile.TemporaryDirectory() as room:
-            path = os.path.join(room, "it")
-            with open(path, "w", encoding="ascii") as file:
-                file.write(write_table({"library": "it"}, self.make_all().verdicts))
-            table = read_table(Path(path))
+            path = Path(room, "it")
+            text = write_table({"library": "it"}, self.make_all().verdicts)
+            path.write_text(text, encoding="ascii")
+            table = read_table(path)
         self.assertEqual({"library": "it"}, table.head)
         found = {name: [str(d) for d in plan.differences] for name, plan in table.plans.items()}
         self.assertEqual([DIFFERS], found["lookup-different"])

@@ -1,5 +1,6 @@
 """Hostile plans, and a small one in all forms in which commands read it."""
 from collections.abc import Iterator
+from pathlib import Path
 from typing import NamedTuple
 
 from tests.models import grammar
@@ -36,7 +37,7 @@ class Hostile(NamedTuple):
         return not self.answer.startswith(b"wire_up: ")
 
 
-def forms(room: str) -> list[Form]:
+def forms(room: Path) -> list[Form]:
     """Each command that reads a file, in each of its forms."""
     order = written(room, "plan.order", b"app:0\napp:0\napp:1\n")
     chain = b"before\napp:0 1 put\napp:0 2 commit\napp:1 1 get\n"

@@ -1,5 +1,4 @@
 """Runs the program on a file of a soak, and raises what no run may do."""
-import os
 import re
 import socket
 import subprocess
@@ -8,6 +7,7 @@ import time
 from collections import Counter
 from collections.abc import Sequence
 from dataclasses import dataclass
+from pathlib import Path
 from typing import NamedTuple
 
 # After how long an answer counts as none. A busy machine takes a while for one.
@@ -45,8 +45,8 @@ class Runner:
     """Runs the program in a folder, and counts what it did. Beside it may be the unproved program
     of build/plain."""
 
-    def __init__(self, program: str, room: str, unproved: str | None = None) -> None:
-        self.program, self.room, self.unproved = program, room, unproved
+    def __init__(self, program: str, room: str | Path, unproved: str | None = None) -> None:
+        self.program, self.room, self.unproved = program, Path(room), unproved
         # How many answers of `check` were held to those of the unproved program.
         self.held_to_unproved = 0
         self.runs: Counter[str] = Counter()
@@ -57,15 +57,14 @@ class Runner:
 
     def written(self, name: str, text: bytes) -> str:
         """The path of a file of this text."""
-        path = os.path.join(self.room, name)
-        with open(path, "wb") as file:
-            file.write(text)
-        return path
+        path = self.room / name
+        path.write_bytes(text)
+        return str(path)
 
     def run(self, *words: Word, given: bytes | None = None, by_byte: bool = False) -> Ran:
         """Runs a command, and answers how it ended. What no run may do is a difference."""
         command = str(words[0])
-        named = " ".join(map(str, words)).replace(self.room + os.sep, "")
+        named = " ".join(map(str, words)).replace(f"{self.room}/", "")
         self.runs[command] += 1
         began = time.monotonic()
         try:

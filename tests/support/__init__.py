@@ -1,8 +1,12 @@
 """What all tests share: where the repository is, and the built program."""
 import os
 import unittest
+from pathlib import Path
 
 from tests import TOP as TOP
+
+# A word of a command line.
+Word = str | Path
 
 
 def program() -> str:
@@ -10,10 +14,10 @@ def program() -> str:
 
     A test that calls this is skipped where there is none.
     """
-    path = os.environ.get("WIRE_UP_PROGRAM") or os.path.join(TOP, "wire_up")
+    path = Path(os.environ.get("WIRE_UP_PROGRAM") or TOP / "wire_up")
     if not os.access(path, os.X_OK):
         raise unittest.SkipTest("there is no built wire_up: WIRE_UP_PROGRAM names none")
-    return os.path.abspath(path)
+    return str(path.absolute())
 
 
 def parts() -> str:
@@ -21,7 +25,7 @@ def parts() -> str:
 
     A test that calls this is skipped where it isn't built.
     """
-    path = os.path.join(TOP, "crates", "one_function", "out", "one_function")
+    path = TOP / "crates" / "one_function" / "out" / "one_function"
     if not os.access(path, os.X_OK):
         raise unittest.SkipTest("crates/one_function isn't built: make parts builds it")
-    return path
+    return str(path)

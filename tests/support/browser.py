@@ -13,6 +13,7 @@ import sys
 import tempfile
 import time
 import unittest
+from pathlib import Path
 from typing import Any
 
 NAMES = ("chromium", "chromium-browser", "google-chrome")
@@ -122,7 +123,7 @@ class Browser:
                 result: dict[str, Any] = came["result"]
                 return result
 
-    def load(self, path: str) -> None:
+    def load(self, path: Path) -> None:
         """Shows a file."""
         self.events.clear()
         self.call("Page.navigate", url=f"file://{path}")
@@ -159,7 +160,6 @@ class Browser:
             raise AssertionError(f"{said['exceptionDetails']}")
         return said["result"].get("value")
 
-    def take_picture(self, path: str) -> None:
+    def take_picture(self, path: Path) -> None:
         """Writes a picture of what is shown."""
-        with open(path, "wb") as to:
-            to.write(base64.b64decode(self.call("Page.captureScreenshot")["data"]))
+        path.write_bytes(base64.b64decode(self.call("Page.captureScreenshot")["data"]))

@@ -2,7 +2,6 @@
 asked."""
 import io
 import itertools
-import os
 import tempfile
 import unittest
 from collections.abc import Callable, Collection, Sequence
@@ -64,8 +63,8 @@ class Prover:
         else:
             self.write_library(crate, made)
         if "--incremental" in words:
-            kept = os.path.join(crate.folder, "out", "incremental", "kept")
-            os.makedirs(kept, exist_ok=True)
+            kept = crate.place / "out" / "incremental" / "kept"
+            kept.mkdir(parents=True, exist_ok=True)
         print(self.verdict, file=crate.out)
         return 0
 
@@ -73,15 +72,14 @@ class Prover:
     def write_library(crate: Crate, made: str) -> None:
         """What a library shows to those above, here the comments at its head; and its code and
         statements, which differ by the text and by the build."""
-        text = read(os.path.join(crate.folder, "src", "lib.rt"))
+        text = read(crate.place / "src" / "lib.rt")
         shown = "".join(line for line in text.splitlines(True) if line.startswith("//!"))
         statements = f"{next(BUILDS)} {text}"
         parts = {"interface/lang/src/lib.rt": shown, "toolchain/checked.a": statements}
         for path, part in parts.items():
-            whole = os.path.join(made, path)
-            os.makedirs(os.path.dirname(whole))
-            with open(whole, "w", encoding="utf-8") as file:
-                file.write(part)
+            whole = Path(made, path)
+            whole.parent.mkdir(parents=True)
+            whole.write_text(part, encoding="utf-8")
 
     def note(self, crate: Crate, words: Sequence[str]) -> None:
         self.asked.append(crate.name)
@@ -92,8 +90,7 @@ class Prover:
     def link(self, crate: Crate, made: str) -> int:
         if "link" in self.refused:
             return 1
-        with open(made, "w", encoding="utf-8") as file:
-            file.write(f"the program {crate.name}\n")
+        Path(made).write_text(f"the program {crate.name}\n", encoding="utf-8")
         return 0
 
     def crate_type(prover) -> type[Crate]:
@@ -117,10 +114,9 @@ class Built(NamedTuple):
     said: str
 
 
-def read(path: str) -> str:
+def read(path: Path) -> str:
     """The text of a file."""
-    with open(path, encoding="utf-8") as file:
-        return file.read()
+    return path.read_text(encoding="utf-8")
 
 
 class BuildCase(unittest.TestCase):
@@ -129,25 +125,24 @@ class BuildCase(unittest.TestCase):
     def setUp(self) -> None:
         folder = tempfile.TemporaryDirectory(prefix="wire-up-")
         self.addCleanup(folder.cleanup)
-        self.top = folder.name
+        self.top = Path(folder.name)
         for name in CRATES:
             self.write(name, f"//! {name}\n")
         self.write_list("".join(f"{name}: {uses}\n" for name, uses in CRATES.items()))
 
     def write_list(self, text: str) -> None:
-        with open(os.path.join(self.top, "crates.txt"), "a", encoding="utf-8") as file:
+        with open(self.top / "crates.txt", "a", encoding="utf-8") as file:
             file.write(text)
 
-    def place(self, *parts: str) -> str:
+    def place(self, *parts: str) -> Path:
         """The path of a file of the crates."""
-        return os.path.join(self.top, "crates", *parts)
+        return self.top.joinpath("crates", *parts)
 
     def write(self, name: str, text: str, file: str = "lib.rt") -> None:
         """Writes the text of a crate."""
         path = self.place(name, "src", file)
-        os.makedirs(os.path.dirname(path), exist_ok=True)
-        with open(path, "w", encoding="utf-8") as each_file:
-            each_file.write(text)
+        path.parent.mkdir(parents=True, exist_ok=True)
+        path.write_text(text, encoding="utf-8")
 
     def add_program(self) -> None:
         """Adds a program above the chain."""
@@ -155,7 +150,7 @@ class BuildCase(unittest.TestCase):
         self.write_list("app: high\n")
 
     def crates(self, prover: Prover) -> list[Crate]:
-        return crates_at(Path(self.top), prover.crate_type())
+        return crates_at(self.top, prover.crate_type())
 
     def crate(self, name: str, prover: Prover) -> Crate:
         return next(each_crate for each_crate in self.crates(prover) if each_crate.name == name)

@@ -7,10 +7,11 @@ import subprocess
 import sys
 import tempfile
 import unittest
-from collections.abc import Iterator
+from collections.abc import Iterator, Sequence
+from pathlib import Path
 
 from tests import support
-from tests.support import TOP
+from tests.support import TOP, Word
 from tests.support.needs import needs_mpi
 from tests.support.tapes import PATIENCE, PROGRAMS, run_recorder
 
@@ -95,12 +96,12 @@ TRIES = 10
 Ran = subprocess.CompletedProcess[str]
 
 
-def mpirun(processes: int, *words: str) -> list[str]:
+def mpirun(processes: int, *words: Word) -> list[str]:
     """The words that start processes."""
-    return ["mpirun", "--oversubscribe", "-n", str(processes), *words]
+    return ["mpirun", "--oversubscribe", "-n", str(processes), *map(str, words)]
 
 
-def run_plainly(words: list[str]) -> Ran:
+def run_plainly(words: Sequence[Word]) -> Ran:
     """Runs a command without the recorder. Raises subprocess.TimeoutExpired."""
     return subprocess.run(
         words, capture_output=True, text=True, timeout=PATIENCE, env=ENVIRONMENT, check=False
@@ -117,14 +118,14 @@ def find_python() -> str | None:
 
 
 @contextlib.contextmanager
-def small_disk(case: unittest.TestCase, room: str, kibibytes: int) -> Iterator[str]:
+def small_disk(case: unittest.TestCase, room: Path, kibibytes: int) -> Iterator[Path]:
     """A folder in a room, with space for so much. Leaves the test out where there can't be one."""
     folder = tempfile.mkdtemp(dir=room)
     mount = ("mount", "-t", "tmpfs", "-o", f"size={kibibytes}k", "none", folder)
     if subprocess.run(mount, capture_output=True, check=False).returncode:
         case.skipTest("no file system can be mounted here")
     try:
-        yield folder
+        yield Path(folder)
     finally:
         subprocess.run(["umount", folder], check=True)
 
@@ -141,7 +142,7 @@ def can_launch() -> bool:
 def what_lacks() -> list[str]:
     """What is missing for live tests."""
     lacking = [text for text in NEEDED if not shutil.which(text)]
-    if re.search(r"[\s:;]", TOP):
+    if re.search(r"[\s:;]", str(TOP)):
         lacking.append(
             "recorder that could be preloaded from a path with spaces, colons or semicolons"
         )
@@ -183,27 +184,27 @@ class LiveTest(unittest.TestCase):
         cls.addClassCleanup(cls.folder.cleanup)
 
     def setUp(self) -> None:
-        self.room = tempfile.mkdtemp(dir=self.folder.name)
-        self.plan, self.answers = (os.path.join(self.room, word) for word in ("plan", "answers"))
+        self.room = Path(tempfile.mkdtemp(dir=self.folder.name))
+        self.plan, self.answers = self.room / "plan", self.room / "answers"
 
     def compile(self, name: str) -> str:
         """Compiles a program or a library, if it isn't yet; answers its path."""
-        path = os.path.join(self.folder.name, name)
-        if os.path.exists(path):
-            return path
+        path = Path(self.folder.name, name)
+        if path.exists():
+            return str(path)
         compiler, *words = COMPILED.get(name, ("mpicc", f"{name}.c"))
         words = [word.format(folder=self.folder.name) for word in words]
-        words = [os.path.join(PROGRAMS, word) if word.endswith(SOURCES) else word for word in words]
+        words = [str(PROGRAMS / word) if word.endswith(SOURCES) else word for word in words]
         if name in WITH_PMIX:
             words += run_plainly(["pkg-config", "--cflags", "--libs", "pmix"]).stdout.split()
         subprocess.run([compiler, "-g", "-o", path, *words], check=True, capture_output=True)
-        return path
+        return str(path)
 
-    def record(self, *words: str) -> Ran:
+    def record(self, *words: Word) -> Ran:
         """Runs the recorder, which writes the plan."""
         return run_recorder("-o", self.plan, *words, environment=ENVIRONMENT)
 
-    def record_alike(self, run: list[str], *options: str) -> Ran:
+    def record_alike(self, run: Sequence[Word], *options: Word) -> Ran:
         """Runs a program without the recorder and with it: both must end alike, and write the same
         lines. Answers the second run."""
         for _ in range(TRIES):

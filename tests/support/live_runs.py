@@ -1,6 +1,5 @@
 """wire_up-run on the library that is there: what that needs, and how tests run it."""
 import contextlib
-import glob
 import os
 import shutil
 import subprocess
@@ -8,14 +7,15 @@ import sys
 import time
 import unittest
 from collections.abc import Callable, Mapping
+from pathlib import Path
 
-from tests.support import TOP
+from tests.support import TOP, Word
 from tests.support.live import run_plainly
 from tests.support.needs import needs_mpi
 from tests.support.running import ProgramCase, written
 
 
-COMMAND = os.path.join(TOP, "wire_up-run")
+COMMAND = str(TOP / "wire_up-run")
 NEEDED = ("mpirun", "make", "cc", "pkg-config", "unshare", "ip", "hostname")
 SECONDS = 300
 APART = ("unshare", "--uts", "--net", "--pid", "--fork", "--kill-child", "--mount-proc", "true")
@@ -63,13 +63,13 @@ class LiveRuns(ProgramCase):
             raise unittest.SkipTest(f"no plan is run: there is no {', no '.join(lacking)}")
         subprocess.run(["make", "-s", "ranks"], cwd=TOP, check=True, capture_output=True)
 
-    def words(self, *words: str) -> list[str]:
+    def words(self, *words: Word) -> list[str]:
         """A command line."""
-        return [sys.executable, COMMAND, "--checker", self.program, *words]
+        return [sys.executable, COMMAND, "--checker", self.program, *map(str, words)]
 
-    def environment(self, temporary: str | None = None) -> Mapping[str, str]:
+    def environment(self, temporary: Path | None = None) -> Mapping[str, str]:
         """An environment with a folder for temporary files: else that of the test."""
-        return {**os.environ, "TMPDIR": temporary or self.room, MARK: self.room}
+        return {**os.environ, "TMPDIR": str(temporary or self.room), MARK: str(self.room)}
 
     def write(self, name: str, text: bytes) -> str:
         """Writes a file, and answers its path."""
@@ -77,8 +77,8 @@ class LiveRuns(ProgramCase):
 
     def run_it(
         self,
-        *words: str,
-        temporary: str | None = None,
+        *words: Word,
+        temporary: Path | None = None,
         set_up: Callable[[], object] | None = None,
     ) -> Ran:
         """Runs it to its end. Nothing of it stays."""
@@ -95,9 +95,9 @@ class LiveRuns(ProgramCase):
         self.hold_nothing_left(temporary)
         return ran
 
-    def hold_nothing_left(self, temporary: str | None = None) -> None:
+    def hold_nothing_left(self, temporary: Path | None = None) -> None:
         """Fails where a process or a folder of a run is left."""
-        self.assertEqual([], glob.glob(os.path.join(temporary or self.room, "wire_up-run-*")))
+        self.assertEqual([], [*(temporary or self.room).glob("wire_up-run-*")])
         self.assertEqual([], [read_words(process) for process in self.find_processes()])
 
     def hold_refused(self, ran: Ran, said: str) -> None:
@@ -109,10 +109,10 @@ class LiveRuns(ProgramCase):
     def find_processes(self, name: str = "") -> list[int]:
         """The processes that the test has started, or those whose program has this name."""
         mark, found = f"{MARK}={self.room}".encode(), []
-        for path in glob.glob("/proc/[0-9]*"):
-            with contextlib.suppress(OSError), open(f"{path}/environ", "rb") as file:
-                process = int(path.rpartition("/")[2])
-                program = os.path.basename(read_words(process)[0])
+        for path in Path("/proc").glob("[0-9]*"):
+            with contextlib.suppress(OSError), open(path / "environ", "rb") as file:
+                process = int(path.name)
+                program = Path(read_words(process)[0]).name
                 if mark in file.read().split(b"\0") and name in ("", program):
                     found.append(process)
         return sorted(found)

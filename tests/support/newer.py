@@ -6,6 +6,7 @@ import subprocess
 import tempfile
 import unittest
 from collections.abc import Sequence
+from pathlib import Path
 
 from build.newer_root import LOG, enter, find_root
 from tests import support
@@ -26,8 +27,7 @@ def tell_gate() -> str:
     """What the gate said last where it makes the folder beside the proofs; empty where it
     doesn't."""
     try:
-        with open(LOG, encoding="utf-8", errors="replace") as file:
-            lines = file.read().split("\n")
+        lines = LOG.read_text(encoding="utf-8", errors="replace").split("\n")
     except FileNotFoundError:
         return ""
     last = next(filter(None, reversed(lines)), "nothing yet")
@@ -36,7 +36,7 @@ def tell_gate() -> str:
 
 def what_lacks(root: str, program: str) -> str:
     """Why a program can't be run in the folder; empty where it can."""
-    if not os.path.isdir(root):
+    if not Path(root).is_dir():
         return f"there is no {root}, which `make newer-root` makes{tell_gate()}"
     if os.geteuid() != 0:
         return f"only root can enter {root}"
@@ -57,31 +57,30 @@ class NewerCase(unittest.TestCase):
             self.skipTest(f"nothing is tested with newer libraries: {lacking}")
         return root
 
-    def make_scratch(self, root: str) -> str:
+    def make_scratch(self, root: str) -> Path:
         """A folder for temporary files, as it is named inside. Processes there have the same
         numbers each time, and Open MPI names its folders by them: where a launcher was killed, the
         next one of its number would end at once."""
-        made = tempfile.mkdtemp(prefix="t", dir=os.path.join(root, "tmp"))
+        made = tempfile.mkdtemp(prefix="t", dir=Path(root, "tmp"))
         # Munge runs as another user.
         os.chmod(made, 0o1777)
         self.addCleanup(shutil.rmtree, made, ignore_errors=True)
-        return os.path.join("/tmp", os.path.basename(made))
+        return Path("/tmp", Path(made).name)
 
     def run_inside(self, program: str, words: Sequence[str]) -> Ran:
         """Runs a command in a copy of the repository, if there is a program that it needs."""
         root = self.take_root(program)
-        here = tempfile.mkdtemp(prefix="wire-up-", dir=os.path.join(root, "root"))
+        here = Path(tempfile.mkdtemp(prefix="wire-up-", dir=Path(root, "root")))
         self.addCleanup(shutil.rmtree, here, ignore_errors=True)
         for name in FOLDERS:
-            text = os.path.join(support.TOP, name)
-            shutil.copytree(text, os.path.join(here, name), ignore=BUILT)
+            shutil.copytree(support.TOP / name, here / name, ignore=BUILT)
         for name in FILES:
-            shutil.copy(os.path.join(support.TOP, name), here)
+            shutil.copy(support.TOP / name, here)
         try:
-            shutil.copy(support.program(), os.path.join(here, "wire_up"))
+            shutil.copy(support.program(), here / "wire_up")
         except unittest.SkipTest as why:
             print(f"newer libraries: {why}")
-        inside = os.path.join("/root", os.path.basename(here))
+        inside = f"/root/{here.name}"
         scratch = f"TMPDIR={self.make_scratch(root)}"
         return subprocess.run(
             enter(root, ["sh", "-c", 'cd "$0" && exec "$@"', inside, "env", scratch, *words]),

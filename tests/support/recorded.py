@@ -4,6 +4,7 @@ from dataclasses import dataclass
 
 from wire_up_tools import words
 from wire_up_tools.report.singular import say_counted
+from tests.support import Word
 from tests.support.tapes import ask_program, read_file
 
 RACE = re.compile(r"race app:\d+ \d+ app:\d+ \d+ name \w+\n")
@@ -249,7 +250,7 @@ def drop_each_run(said: str) -> str:
     return said.replace(EACH_RUN, "")
 
 
-def why_other_findings(program: str, plan: str, count: int) -> str | None:
+def why_other_findings(program: str, plan: Word, count: int) -> str | None:
     """What is wrong with the findings of a plan, which must be so many races on names."""
     is_large = any(line.startswith("# Larger than") for line in read_file(plan).splitlines())
     ran = ask_program(program, "check", *["--large"] * is_large, plan)
@@ -268,7 +269,7 @@ def is_alike(real: str, replayed: str) -> bool:
     return not must_be_equal and reply.startswith("PMIX_ERR")
 
 
-def why_other_replay(program: str, plan: str, answers: str) -> str | None:
+def why_other_replay(program: str, plan: Word, answers: Word) -> str | None:
     """Where the replay of a plan and the real ends of its calls differ, if they do."""
     ran, real = ask_program(program, "replay", plan), read_file(answers).splitlines()
     replayed = ran.stdout.splitlines()
@@ -281,7 +282,7 @@ def why_other_replay(program: str, plan: str, answers: str) -> str | None:
 
 
 def why_wrong(
-    program: str, plan: str, answers: str, count: int, is_replayed: bool = True
+    program: str, plan: Word, answers: Word, count: int, is_replayed: bool = True
 ) -> str | None:
     """What is wrong with a plan that must have so many findings. One without must be replayed as
     it was, if it `is_replayed`."""

@@ -5,12 +5,13 @@ import shutil
 import subprocess
 import unittest
 from collections.abc import Sequence
+from pathlib import Path
 from typing import NamedTuple
 
 from tests import support
 
 
-SOURCE = os.path.join(support.TOP, "tests", "support", "refuse.c")
+SOURCE = support.TOP / "tests" / "support" / "refuse.c"
 SECONDS = 30
 NO_END = -1
 
@@ -24,12 +25,12 @@ class Outcome(NamedTuple):
     said: bytes = b""
 
 
-def library(room: str) -> str:
+def library(room: Path) -> Path:
     """The path of the library. A test that calls this is skipped where there is no C compiler."""
     compilers = [word for word in ("cc", "gcc", "clang") if shutil.which(word)]
     if not compilers:
         raise unittest.SkipTest("this machine has no C compiler (cc)")
-    made = os.path.join(room, "refuse.so")
+    made = room / "refuse.so"
     subprocess.run(
         [compilers[0], "-O1", "-shared", "-fPIC", "-o", made, SOURCE, "-ldl"], check=True
     )
@@ -37,12 +38,12 @@ def library(room: str) -> str:
 
 
 def run_with(
-    library_path: str, words: Sequence[str], given: bytes | None = None, **told: int
+    library_path: Path, words: Sequence[str], given: bytes | None = None, **told: int
 ) -> tuple[Outcome, bytes]:
     """How a run ended, with the library before the C library, and what the library told."""
     ours, its = os.pipe()
     settings = {f"WIRE_UP_{name.upper()}": str(value) for name, value in told.items()}
-    preload = {"LD_PRELOAD": library_path, "WIRE_UP_TOLD": str(its)}
+    preload = {"LD_PRELOAD": str(library_path), "WIRE_UP_TOLD": str(its)}
     try:
         ran = subprocess.run(
             words,

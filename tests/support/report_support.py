@@ -1,8 +1,6 @@
 """What the tests of `wire_up-report` share: how it is run, and plans of every kind."""
 import atexit
 import functools
-import glob
-import os
 import shutil
 import subprocess
 import sys
@@ -10,26 +8,26 @@ import tempfile
 import unittest
 from collections.abc import Callable
 from dataclasses import dataclass
+from pathlib import Path
 from typing import TypeVar
 
 from tests import support
+from tests.support import Word
 
-
-COMMAND = os.path.join(support.TOP, "wire_up-report")
-RECORDER = os.path.join(support.TOP, "wire_up-record")
-EXAMPLES = os.path.join(support.TOP, "examples")
-RECORDINGS = os.path.join(support.TOP, "record", "recordings")
-EARLY = os.path.join(EXAMPLES, "early-get.plan")
+COMMAND = str(support.TOP / "wire_up-report")
+RECORDER = str(support.TOP / "wire_up-record")
+EXAMPLES = support.TOP / "examples"
+RECORDINGS = support.TOP / "record" / "recordings"
+EARLY = str(EXAMPLES / "early-get.plan")
 SECONDS = 300
 
 Case = TypeVar("Case", bound=unittest.TestCase)
 
 
-def run_report(*words: str, checker: str | None = None) -> "subprocess.CompletedProcess[str]":
+def run_report(*words: Word, checker: Word | None = None) -> "subprocess.CompletedProcess[str]":
     """Runs the command with a checker: the built program, if none is named."""
-    command = [sys.executable, COMMAND, "--checker", checker or support.program(), *words]
     return subprocess.run(
-        command,
+        [sys.executable, COMMAND, "--checker", checker or support.program(), *words],
         stdin=subprocess.DEVNULL,
         capture_output=True,
         text=True,
@@ -49,31 +47,30 @@ esac
 
 
 @functools.cache
-def make_older() -> str:
+def make_older() -> Path:
     """The path of a checker that judges only the placement written, and is else the built one."""
     text = OLDER.format(program=support.program())
-    path = write(os.path.join(make_room(), "older"), text.encode())
-    os.chmod(path, 0o755)
+    path = write(make_room() / "older", text.encode())
+    path.chmod(0o755)
     return path
 
 
-def run_checker(*words: str) -> "subprocess.CompletedProcess[str]":
+def run_checker(*words: Word) -> "subprocess.CompletedProcess[str]":
     """Runs the built program."""
-    command = [support.program(), *words]
-    return subprocess.run(command, capture_output=True, text=True, timeout=SECONDS, check=False)
+    return subprocess.run(
+        [support.program(), *words], capture_output=True, text=True, timeout=SECONDS, check=False
+    )
 
 
-def write(path: str, data: bytes) -> str:
+def write(path: Path, data: bytes) -> Path:
     """Writes a file. Answers its path."""
-    with open(path, "wb") as to:
-        to.write(data)
+    path.write_bytes(data)
     return path
 
 
-def read(path: str) -> str:
+def read(path: Word) -> str:
     """The text of a file."""
-    with open(path, encoding="utf-8") as file:
-        return file.read()
+    return Path(path).read_text(encoding="utf-8")
 
 
 # --- plans ---
@@ -212,35 +209,37 @@ WRITTEN: dict[str, Callable[[], bytes]] = {
     "large-fence": lambda: write_cards(2048, 64, 46, "fence all collect").encode(),
 }
 RECORDED = {
-    f"recorded-{os.path.basename(os.path.dirname(path))}": path
-    for path in sorted(glob.glob(os.path.join(RECORDINGS, "*", "")))
+    f"recorded-{path.name}": path
+    for path in sorted(RECORDINGS.iterdir())
+    if path.is_dir()
 }
 SHIPPED = {
-    os.path.basename(path).removesuffix(".plan"): path
-    for path in sorted(glob.glob(os.path.join(EXAMPLES, "*.plan")))
+    path.name.removesuffix(".plan"): path
+    for path in sorted(EXAMPLES.glob("*.plan"))
 }
 NAMES_OF_PLANS = (*SHIPPED, *RECORDED, *WRITTEN)
 
 
 @functools.cache
-def make_room() -> str:
+def make_room() -> Path:
     """The folder of the plans and pages that are made: it goes when the tests end."""
     room = tempfile.mkdtemp(prefix="wire-up-report-")
     atexit.register(shutil.rmtree, room, ignore_errors=True)
-    return room
+    return Path(room)
 
 
 @functools.cache
-def find_plan(name: str) -> str:
+def find_plan(name: str) -> Path:
     """The path of a plan, which is made if need be."""
     if name in SHIPPED:
         return SHIPPED[name]
-    path = os.path.join(make_room(), f"{name}.plan")
+    path = make_room() / f"{name}.plan"
     if name in WRITTEN:
         return write(path, WRITTEN[name]())
-    command = [sys.executable, RECORDER, "--checker", support.program(), "-o", path]
-    command += ["--from", RECORDED[name]]
-    subprocess.run(command, capture_output=True, timeout=SECONDS, check=True)
+    words: list[Word] = ["--checker", support.program(), "-o", path, "--from", RECORDED[name]]
+    subprocess.run(
+        [sys.executable, RECORDER, *words], capture_output=True, timeout=SECONDS, check=True
+    )
     return path
 
 
@@ -254,17 +253,17 @@ class Made:
     """How the command ended that made a page, and the paths of the page and of its SARIF."""
 
     ran: "subprocess.CompletedProcess[str]"
-    page: str
-    sarif: str
+    page: Path
+    sarif: Path
 
 
 @functools.cache
 def make_page(name: str) -> Made:
     """The page of a plan, which is made once, and its SARIF."""
     path = find_plan(name)
-    page, sarif = (os.path.join(make_room(), f"{name}.{word}") for word in ("html", "sarif"))
-    words = [*list_options(name), "-o", page, "--sarif", sarif, "--source", support.TOP]
-    return Made(run_report(*words, path), page, sarif)
+    page, sarif = (make_room() / f"{name}.{word}" for word in ("html", "sarif"))
+    words = ("-o", page, "--sarif", sarif, "--source", support.TOP)
+    return Made(run_report(*list_options(name), *words, path), page, sarif)
 
 
 def for_each_plan(case: type[Case]) -> type[Case]:

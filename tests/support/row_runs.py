@@ -1,9 +1,9 @@
 """The runs of the rows of the tables: words, the plan, and how the run must end."""
 import importlib
-import os
 import re
 from collections.abc import Iterator, Sequence
 from dataclasses import dataclass
+from pathlib import Path
 from typing import NamedTuple
 
 from tests.rows import (
@@ -89,7 +89,7 @@ class RowRuns:
     """The runs of each row. What a row doesn't hold, such as a canonical text, the program itself
     writes."""
 
-    def __init__(self, room: str) -> None:
+    def __init__(self, room: Path) -> None:
         self.room = room
 
     def run(self, words: list[str], plan: bytes) -> Ended:
@@ -99,10 +99,9 @@ class RowRuns:
     def written(self, row: Row, ending: str, text: bytes) -> str:
         """The path of a file of a row, whose name no other row of its table has."""
         name = re.sub(r"[^a-z0-9]+", "-", row.name.lower())
-        path = os.path.join(self.room, f"{name}.{ending}")
-        with open(path, "wb") as file:
-            file.write(text)
-        return path
+        path = self.room / f"{name}.{ending}"
+        path.write_bytes(text)
+        return str(path)
 
     def of_version_2(self, plan: bytes) -> bytes:
         """The text of a plan under version 2."""

@@ -6,6 +6,7 @@ import subprocess
 import tempfile
 import unittest
 from collections.abc import Callable, Iterable, Iterator, Sequence
+from pathlib import Path
 from typing import IO, NamedTuple
 
 from tests import support
@@ -113,8 +114,7 @@ class Run(NamedTuple):
 
 def text_of(path: str) -> bytes:
     """The bytes of a file of the repository."""
-    with open(os.path.join(support.TOP, path), "rb") as file:
-        return file.read()
+    return (support.TOP / path).read_bytes()
 
 
 def closed(stream: int) -> Callable[[], None]:
@@ -138,25 +138,24 @@ def with_little_memory() -> None:
 def examples(ending: str) -> list[str]:
     """The names of the examples that have a file of this ending, without it; what is expected of
     them stands in tests/examples."""
-    folders = [os.path.join(support.TOP, *row) for row in (["examples"], ["tests", "examples"])]
-    files = [name for folder in folders for name in os.listdir(folder)]
+    folders = (support.TOP / "examples", support.TOP / "tests" / "examples")
+    files = [path.name for folder in folders for path in folder.iterdir()]
     return sorted(file.removesuffix(ending) for file in files if file.endswith(ending))
 
 
-def written(room: str, name: str, text: bytes) -> str:
-    """The path of a file of this text."""
-    path = os.path.join(room, name)
-    with open(path, "wb") as file:
-        file.write(text)
-    return path
+def written(room: Path, name: str, text: bytes) -> str:
+    """The path of a file of this text, as a word of a command line."""
+    path = room / name
+    path.write_bytes(text)
+    return str(path)
 
 
-def odd_plan(room: str) -> str:
+def odd_plan(room: Path) -> str:
     """The path of a plan whose last line is no call."""
     return written(room, "odd.plan", text_of(EXAMPLE) + b"getaway app:0 k\n")
 
 
-def fences_plan(room: str) -> str:
+def fences_plan(room: Path) -> str:
     """The path of a plan in which 256 ranks call 64 fences."""
     rank = b"rank n0\n" + b"fence all\n" * 64
     return written(room, "fences.plan", b"rehearsal 1\nnode n0\njob app\n" + rank * 256)
@@ -193,14 +192,14 @@ class ProgramCase(unittest.TestCase):
     """Tests of the built program, which have a folder that they may write to."""
 
     program: str
-    room: str
+    room: Path
 
     @classmethod
     def setUpClass(cls) -> None:
         cls.program = support.program()
         folder = tempfile.TemporaryDirectory(prefix="wire-up-")
         cls.addClassCleanup(folder.cleanup)
-        cls.room = folder.name
+        cls.room = Path(folder.name)
 
     def hold(self, run: Run) -> None:
         """Fails where a run doesn't end, write and say what it must."""

@@ -1,18 +1,18 @@
 """Recordings that tests write themselves, and what becomes of them."""
-import os
 import re
 import subprocess
 import sys
 from collections.abc import Sequence
+from pathlib import Path
 
 from wire_up_tools.record.planning import Choices, Plan, make_plan
 from wire_up_tools.record.recordings import read_recording
 from wire_up_tools.record.writing import write_plan
-from tests.support import TOP
+from tests.support import TOP, Word
 
-COMMAND = os.path.join(TOP, "wire_up-record")
-SHIPPED = os.path.join(TOP, "record", "recordings")
-PROGRAMS = os.path.join(TOP, "record", "programs")
+COMMAND = str(TOP / "wire_up-record")
+SHIPPED = TOP / "record" / "recordings"
+PROGRAMS = TOP / "record" / "programs"
 # How long a program may take, in seconds.
 PATIENCE = 60
 
@@ -106,20 +106,18 @@ def read_scripts(plan: str) -> list[list[str]]:
     return found
 
 
-def read_file(path: str) -> str:
+def read_file(path: Word) -> str:
     """The text of a file."""
-    with open(path, encoding="utf-8") as file:
-        return file.read()
+    return Path(path).read_text(encoding="utf-8")
 
 
-def write_file(path: str, data: bytes) -> str:
-    """Writes a file, and answers its path."""
-    with open(path, "wb") as to:
-        to.write(data)
-    return path
+def write_file(path: Word, data: bytes) -> str:
+    """Writes a file, and answers its path, as a word of a command line."""
+    Path(path).write_bytes(data)
+    return str(path)
 
 
-def ask_program(program: str, *words: str) -> "subprocess.CompletedProcess[str]":
+def ask_program(program: Word, *words: Word) -> "subprocess.CompletedProcess[str]":
     """Runs a program."""
     return subprocess.run(
         [program, *words], capture_output=True, text=True, timeout=PATIENCE, check=False
@@ -127,7 +125,7 @@ def ask_program(program: str, *words: str) -> "subprocess.CompletedProcess[str]"
 
 
 def run_recorder(
-    *words: str,
+    *words: Word,
     environment: dict[str, str] | None = None,
     says_libraries: bool = False,
     patience: float = 4 * PATIENCE,

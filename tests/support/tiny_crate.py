@@ -1,6 +1,6 @@
 """A small crate with wrong bodies of each sort, and what must become of each."""
-import os
 from collections.abc import Sequence
+from pathlib import Path
 from typing import NamedTuple
 
 from build.edits.verdicts import ONLY_A_NAME
@@ -173,12 +173,11 @@ UNREAD = {
 }
 
 
-def write(top: str, path: str, text: str) -> None:
+def write(top: Path, name: str, text: str) -> None:
     """Writes a file, in a folder that is made where it isn't there."""
-    path = os.path.join(top, path)
-    os.makedirs(os.path.dirname(path), exist_ok=True)
-    with open(path, "w", encoding="utf-8") as file:
-        file.write(text)
+    path = top / name
+    path.parent.mkdir(parents=True, exist_ok=True)
+    path.write_text(text, encoding="utf-8")
 
 
 def text_of(lines: Sequence[str]) -> str:
@@ -188,7 +187,7 @@ def text_of(lines: Sequence[str]) -> str:
     return "".join(["file: src/lib.rt\n", *pairs])
 
 
-def make(top: str, edits: dict[str, Wanted]) -> None:
+def make(top: Path, edits: dict[str, Wanted]) -> None:
     """Makes a repository of one crate with the edits."""
     write(top, "crates.txt", "tiny:\n")
     write(top, "crates/tiny/src/lib.rt", CODE)

@@ -10,6 +10,7 @@ import subprocess
 import sys
 import tempfile
 from collections.abc import Sequence
+from pathlib import Path
 
 from tests.support.slurm_nodes import APART, INSIDE, run_command, write_text
 
@@ -30,9 +31,9 @@ exec nsenter --net=/run/netns/{THERE} unshare --uts \\
 """
 
 
-def make_nodes(folder: str) -> None:
+def make_nodes(folder: Path) -> None:
     """Makes both, in what is apart already. Raises OSError, subprocess.CalledProcessError."""
-    names = os.path.join(folder, "names")
+    names = str(folder / "names")
     others = (f"{address} {name}\n" for name, address in ADDRESSES.items())
     write_text(names, "".join(["127.0.0.1 localhost\n", *others]))
     other = ["ip", "-n", THERE]
@@ -53,8 +54,8 @@ def make_nodes(folder: str) -> None:
 def run(words: Sequence[str]) -> int:
     """Runs a command on the first node, and answers its status."""
     with tempfile.TemporaryDirectory(prefix="nodes-") as folder:
-        make_nodes(folder)
-        path = os.environ[SHELL] = os.path.join(folder, "shell")
+        make_nodes(Path(folder))
+        path = os.environ[SHELL] = f"{folder}/shell"
         write_text(path, REMOTE)
         os.chmod(path, 0o700)
         return run_command(words)

@@ -2,6 +2,7 @@
 import os
 import tempfile
 import unittest
+from pathlib import Path
 from unittest import mock
 
 from wire_up_tools.checker import Checker, find_checker
@@ -22,10 +23,10 @@ class CheckerTest(unittest.TestCase):
     def setUp(self) -> None:
         room = tempfile.TemporaryDirectory(prefix="wire-up-")
         self.addCleanup(room.cleanup)
-        self.room, self.path = room.name, os.path.join(room.name, "wire_up")
-        with open(self.path, "w", encoding="ascii") as to:
-            to.write(SCRIPT)
-        os.chmod(self.path, 0o755)
+        path = Path(room.name, "wire_up")
+        path.write_text(SCRIPT, encoding="ascii")
+        path.chmod(0o755)
+        self.room, self.path = room.name, str(path)
 
     def test_ask(self) -> None:
         answer = Checker(self.path).ask("check", "--json", plan=b"plan\xff")
@@ -52,9 +53,9 @@ class CheckerTest(unittest.TestCase):
     def test_find(self) -> None:
         with mock.patch.dict(os.environ, {"PATH": ""}):
             self.assertEqual(find_checker(self.room), self.path)
-            self.assertIsNone(find_checker(os.path.join(self.room, "bin")))
+            self.assertIsNone(find_checker(Path(self.room, "bin")))
         with mock.patch.dict(os.environ, {"PATH": self.room}):
-            self.assertEqual(find_checker(os.path.join(self.room, "bin")), self.path)
+            self.assertEqual(find_checker(Path(self.room, "bin")), self.path)
 
 
 if __name__ == "__main__":

@@ -1,5 +1,4 @@
 """Tests of the commands of the package, as pyproject.toml names them."""
-import os
 import subprocess
 import sys
 import tomllib
@@ -16,12 +15,12 @@ class EntryTest(unittest.TestCase):
 
     def test_help(self) -> None:
         """It tells its usage, as the script of its name does."""
-        with open(os.path.join(TOP, "pyproject.toml"), "rb") as file:
+        with open(TOP / "pyproject.toml", "rb") as file:
             commands = tomllib.load(file)["project"]["scripts"]
         self.assertEqual({"wire_up-record", "wire_up-report", "wire_up-run"}, set(commands))
         for name, place in commands.items():
             module, _, called = place.partition(":")
-            path = os.path.join(TOP, name)
+            path = str(TOP / name)
             text = START.format(name=path, module=module, called=called)
             with self.subTest(name):
                 self.assertEqual(self.tell([path]), self.tell(["-c", text]))
@@ -30,7 +29,7 @@ class EntryTest(unittest.TestCase):
         """What a command tells of itself."""
         ran = subprocess.run(
             [sys.executable, *words, "--help"],
-            cwd=os.path.join(TOP, "python"),
+            cwd=TOP / "python",
             capture_output=True,
             text=True,
             check=False,

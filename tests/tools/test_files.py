@@ -5,6 +5,7 @@ import os
 import stat
 import tempfile
 import unittest
+from pathlib import Path
 from unittest import mock
 
 from wire_up_tools.failures import explain
@@ -18,12 +19,11 @@ class WriteWholeTest(unittest.TestCase):
         room = tempfile.TemporaryDirectory(prefix="wire-up-")
         self.addCleanup(room.cleanup)
         self.room = room.name
-        self.path = os.path.join(self.room, "file")
+        self.path = f"{self.room}/file"
 
     def read(self, path: str) -> str:
         """The text of a file."""
-        with open(path, encoding="utf-8") as file:
-            return file.read()
+        return Path(path).read_text(encoding="utf-8")
 
     def test_a_new_file(self) -> None:
         write_whole(self.path, "a\nä\n")
@@ -47,7 +47,7 @@ class WriteWholeTest(unittest.TestCase):
 
     def test_what_is_refused_names_the_file(self) -> None:
         """The file is the one that was asked for; others are written all the same."""
-        nowhere = os.path.join(self.room, "nowhere", "file")
+        nowhere = f"{self.room}/nowhere/file"
         for write in (write_file, write_whole):
             with self.assertRaises(OSError) as refused:
                 write(nowhere, "new")
@@ -60,26 +60,26 @@ class WriteWholeTest(unittest.TestCase):
 
     def test_a_link(self) -> None:
         """The link is replaced, and not what it leads to."""
-        target = os.path.join(self.room, "target")
+        target = f"{self.room}/target"
         write_whole(target, "old")
         os.symlink(target, self.path)
         write_whole(self.path, "new")
         self.assertEqual((self.read(target), self.read(self.path)), ("old", "new"))
-        self.assertFalse(os.path.islink(self.path))
+        self.assertFalse(Path(self.path).is_symlink())
 
     def test_a_file_that_is_open(self) -> None:
         """It is written to as it is: /dev/stdout stays what it is for all programs."""
         for folder in ("/dev/fd", "/proc/self/fd"):
             with self.subTest(folder), open(self.path, "w+b", buffering=0) as file:
                 file.write(b"before ")
-                link = os.path.join(self.room, "link")
-                os.symlink(os.path.join(folder, str(file.fileno())), link)
-                try_to_write(link)
-                write_whole(link, "text")
+                link = Path(self.room, "link")
+                link.symlink_to(f"{folder}/{file.fileno()}")
+                try_to_write(str(link))
+                write_whole(str(link), "text")
                 file.seek(0)
                 self.assertEqual(file.read(), b"before text")
-                self.assertTrue(os.path.islink(link))
-                os.remove(link)
+                self.assertTrue(link.is_symlink())
+                link.unlink()
 
     def test_no_name(self) -> None:
         with self.assertRaises(OSError) as refused:

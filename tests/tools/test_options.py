@@ -1,5 +1,4 @@
 """Tests how options are read, and what is said of those that are wrong."""
-import os
 import unittest
 
 from wire_up_tools import VERSION
@@ -50,9 +49,8 @@ class OptionsTest(unittest.TestCase):
 
     def test_the_version(self) -> None:
         """It is that of the program."""
-        path = os.path.join(support.TOP, "crates", "wire_command_line", "src", "commands.rt")
-        with open(path, encoding="utf-8") as file:
-            self.assertIn(f'const VERSION: &str = "{VERSION}";', file.read())
+        path = support.TOP / "crates" / "wire_command_line" / "src" / "commands.rt"
+        self.assertIn(f'const VERSION: &str = "{VERSION}";', path.read_text(encoding="utf-8"))
 
     def test_the_end_of_options(self) -> None:
         self.assertEqual(Parser(OPTIONS).read(["--", "--loud", "--"]).rest, ["--loud", "--"])

@@ -1,6 +1,4 @@
 """Tests how the reporter reads a plan."""
-import glob
-import os
 import unittest
 
 from wire_up_tools.plan_reading import Lines, read_calls, read_plan, read_set
@@ -140,9 +138,8 @@ class ExamplesTest(unittest.TestCase):
     """What is read of the examples."""
 
     def test_each_call_stands_in_its_line(self) -> None:
-        for path in glob.glob(os.path.join(support.TOP, "examples", "*.plan")):
-            with open(path, "rb") as file:
-                plan = read_plan(file.read())
+        for path in (support.TOP / "examples").glob("*.plan"):
+            plan = read_plan(path.read_bytes())
             for call in plan.calls:
                 self.assertEqual(plan.lines[call.line - 1].split(), call.words, path)
 

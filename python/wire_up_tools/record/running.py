@@ -49,7 +49,7 @@ class Stopped(Exception):
         self.number = number
 
 
-def find_library(folder: str, name: str) -> str | None:
+def find_library(folder: str | Path, name: str) -> str | None:
     """The path of a built library, by the folder of the command; None where it isn't built."""
     for beside in LIBRARIES:
         path = Path(folder, beside, name).resolve()
@@ -58,7 +58,7 @@ def find_library(folder: str, name: str) -> str | None:
     return None
 
 
-def find_libraries(folder: str, with_mpi: bool) -> list[str]:
+def find_libraries(folder: str | Path, with_mpi: bool) -> list[str]:
     """The libraries that are preloaded. Raises Refused if there is no recorder, or if one can't be
     preloaded."""
     recorder = find_library(folder, OF_PMIX)

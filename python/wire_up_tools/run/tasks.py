@@ -118,7 +118,7 @@ def choose_checker(choices: Choices, folder: str) -> Checker:
     return Checker(path)
 
 
-def find_rank(folder: str) -> str:
+def find_rank(folder: str | Path) -> str:
     """The program that makes the calls. Raises Refused if it isn't built."""
     for beside in PLACES:
         path = Path(folder, beside, RANK).resolve()
