@@ -67,7 +67,7 @@ class Measured:
 class Figures:
     """What is measured, in a folder for plans."""
 
-    def __init__(self, program: str, room: Path, is_small: bool) -> None:
+    def __init__(self, program: str, room: Path, *, is_small: bool) -> None:
         self.program, self.room, self.is_small = program, room, is_small
         self.unproved, why = build_plain()
         if why:
@@ -294,7 +294,7 @@ def main() -> int:
     if not args.small and not BETWEEN.exists():
         sys.exit(f"{BETWEEN} isn't there: Debian's package time")
     with tempfile.TemporaryDirectory(prefix="wire-up-") as room:
-        text = page(Figures(program, Path(room), args.small))
+        text = page(Figures(program, Path(room), is_small=args.small))
     with open(f"{args.output}.new", "w", encoding="utf-8") as file:
         file.write(text)
     os.replace(f"{args.output}.new", args.output)

@@ -90,7 +90,7 @@ def tell(outcome: Outcome) -> Iterable[str]:
 class Tried:
     """What came of programs, kept in a file as it comes."""
 
-    def __init__(self, room: Path, does_turn: bool = False) -> None:
+    def __init__(self, room: Path, *, does_turn: bool = False) -> None:
         self.does_turn = does_turn
         self.path = room / ("turned" if does_turn else "outcomes")
         self.log = room / "build.log"
@@ -179,7 +179,7 @@ def main() -> int:
         print(f"there is no suite: {why}", file=sys.stderr)
         return 2
     bench = Bench(built, os.path.abspath(words.program), words.seconds)
-    tried = Tried(words.room, words.turn)
+    tried = Tried(words.room, does_turn=words.turn)
     try_all(bench, programs, tried, words.jobs)
     outcomes = [tried.found[program.title] for program in programs if program.title in tried.found]
     print(f"\n{len(outcomes)} programs of {len(programs)}; what went another way:")

@@ -318,6 +318,23 @@ class RefusedRaceTest(unittest.TestCase):
         self.assertTrue(self.try_race(f"{head}nonsense\nrank\n", "app:0 2 app:1 1")[2])
 
 
+def ask_race(race: tuple[str, int, str, int] | None) -> Asked:
+    """Asks for two calls of the plan of this run, and for nothing else."""
+    return Asked(
+        does_show=False,
+        race=race,
+        does_turn=False,
+        turn_waits=0,
+        of=None,
+        most=8,
+        hold=None,
+        limit=None,
+        within=300.0,
+        source=None,
+        shown=None,
+    )
+
+
 class EarlierRaceTest(unittest.TestCase):
     """Calls that are named by the numbers of an earlier plan."""
 
@@ -331,7 +348,7 @@ class EarlierRaceTest(unittest.TestCase):
             path = Path(room, "plan")
             path.write_text(f"{head}{HEAD}rank n0\npublish a v\n{second}", encoding="ascii")
             earlier = find_earlier(race, str(path))
-        asked = Asked(False, race, False, 0, None, 8, None, None, 300.0, None, None)
+        asked = ask_race(race)
         return follow_race(asked, earlier, f"{head}{HEAD}{first}{second}", said.append).race, said
 
     def test_the_same_numbers(self) -> None:
@@ -347,7 +364,7 @@ class EarlierRaceTest(unittest.TestCase):
             self.follow("", "b")
 
     def test_no_earlier_plan(self) -> None:
-        asked = Asked(False, ("a:0", 1, "a:1", 1), False, 0, None, 8, None, None, 300.0, None, None)
+        asked = ask_race(("a:0", 1, "a:1", 1))
         self.assertEqual((), find_earlier(asked.race, os.devnull))
         self.assertEqual(asked, follow_race(asked, (), "", self.fail))
 

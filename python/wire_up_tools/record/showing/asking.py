@@ -77,7 +77,7 @@ OPTIONS = (
 OF_SHOWING = ("of", "most", "hold", "limit", "within", "input", "shown", "turn_waits")
 
 
-@dataclass(frozen=True)
+@dataclass(frozen=True, kw_only=True)
 class Asked:
     """What is to be shown: the first race of each cause, or two calls; whether orders are turned
     round, and how many of calls that wait; of the plan of this run or of one that is there; and
