@@ -32,7 +32,7 @@ RECORDED = ("early", "told", "ring", "names", "collectives")
 FAIL = {Kind.SLURM: ("early", "told", "names")}
 # How often a program is tried: `mpirun` may mix two lines, `early` can be too early, and a process
 # can hear of another while its fence in MPI_Init is open. And how many are run at a time.
-TRIES, AT_A_TIME = 5, 2
+TRIES, AT_A_TIME = 3, 2
 INSIDE = "--inside"
 AGAIN, WRONG = "  <-- tried again", "  <-- WRONG"
 RECORDER = "wire_up-record: "
